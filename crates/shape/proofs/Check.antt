@@ -1,0 +1,111 @@
+-- The laws of the refusals: a test that holds decides, and one that fails moves on. Assumes nothing.
+use Prim.Native.Nat.{ℕ, zero, suc, _+_, _-_, _/_, _%_, _≤_, _<_}
+use mathlib.Core.Path.{_≡_, refl, sym, _∙_}
+use mathlib.Core.List.{List, [], _∷_}
+use native.Mathlib.Omega.{arith}
+use borrow.Author.Tests.{lt-ltb, le-ltb}
+use lib.ListN.{length, drop}
+use Rattle.shape.specs.declared.Piece.{Piece}
+use Rattle.shape.specs.declared.Scalar.{Scalar}
+use Rattle.shape.specs.declared.Shape.{Shape}
+use Rattle.shape.specs.Numbers.{quad, accepted, bad-list, bad-kind, bad-size, bad-align, most-size, most-offset, most-align, most-pieces}
+use Rattle.shape.specs.Words.{piecesOf, pieceAt}
+use Rattle.shape.specs.Check.{orElse, scalarRefusal, pieceRefusal, piecesRefusal, listRefusal, shapeRefusal}
+use Rattle.shape.proofs.Words.{pieces-step, pieces-end, length-pieces}
+
+-- the first of two answers decides where it is a refusal
+pub else-first : (n rest : ℕ) → (n ≡ accepted → ⊥) → n ≡ orElse n rest
+else-first zero rest h = absurd (h refl)
+else-first (suc n) rest h = refl
+
+-- one scalar: each test's law takes what the tests before it left
+module _ (s : Scalar) where
+  pub scalar-kind : quad < s .kind → bad-kind ≡ scalarRefusal s
+  unfolding scalarRefusal
+  scalar-kind k = rw (lt-ltb _ _ k)
+
+  pub scalar-size : s .kind ≤ quad → most-size < s .size → bad-size ≡ scalarRefusal s
+  unfolding scalarRefusal
+  scalar-size k z = rw (le-ltb _ _ k, lt-ltb _ _ z)
+
+  pub scalar-align : s .kind ≤ quad → s .size ≤ most-size → most-align < s .align → bad-align ≡ scalarRefusal s
+  unfolding scalarRefusal
+  scalar-align k z a = rw (le-ltb _ _ k, le-ltb _ _ z, lt-ltb _ _ a)
+
+  pub scalar-accepted : s .kind ≤ quad → s .size ≤ most-size → s .align ≤ most-align → accepted ≡ scalarRefusal s
+  unfolding scalarRefusal
+  scalar-accepted k z a = rw (le-ltb _ _ k, le-ltb _ _ z, le-ltb _ _ a)
+
+pub ruleset scalar-laws = (scalar-kind, scalar-size, scalar-align, scalar-accepted)
+
+-- one piece, likewise
+module _ (p : Piece) where
+  pub piece-kind : quad < p .kind → bad-kind ≡ pieceRefusal p
+  unfolding pieceRefusal
+  piece-kind k = rw (lt-ltb _ _ k)
+
+  pub piece-size : p .kind ≤ quad → most-size < p .size → bad-size ≡ pieceRefusal p
+  unfolding pieceRefusal
+  piece-size k z = rw (le-ltb _ _ k, lt-ltb _ _ z)
+
+  pub piece-offset : p .kind ≤ quad → p .size ≤ most-size → most-offset < p .offset → bad-size ≡ pieceRefusal p
+  unfolding pieceRefusal
+  piece-offset k z o = rw (le-ltb _ _ k, le-ltb _ _ z, lt-ltb _ _ o)
+
+  pub piece-align : p .kind ≤ quad → p .size ≤ most-size → p .offset ≤ most-offset → most-align < p .align → bad-align ≡ pieceRefusal p
+  unfolding pieceRefusal
+  piece-align k z o a = rw (le-ltb _ _ k, le-ltb _ _ z, le-ltb _ _ o, lt-ltb _ _ a)
+
+  pub piece-accepted : p .kind ≤ quad → p .size ≤ most-size → p .offset ≤ most-offset → p .align ≤ most-align → accepted ≡ pieceRefusal p
+  unfolding pieceRefusal
+  piece-accepted k z o a = rw (le-ltb _ _ k, le-ltb _ _ z, le-ltb _ _ o, le-ltb _ _ a)
+
+pub ruleset piece-laws = (piece-kind, piece-size, piece-offset, piece-align, piece-accepted)
+
+-- the list
+module _ (ws : List ℕ) where
+  pub list-parts : (length ws % 4 ≡ 0 → ⊥) → bad-list ≡ listRefusal ws
+  unfolding listRefusal
+  list-parts w = rw (lt-ltb 0 (length ws % 4) (omega arith))
+
+  pub list-many : length ws % 4 ≡ 0 → most-pieces < length ws / 4 → bad-list ≡ listRefusal ws
+  unfolding listRefusal
+  list-many w n = rw (le-ltb 0 (length ws % 4) (omega arith), length-pieces, lt-ltb _ _ n)
+
+  pub list-accepted : length ws % 4 ≡ 0 → length ws / 4 ≤ most-pieces → accepted ≡ listRefusal ws
+  unfolding listRefusal
+  list-accepted w n = rw (le-ltb 0 (length ws % 4) (omega arith), length-pieces, le-ltb _ _ n)
+
+-- the loop over the pieces: `total` is what the pieces from the place on decide
+module _ (total : ℕ) (ws : List ℕ) (at : ℕ) (inv : total ≡ piecesRefusal (piecesOf (drop at ws))) (w : at ≤ length ws) where
+  pub pieces-accepted : length ws - at < 4 → accepted ≡ total
+  unfolding piecesRefusal
+  pieces-accepted h = rw (inv, pieces-end ws at (omega arith))
+
+  module _ (h : 4 ≤ length ws - at) (p : Piece) (r : ℕ) (ep : p ≡ pieceAt ws at) (er : r ≡ pieceRefusal p) where
+    pub refused-here : (r ≡ accepted → ⊥) → r ≡ total
+    unfolding piecesRefusal
+    refused-here f = rw (inv, pieces-step ws at (omega arith), ← ep, ← er) (else-first _ _ f)
+
+    pub refused-later : r ≡ accepted → total ≡ piecesRefusal (piecesOf (drop (at + 4) ws))
+    unfolding piecesRefusal
+    refused-later f = rw (inv, pieces-step ws at (omega arith), ← ep, ← er, f)
+
+-- a shape and its words
+module _ (shape : Shape) (ws : List ℕ) (list : ℕ) (el : list ≡ listRefusal ws) where
+  pub shape-list : (list ≡ accepted → ⊥) → list ≡ shapeRefusal shape ws
+  unfolding shapeRefusal
+  shape-list h = rw (← el) (else-first _ _ h)
+
+  module _ (z : list ≡ accepted) where
+    pub shape-size : most-offset < shape .size → bad-size ≡ shapeRefusal shape ws
+    unfolding shapeRefusal
+    shape-size s = rw (← el, z, lt-ltb _ _ s)
+
+    pub shape-align : shape .size ≤ most-offset → most-align < shape .align → bad-align ≡ shapeRefusal shape ws
+    unfolding shapeRefusal
+    shape-align s a = rw (← el, z, le-ltb _ _ s, lt-ltb _ _ a)
+
+    pub shape-pieces : shape .size ≤ most-offset → shape .align ≤ most-align → (r : ℕ) → r ≡ piecesRefusal (piecesOf ws) → r ≡ shapeRefusal shape ws
+    unfolding shapeRefusal
+    shape-pieces s a r er = rw (← el, z, le-ltb _ _ s, le-ltb _ _ a, er)

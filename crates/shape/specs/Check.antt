@@ -1,0 +1,53 @@
+-- The refusals of a scalar, of pieces and of a shape, in their order (REFERENCE 2 and 3): the first that applies, 0 if there is none.
+use Prim.Native.Nat.{ℕ, zero, suc, _%_}
+use mathlib.Core.List.{List, [], _∷_}
+use mathlib.Core.Bool.{Bool, true, false}
+use lib.Dec.{ltb}
+use lib.ListN.{length}
+use Rattle.shape.specs.declared.Piece.{Piece}
+use Rattle.shape.specs.declared.Scalar.{Scalar}
+use Rattle.shape.specs.declared.Shape.{Shape}
+use Rattle.shape.specs.Numbers.{quad, accepted, bad-list, bad-kind, bad-size, bad-align, most-size, most-offset, most-align, most-pieces}
+use Rattle.shape.specs.Words.{piecesOf}
+
+-- a refusal where the test holds, else what comes after it
+abbrev pub refuse : Bool → ℕ → ℕ → ℕ
+refuse true n rest = n
+refuse false n rest = rest
+
+-- the first of two answers that is a refusal
+abbrev pub orElse : ℕ → ℕ → ℕ
+orElse zero rest = rest
+orElse (suc n) rest = suc n
+
+-- a scalar, by kind, size, alignment
+unfoldable pub scalarRefusal : Scalar → ℕ
+scalarRefusal s =
+    refuse (ltb quad (s .kind)) bad-kind
+    (refuse (ltb most-size (s .size)) bad-size
+    (refuse (ltb most-align (s .align)) bad-align accepted))
+
+-- a piece, by kind, size, offset, alignment
+unfoldable pub pieceRefusal : Piece → ℕ
+pieceRefusal p =
+    refuse (ltb quad (p .kind)) bad-kind
+    (refuse (ltb most-size (p .size)) bad-size
+    (refuse (ltb most-offset (p .offset)) bad-size
+    (refuse (ltb most-align (p .align)) bad-align accepted)))
+
+-- pieces, from the first
+unfoldable pub piecesRefusal : List Piece → ℕ
+piecesRefusal [] = accepted
+piecesRefusal (p ∷ ps) = orElse (pieceRefusal p) (piecesRefusal ps)
+
+-- the words don't make whole pieces, or too many
+unfoldable pub listRefusal : List ℕ → ℕ
+listRefusal ws =
+    refuse (ltb 0 (length ws % 4)) bad-list (refuse (ltb most-pieces (length (piecesOf ws))) bad-list accepted)
+
+-- the list, the shape's size, its alignment, then its pieces
+unfoldable pub shapeRefusal : Shape → List ℕ → ℕ
+shapeRefusal shape ws =
+    orElse (listRefusal ws)
+    (refuse (ltb most-offset (shape .size)) bad-size
+    (refuse (ltb most-align (shape .align)) bad-align (piecesRefusal (piecesOf ws))))

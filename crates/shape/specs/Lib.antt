@@ -1,0 +1,4 @@
+pub mod Numbers
+pub mod Words
+pub mod Check
+pub mod Questions

@@ -1,0 +1,61 @@
+-- The numbers of docs/REFERENCE.md, 1 to 3, by their names: kinds, refusals, and the largest values that are accepted.
+use Prim.Native.Nat.{ℕ}
+
+-- kinds: an integer, or a float in one of four formats
+abbrev pub integer : ℕ
+integer = 0
+
+abbrev pub single : ℕ
+single = 1
+
+abbrev pub double : ℕ
+double = 2
+
+abbrev pub x87-extended : ℕ
+x87-extended = 3
+
+abbrev pub quad : ℕ
+quad = 4
+
+-- refusals; 0 is none
+abbrev pub accepted : ℕ
+accepted = 0
+
+abbrev pub bad-abi : ℕ
+bad-abi = 1
+
+abbrev pub bad-call : ℕ
+bad-call = 2
+
+abbrev pub bad-list : ℕ
+bad-list = 3
+
+abbrev pub bad-kind : ℕ
+bad-kind = 4
+
+abbrev pub bad-size : ℕ
+bad-size = 5
+
+abbrev pub bad-align : ℕ
+bad-align = 6
+
+abbrev pub no-room : ℕ
+no-room = 7
+
+-- the largest size of a scalar or a piece
+abbrev pub most-size : ℕ
+most-size = 64
+
+-- the largest offset, and the largest size of a shape
+abbrev pub most-offset : ℕ
+most-offset = 16777216
+
+abbrev pub most-align : ℕ
+most-align = 4096
+
+abbrev pub most-pieces : ℕ
+most-pieces = 1024
+
+-- the largest number of 64 bits
+abbrev pub most-word : ℕ
+most-word = 18446744073709551615

@@ -1,0 +1,44 @@
+-- Pieces and scalars as they stand in words (REFERENCE 1.2): a piece is kind, size, alignment, offset; a scalar is the first three.
+-- Words after the last whole record are no record.
+use Prim.Native.Nat.{ℕ}
+use mathlib.Core.List.{List, [], _∷_}
+use lib.ListN.{drop}
+use Rattle.shape.specs.declared.Piece.{Piece}
+use Rattle.shape.specs.declared.Scalar.{Scalar}
+
+abbrev pub piece : ℕ → ℕ → ℕ → ℕ → Piece
+piece k s a o = record { kind = k; size = s; align = a; offset = o }
+
+unfoldable pub piecesOf : List ℕ → List Piece
+piecesOf [] = []
+piecesOf (k ∷ []) = []
+piecesOf (k ∷ s ∷ []) = []
+piecesOf (k ∷ s ∷ a ∷ []) = []
+piecesOf (k ∷ s ∷ a ∷ o ∷ ws) = piece k s a o ∷ piecesOf ws
+
+-- the first of some pieces, all zeros where there is none
+unfoldable pub firstPiece : List Piece → Piece
+firstPiece [] = piece 0 0 0 0
+firstPiece (p ∷ ps) = p
+
+-- the piece that starts at a place of the words
+unfoldable pub pieceAt : List ℕ → ℕ → Piece
+pieceAt ws at = firstPiece (piecesOf (drop at ws))
+
+abbrev pub scalar : ℕ → ℕ → ℕ → Scalar
+scalar k s a = record { kind = k; size = s; align = a }
+
+unfoldable pub scalarsOf : List ℕ → List Scalar
+scalarsOf [] = []
+scalarsOf (k ∷ []) = []
+scalarsOf (k ∷ s ∷ []) = []
+scalarsOf (k ∷ s ∷ a ∷ ws) = scalar k s a ∷ scalarsOf ws
+
+-- the first of some scalars, all zeros where there is none
+unfoldable pub firstScalar : List Scalar → Scalar
+firstScalar [] = scalar 0 0 0
+firstScalar (s ∷ ss) = s
+
+-- the scalar that starts at a place of the words
+unfoldable pub scalarAt : List ℕ → ℕ → Scalar
+scalarAt ws at = firstScalar (scalarsOf (drop at ws))

@@ -1,0 +1,286 @@
+// What a classifier is asked about, and whether it may be asked: kinds, scalars, pieces and shapes, the limits, and the refusals in their
+// order. Pieces come in as words, four to a piece: kind, size, alignment, offset. The rules are those of docs/REFERENCE.md, 1 to 4.1.
+ghost use mathlib.Core.Path.{_≡_};
+ghost use Prim.Native.Nat.{min, max};
+ghost use Rattle.shape.specs.Words.{piecesOf, pieceAt, scalarAt};
+ghost use Rattle.shape.specs.Check.{scalarRefusal, pieceRefusal, piecesRefusal, listRefusal, shapeRefusal};
+ghost use Rattle.shape.specs.Questions.{integerOf, floatOf, isFloat, endOf, isAllOf};
+
+// Kinds: an integer, or a float in one of four formats.
+pub const INTEGER: u64 = 0;
+
+pub const SINGLE: u64 = 1;
+
+pub const DOUBLE: u64 = 2;
+
+pub const X87_EXTENDED: u64 = 3;
+
+pub const QUAD: u64 = 4;
+
+// Refusals: 0 is none.
+pub const ACCEPTED: u64 = 0;
+
+pub const BAD_ABI: u64 = 1;
+
+pub const BAD_CALL: u64 = 2;
+
+pub const BAD_LIST: u64 = 3;
+
+pub const BAD_KIND: u64 = 4;
+
+pub const BAD_SIZE: u64 = 5;
+
+pub const BAD_ALIGN: u64 = 6;
+
+pub const NO_ROOM: u64 = 7;
+
+// The largest values that are accepted.
+pub const MOST_SIZE: u64 = 64;
+
+pub const MOST_OFFSET: u64 = 16777216;
+
+pub const MOST_ALIGN: u64 = 4096;
+
+pub const MOST_PIECES: usize = 1024;
+
+// The largest number of 64 bits.
+const MOST_WORD: u64 = 18446744073709551615;
+
+// Words of a scalar and of a piece.
+pub const SCALAR: usize = 3;
+
+pub const PIECE: usize = 4;
+
+// What a scalar is, as numbers that anyone may hand in: a kind above 4 is refused, not impossible.
+pub struct Scalar {
+    pub kind: u64,
+    pub size: u64,
+    pub align: u64,
+}
+
+impl Scalar {
+    // An integer of this size, aligned to itself.
+    pub fn integer(size: u64) -> Scalar
+        ensures { λ r. ⌜ r ≡ integerOf size ⌝ }
+    {
+        Scalar {
+            kind: INTEGER,
+            size,
+            align: size,
+        }
+    }
+
+    // A float in this format, of this size, aligned to itself.
+    pub fn float(format: u64, size: u64) -> Scalar
+        ensures { λ r. ⌜ r ≡ floatOf format size ⌝ }
+    {
+        Scalar {
+            kind: format,
+            size,
+            align: size,
+        }
+    }
+
+    pub fn is_float(self) -> bool
+        ensures { λ r. ⌜ r ≡ isFloat (self .kind) ⌝ }
+    {
+        self.kind != INTEGER
+    }
+}
+
+// One scalar inside an aggregate, at its offset.
+pub struct Piece {
+    pub kind: u64,
+    pub size: u64,
+    pub align: u64,
+    pub offset: u64,
+}
+
+impl Piece {
+    pub fn is_float(self) -> bool
+        ensures { λ r. ⌜ r ≡ isFloat (self .kind) ⌝ }
+    {
+        self.kind != INTEGER
+    }
+
+    // One past the last byte that it covers, an empty piece counting as one byte; the largest number where that passes 64 bits.
+    pub fn end(self) -> u64
+        ensures { λ r. ⌜ r ≡ endOf self ⌝ }
+    {
+        self.offset + least(most(self.size, 1), MOST_WORD - self.offset)
+    }
+}
+
+// An aggregate; its pieces stand beside it, as words.
+pub struct Shape {
+    pub size: u64,
+    pub align: u64,
+    pub complex: bool,
+    pub floating: bool,
+}
+
+// The refusal of a shape and its pieces: the list, the shape's size, its alignment, then the pieces from the first.
+pub fn check_shape(shape: Shape, words: &[u64]) -> u64
+    ensures { λ r. ⌜ r ≡ shapeRefusal shape (now (words .entry)) ⌝ }
+{
+    let list = check_list(words);
+    if list != ACCEPTED {
+        return list;
+    }
+    if shape.size > MOST_OFFSET {
+        return BAD_SIZE;
+    }
+    if shape.align > MOST_ALIGN {
+        return BAD_ALIGN;
+    }
+    check_pieces(words)
+}
+
+// The refusal of some words as a list: they don't make whole pieces, or too many.
+pub fn check_list(words: &[u64]) -> u64
+    ensures { λ r. ⌜ r ≡ listRefusal (now (words .entry)) ⌝ }
+{
+    let n = words.len();
+    if n % PIECE != 0 {
+        return BAD_LIST;
+    }
+    if n / PIECE > MOST_PIECES {
+        return BAD_LIST;
+    }
+    ACCEPTED
+}
+
+// The first refusal among the pieces of some words.
+pub fn check_pieces(words: &[u64]) -> u64
+    ensures { λ r. ⌜ r ≡ piecesRefusal (piecesOf (now (words .entry))) ⌝ }
+{
+    let mut at = 0;
+    while words.len() - at >= PIECE {
+        let refusal = check_piece(piece_at(words, at));
+        if refusal != ACCEPTED {
+            return refusal;
+        }
+        at += PIECE;
+    }
+    ACCEPTED
+}
+
+// The refusal of one piece, by kind, size, offset, alignment.
+pub fn check_piece(p: Piece) -> u64
+    ensures { λ r. ⌜ r ≡ pieceRefusal p ⌝ }
+{
+    if p.kind > QUAD {
+        return BAD_KIND;
+    }
+    if p.size > MOST_SIZE {
+        return BAD_SIZE;
+    }
+    if p.offset > MOST_OFFSET {
+        return BAD_SIZE;
+    }
+    if p.align > MOST_ALIGN {
+        return BAD_ALIGN;
+    }
+    ACCEPTED
+}
+
+// The refusal of one scalar, by kind, size, alignment.
+pub fn check_scalar(s: Scalar) -> u64
+    ensures { λ r. ⌜ r ≡ scalarRefusal s ⌝ }
+{
+    if s.kind > QUAD {
+        return BAD_KIND;
+    }
+    if s.size > MOST_SIZE {
+        return BAD_SIZE;
+    }
+    if s.align > MOST_ALIGN {
+        return BAD_ALIGN;
+    }
+    ACCEPTED
+}
+
+// Whether some words hold a piece and every piece is of this kind.
+pub fn is_all_of(words: &[u64], kind: u64) -> bool
+    ensures { λ r. ⌜ r ≡ isAllOf kind (piecesOf (now (words .entry))) ⌝ }
+{
+    if words.len() < PIECE {
+        return false;
+    }
+    let mut at = 0;
+    while words.len() - at >= PIECE {
+        let p = piece_at(words, at);
+        if p.kind != kind {
+            return false;
+        }
+        at += PIECE;
+    }
+    true
+}
+
+// The piece that starts at a place of the words: all zeros where no whole piece is left there.
+pub fn piece_at(words: &[u64], at: usize) -> Piece
+    ensures { λ r. ⌜ r ≡ pieceAt (now (words .entry)) at ⌝ }
+{
+    let n = words.len();
+    if n < PIECE {
+        return Piece {
+            kind: 0,
+            size: 0,
+            align: 0,
+            offset: 0,
+        };
+    }
+    if at > n - PIECE {
+        return Piece {
+            kind: 0,
+            size: 0,
+            align: 0,
+            offset: 0,
+        };
+    }
+    Piece {
+        kind: words[at],
+        size: words[at + 1],
+        align: words[at + 2],
+        offset: words[at + 3],
+    }
+}
+
+// The scalar that starts at a place of the words: all zeros where no whole scalar is left there.
+pub fn scalar_at(words: &[u64], at: usize) -> Scalar
+    ensures { λ r. ⌜ r ≡ scalarAt (now (words .entry)) at ⌝ }
+{
+    let n = words.len();
+    if n < SCALAR {
+        return Scalar {
+            kind: 0,
+            size: 0,
+            align: 0,
+        };
+    }
+    if at > n - SCALAR {
+        return Scalar {
+            kind: 0,
+            size: 0,
+            align: 0,
+        };
+    }
+    Scalar {
+        kind: words[at],
+        size: words[at + 1],
+        align: words[at + 2],
+    }
+}
+
+pub fn least(a: u64, b: u64) -> u64
+    ensures { λ r. ⌜ r ≡ min a b ⌝ }
+{
+    if a < b { a } else { b }
+}
+
+pub fn most(a: u64, b: u64) -> u64
+    ensures { λ r. ⌜ r ≡ max a b ⌝ }
+{
+    if a < b { b } else { a }
+}
