@@ -32,8 +32,7 @@ unfoldable pub pieceRefusal : Piece → ℕ
 pieceRefusal p =
     refuse (ltb quad (p .kind)) bad-kind
     (refuse (ltb most-size (p .size)) bad-size
-    (refuse (ltb most-offset (p .offset)) bad-size
-    (refuse (ltb most-align (p .align)) bad-align accepted)))
+    (refuse (ltb most-offset (p .offset)) bad-size (refuse (ltb most-align (p .align)) bad-align accepted)))
 
 -- pieces, from the first
 unfoldable pub piecesRefusal : List Piece → ℕ
