@@ -1,9 +1,15 @@
 //! The original Rust, unchanged, answering questions about the thirty calling conventions.
 
+pub mod damage;
 pub mod find;
+pub mod generate;
 pub mod lookups;
 pub mod numbers;
 pub mod random;
+pub mod records;
+pub mod refusals;
 pub mod rows;
 pub mod shapes;
+pub mod sheet;
+pub mod spending;
 pub mod values;

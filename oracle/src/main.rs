@@ -1,27 +1,44 @@
 //! The command line: one subcommand for each kind of question.
 
-use std::io::{self, BufWriter, Write};
+use std::io::{self, BufWriter, Read, Write};
 use std::process::ExitCode;
 
-use oracle::{find, lookups, rows, shapes};
+use oracle::generate::{self, Profile};
+use oracle::{find, lookups, rows, shapes, sheet};
 
 const USAGE: &str = "\
-usage: oracle rows                every fact of the thirty descriptions
-       oracle lookups             every lookup over its whole domain
-       oracle find SEED COUNT     random shapes, and what each test finds in them
-       oracle shapes SEED COUNT   the same shapes as records of a sheet
+usage: oracle rows                         every fact of the thirty descriptions
+       oracle lookups                      every lookup over its whole domain
+       oracle find SEED COUNT              random shapes, and what each test finds in them
+       oracle shapes SEED COUNT            the same shapes as records of a sheet
+       oracle sheet                        a sheet's lines, the sheet read from standard input
+       oracle generate SEED COUNT [good]   a random sheet of so many operations
+       oracle generate SEED COUNT damaged  one that stops on its way
+
+A damaged sheet holds one damage, so have many of them:
+       for seed in $(seq 1000); do oracle generate $seed 20 damaged | oracle sheet; done
+Exits 1 on a bad command line or a failed write, 2 where the Rust and the rules contradict.
 ";
 
 fn main() -> ExitCode {
     let arguments: Vec<String> = std::env::args().skip(1).collect();
     let words: Vec<&str> = arguments.iter().map(String::as_str).collect();
     let mut out = BufWriter::new(io::stdout().lock());
-    let Some(written) = run(&mut out, &words) else {
-        eprint!("{USAGE}");
-        return ExitCode::from(1);
+    let answered = if words == ["sheet"] {
+        answer_sheet(&mut out)
+    } else {
+        let Some(written) = answer(&mut out, &words) else {
+            eprint!("{USAGE}");
+            return ExitCode::from(1);
+        };
+        written.map(Ok)
     };
-    match written.and_then(|()| out.flush()) {
-        Ok(()) => ExitCode::SUCCESS,
+    match answered.and_then(|agreed| out.flush().map(|()| agreed)) {
+        Ok(Ok(())) => ExitCode::SUCCESS,
+        Ok(Err(contradiction)) => {
+            eprintln!("oracle: the Rust and the rules contradict {contradiction}");
+            ExitCode::from(2)
+        }
         Err(why) => {
             eprintln!("oracle: {why}");
             ExitCode::from(1)
@@ -29,13 +46,26 @@ fn main() -> ExitCode {
     }
 }
 
-/// Answers the question, or nothing where there is no such question.
-fn run(out: &mut impl Write, words: &[&str]) -> Option<io::Result<()>> {
+fn answer_sheet(out: &mut impl Write) -> io::Result<Result<(), String>> {
+    let mut bytes = Vec::new();
+    io::stdin().lock().read_to_end(&mut bytes)?;
+    sheet::print(out, &bytes)
+}
+
+/// Answers a question that can't meet a contradiction, or nothing where there is none such.
+fn answer(out: &mut impl Write, words: &[&str]) -> Option<io::Result<()>> {
+    let number = |word: &str| word.parse::<u64>().ok();
     Some(match *words {
         ["rows"] => rows::print(out),
         ["lookups"] => lookups::print(out),
-        ["find", seed, count] => find::print(out, seed.parse().ok()?, count.parse().ok()?),
-        ["shapes", seed, count] => shapes::write(out, seed.parse().ok()?, count.parse().ok()?),
+        ["find", seed, count] => find::print(out, number(seed)?, number(count)?),
+        ["shapes", seed, count] => shapes::write(out, number(seed)?, number(count)?),
+        ["generate", seed, count] | ["generate", seed, count, "good"] => {
+            generate::write(out, number(seed)?, number(count)?, Profile::Good)
+        }
+        ["generate", seed, count, "damaged"] => {
+            generate::write(out, number(seed)?, number(count)?, Profile::Damaged)
+        }
         _ => return None,
     })
 }

@@ -6,37 +6,19 @@
 use std::io::{self, Write};
 
 use crate::random::Random;
+use crate::records::{self, ARGUMENT};
 use crate::values::{
-    LARGEST_ALIGN, LARGEST_OFFSET, LARGEST_SCALAR, LARGEST_SHAPE, Piece, Scalar, Shape,
+    LARGEST_ALIGN, LARGEST_OFFSET, LARGEST_SCALAR, LARGEST_SHAPE, Piece, Scalar, Shape, Value,
 };
 
-/// Writes the shapes that `oracle find` answers for, as records of a sheet.
+/// Writes the shapes that `oracle find` answers for, each as an argument of a sheet.
 pub fn write(out: &mut impl Write, seed: u64, count: u64) -> io::Result<()> {
     let mut random = Random::new(seed);
     for _ in 0..count {
-        for record in records(3, &shape(&mut random)) {
-            out.write_all(&bytes(record))?;
-        }
+        let value = Value::Aggregate(shape(&mut random));
+        out.write_all(&records::bytes(&records::of_value(ARGUMENT, &value)))?;
     }
     Ok(())
-}
-
-/// A record of a sheet: six words.
-pub type Record = [u64; 6];
-
-/// The records of an operation on an aggregate: its own, then a record for each piece.
-pub fn records(operation: u64, shape: &Shape) -> Vec<Record> {
-    let count = shape.pieces.len() as u64;
-    let mut records = vec![[operation, 2, shape.size, shape.align, shape.flags(), count]];
-    for Piece { scalar, offset } in &shape.pieces {
-        records.push([5, scalar.kind, scalar.size, scalar.align, *offset, 0]);
-    }
-    records
-}
-
-/// A record as it stands in a sheet: each word's low byte first.
-pub fn bytes(record: Record) -> Vec<u8> {
-    record.iter().flat_map(|word| word.to_le_bytes()).collect()
 }
 
 /// The next shape.

@@ -6,7 +6,7 @@ use oracle::random::Random;
 use oracle::values::{
     LARGEST_ALIGN, LARGEST_KIND, LARGEST_OFFSET, LARGEST_SCALAR, LARGEST_SHAPE, MOST_PIECES, Shape,
 };
-use oracle::{find, shapes};
+use oracle::{find, records, shapes};
 
 fn some_shapes(seed: u64, count: usize) -> Vec<Shape> {
     let mut random = Random::new(seed);
@@ -86,5 +86,5 @@ fn the_written_records_are_the_shapes_that_find_prints() {
             _ => {}
         }
     }
-    assert_eq!(written, expected.into_iter().flat_map(shapes::bytes).collect::<Vec<u8>>());
+    assert_eq!(written, records::bytes(&expected));
 }

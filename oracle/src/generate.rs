@@ -1,0 +1,232 @@
+//! `oracle generate`: random sheets, good ones and damaged ones.
+//!
+//! A good sheet never stops. Its calls follow a habit each, so that one runs a bank dry and
+//! another meets a full one; between their operations stand some that are refused.
+
+use std::io::{self, Write};
+
+use crate::damage;
+use crate::numbers::ROWS;
+use crate::random::Random;
+use crate::records::{self, AFTER_DOTS, ARGUMENT, FRESH, MARK, RETURN, Record};
+use crate::shapes;
+use crate::values::{
+    LARGEST_ALIGN, LARGEST_KIND, LARGEST_OFFSET, LARGEST_SCALAR, LARGEST_SHAPE, MOST_PIECES, Piece,
+    Scalar, Shape, Value,
+};
+
+#[derive(Debug, Clone, Copy, PartialEq, Eq)]
+pub enum Profile {
+    Good,
+    Damaged,
+}
+
+/// Writes a sheet of so many operations. A damaged one stops before it has had them all.
+pub fn write(out: &mut impl Write, seed: u64, count: u64, profile: Profile) -> io::Result<()> {
+    let mut generator = Generator::new(seed);
+    match profile {
+        Profile::Good => {
+            (0..count).try_for_each(|_| out.write_all(&records::bytes(&generator.operation())))
+        }
+        Profile::Damaged => out.write_all(&damage::sheet(&mut generator, count)),
+    }
+}
+
+/// What the values of a call are, mostly.
+#[derive(Debug, Clone, Copy)]
+enum Habit {
+    Anything,
+    Integers,
+    WideIntegers,
+    Floats,
+    Aggregates,
+}
+
+pub struct Generator {
+    pub random: Random,
+    /// Whether a call is open, so that an operation won't stop the sheet.
+    pub open: bool,
+    /// How many more operations the open call gets.
+    more: u64,
+    habit: Habit,
+}
+
+impl Generator {
+    pub fn new(seed: u64) -> Self {
+        Self { random: Random::new(seed), open: false, more: 0, habit: Habit::Anything }
+    }
+
+    /// The records of the next operation, which the call that is open allows.
+    pub fn operation(&mut self) -> Vec<Record> {
+        let mut records = if self.open && self.more > 0 {
+            self.more -= 1;
+            self.within_call()
+        } else {
+            self.fresh()
+        };
+        if self.random.once_in(2) {
+            self.fill_unread(&mut records);
+        }
+        records
+    }
+
+    /// A fresh call, or a refused one, which closes the call that was open.
+    fn fresh(&mut self) -> Vec<Record> {
+        let random = &mut self.random;
+        self.open = !random.once_in(16);
+        let description = if !self.open {
+            bad_description(random)
+        } else if random.once_in(2) {
+            random.between(0, 5)
+        } else {
+            random.between(0, ROWS as u64 - 1)
+        };
+        self.more = random.pick(&[1, 2, 4, 8, 12, 20]);
+        self.habit = random.pick(&[
+            Habit::Anything,
+            Habit::Anything,
+            Habit::Integers,
+            Habit::WideIntegers,
+            Habit::Floats,
+            Habit::Aggregates,
+        ]);
+        vec![[FRESH, description, 0, 0, 0, 0]]
+    }
+
+    /// An operation on the open call: an argument mostly; marks and returns come late and twice.
+    fn within_call(&mut self) -> Vec<Record> {
+        let operation = match self.random.between(0, 31) {
+            0 | 1 => return vec![[MARK, 0, 0, 0, 0, 0]],
+            2..=4 => RETURN,
+            5..=8 => AFTER_DOTS,
+            _ => ARGUMENT,
+        };
+        let value = match self.random.between(0, 63) {
+            0 | 1 => Value::Void,
+            2..=5 => self.refused_value(),
+            _ => self.value(),
+        };
+        records::of_value(operation, &value)
+    }
+
+    /// A value inside the domain, by the call's habit or against it.
+    pub fn value(&mut self) -> Value {
+        let random = &mut self.random;
+        let habit = if random.once_in(4) { Habit::Anything } else { self.habit };
+        match habit {
+            Habit::Integers => natural(0, random.pick(&[1, 2, 4, 4, 8, 8])),
+            Habit::WideIntegers => natural(0, random.pick(&[4, 8, 9, 16, 16, 16, 17, 24])),
+            Habit::Floats => {
+                let (kind, size) =
+                    random.pick(&[(1, 4), (2, 8), (2, 8), (3, 12), (3, 16), (4, 16)]);
+                natural(kind, size)
+            }
+            Habit::Anything if random.once_in(2) => Value::Scalar(any_scalar(random)),
+            Habit::Anything | Habit::Aggregates => Value::Aggregate(any_shape(random)),
+        }
+    }
+
+    /// A value with at least one number past its limit, and often more than one.
+    pub fn refused_value(&mut self) -> Value {
+        let random = &mut self.random;
+        if random.once_in(3) {
+            let mut scalar = any_scalar(random);
+            spoil_scalar(random, &mut scalar);
+            return Value::Scalar(scalar);
+        }
+        let mut shape = shapes::shape(random);
+        if shape.pieces.is_empty() || random.once_in(3) {
+            spoil_whole(random, &mut shape);
+        }
+        if !shape.pieces.is_empty() {
+            for _ in 0..random.between(1, 2) {
+                let at = random.between(0, shape.pieces.len() as u64 - 1) as usize;
+                spoil_piece(random, &mut shape.pieces[at]);
+            }
+        }
+        Value::Aggregate(shape)
+    }
+
+    /// Fills the words that nobody may read.
+    fn fill_unread(&mut self, records: &mut [Record]) {
+        for record in records {
+            for at in records::first_unread(record)..record.len() {
+                record[at] = self.random.word();
+            }
+        }
+    }
+}
+
+/// A scalar aligned to its size.
+fn natural(kind: u64, size: u64) -> Value {
+    Value::Scalar(Scalar { kind, size, align: size })
+}
+
+fn any_scalar(random: &mut Random) -> Scalar {
+    let size = shapes::scalar_size(random);
+    Scalar { kind: random.between(0, LARGEST_KIND), size, align: shapes::align(random) }
+}
+
+/// A shape; now and then one of as many pieces as a list may have.
+fn any_shape(random: &mut Random) -> Shape {
+    let mut shape = shapes::shape(random);
+    if random.once_in(500) {
+        let scalar = any_scalar(random);
+        shape.pieces.resize(MOST_PIECES as usize, Piece { scalar, offset: 8 });
+    }
+    shape
+}
+
+/// A number past a limit: the next one, one that a narrower type would take for a small one, or
+/// any.
+pub fn past(random: &mut Random, limit: u64) -> u64 {
+    match random.between(0, 5) {
+        0..=2 => limit + 1,
+        3 => (1 << 32) + random.between(0, limit),
+        4 => u64::MAX - random.between(0, 8),
+        _ => (limit + 1).saturating_add(random.word() >> random.between(0, 63)),
+    }
+}
+
+pub fn bad_description(random: &mut Random) -> u64 {
+    // 30 and 31 are the rows of wasm, 256 would be row 0 in a byte.
+    if random.once_in(2) { random.pick(&[30, 31, 32, 256]) } else { past(random, ROWS as u64 - 1) }
+}
+
+fn bad_kind(random: &mut Random) -> u64 {
+    if random.once_in(2) { random.pick(&[5, 6, 255, 256]) } else { past(random, LARGEST_KIND) }
+}
+
+/// Any of the seven ways to be wrong in kind, size and alignment.
+fn spoil_scalar(random: &mut Random, scalar: &mut Scalar) {
+    let wrong = random.between(1, 7);
+    if wrong & 1 != 0 {
+        scalar.kind = bad_kind(random);
+    }
+    if wrong & 2 != 0 {
+        scalar.size = past(random, LARGEST_SCALAR);
+    }
+    if wrong & 4 != 0 {
+        scalar.align = past(random, LARGEST_ALIGN);
+    }
+}
+
+fn spoil_piece(random: &mut Random, piece: &mut Piece) {
+    let offset_too = random.once_in(2);
+    if offset_too {
+        piece.offset = past(random, LARGEST_OFFSET);
+    }
+    if !offset_too || random.once_in(2) {
+        spoil_scalar(random, &mut piece.scalar);
+    }
+}
+
+fn spoil_whole(random: &mut Random, shape: &mut Shape) {
+    let wrong = random.between(1, 3);
+    if wrong & 1 != 0 {
+        shape.size = past(random, LARGEST_SHAPE);
+    }
+    if wrong & 2 != 0 {
+        shape.align = past(random, LARGEST_ALIGN);
+    }
+}

@@ -1,0 +1,9 @@
+//! Everything that is tested, in one program.
+
+mod calls;
+mod common;
+mod every_count;
+mod find;
+mod generate;
+mod shapes;
+mod sheet;
