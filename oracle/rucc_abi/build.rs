@@ -27,6 +27,7 @@ fn put_link(sources: &Path, link: &Path) {
     if fs::read_link(link).is_ok_and(|old| old == sources) {
         return;
     }
+    fs::create_dir_all(link.parent().expect("target/")).expect("a folder target/");
     // There may be none yet.
     let _ = fs::remove_file(link);
     std::os::unix::fs::symlink(sources, link).expect("a link in target/");

@@ -1,12 +1,13 @@
 //! `oracle generate`: random sheets, good ones and damaged ones.
 //!
 //! A good sheet never stops. Its calls follow a habit each, so that one runs a bank dry and
-//! another meets a full one; between their operations stand some that are refused.
+//! another meets a full one; some begin with a run-up to a few registers left, where the rules
+//! part. Between their operations stand some that are refused.
 
 use std::io::{self, Write};
 
 use crate::damage;
-use crate::numbers::ROWS;
+use crate::numbers::{self, ROWS};
 use crate::random::Random;
 use crate::records::{self, AFTER_DOTS, ARGUMENT, FRESH, MARK, RETURN, Record};
 use crate::shapes;
@@ -46,19 +47,26 @@ pub struct Generator {
     pub random: Random,
     /// Whether a call is open, so that an operation won't stop the sheet.
     pub open: bool,
-    /// How many more operations the open call gets.
+    /// Arguments that are still to lead the open call to few registers.
+    run_up: Vec<Value>,
+    /// How many more operations the open call gets then.
     more: u64,
     habit: Habit,
 }
 
 impl Generator {
     pub fn new(seed: u64) -> Self {
-        Self { random: Random::new(seed), open: false, more: 0, habit: Habit::Anything }
+        let random = Random::new(seed);
+        Self { random, open: false, run_up: Vec::new(), more: 0, habit: Habit::Anything }
     }
 
     /// The records of the next operation, which the call that is open allows.
     pub fn operation(&mut self) -> Vec<Record> {
-        let mut records = if self.open && self.more > 0 {
+        let mut records = if !self.open {
+            self.fresh()
+        } else if let Some(value) = self.run_up.pop() {
+            records::of_value(ARGUMENT, &value)
+        } else if self.more > 0 {
             self.more -= 1;
             self.within_call()
         } else {
@@ -74,13 +82,11 @@ impl Generator {
     fn fresh(&mut self) -> Vec<Record> {
         let random = &mut self.random;
         self.open = !random.once_in(16);
-        let description = if !self.open {
-            bad_description(random)
-        } else if random.once_in(2) {
-            random.between(0, 5)
-        } else {
-            random.between(0, ROWS as u64 - 1)
-        };
+        if !self.open {
+            return vec![[FRESH, bad_description(random), 0, 0, 0, 0]];
+        }
+        let last_row = if random.once_in(2) { 5 } else { ROWS as u64 - 1 };
+        let row = random.between(0, last_row);
         self.more = random.pick(&[1, 2, 4, 8, 12, 20]);
         self.habit = random.pick(&[
             Habit::Anything,
@@ -90,7 +96,11 @@ impl Generator {
             Habit::Floats,
             Habit::Aggregates,
         ]);
-        vec![[FRESH, description, 0, 0, 0, 0]]
+        if random.once_in(3) {
+            self.run_up = run_up(random, row as usize);
+            self.habit = random.pick(&[Habit::WideIntegers, Habit::Aggregates, Habit::Aggregates]);
+        }
+        vec![[FRESH, row, 0, 0, 0, 0]]
     }
 
     /// An operation on the open call: an argument mostly; marks and returns come late and twice.
@@ -155,6 +165,21 @@ impl Generator {
             }
         }
     }
+}
+
+/// Arguments that leave up to three registers of a bank, in any order.
+fn run_up(random: &mut Random, row: usize) -> Vec<Value> {
+    let banks = numbers::row(row).banks;
+    let mut run_up = Vec::new();
+    for (all, value) in [(banks.integer, natural(0, 4)), (banks.float, natural(2, 8))] {
+        let left = random.pick(&[0, 1, 1, 2, 3, all]).min(all);
+        run_up.extend((left..all).map(|_| value.clone()));
+    }
+    for at in 1..run_up.len() {
+        let other = random.between(0, at as u64) as usize;
+        run_up.swap(at, other);
+    }
+    run_up
 }
 
 /// A scalar aligned to its size.

@@ -237,13 +237,13 @@ pub fn scalar_size(random: &mut Random) -> u64 {
     }
 }
 
-/// A size of a shape, small mostly; a large one makes the Rust cut millions of slots.
+/// A size of a shape. Large ones are rare: the Rust cuts them into millions of slots.
 pub fn shape_size(random: &mut Random) -> u64 {
-    match random.between(0, 63) {
+    match random.between(0, 255) {
         0 => random.pick(&[LARGEST_SHAPE - 1, LARGEST_SHAPE]),
         1 => random.between(0, LARGEST_SHAPE),
-        2..=5 => random.between(0, 4_200),
-        6..=15 => random.between(0, 72),
+        2..=17 => random.between(0, 4_200),
+        18..=57 => random.between(0, 72),
         _ => near_line(random),
     }
 }

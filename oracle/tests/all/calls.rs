@@ -95,6 +95,24 @@ fn call_12_eight_bytes_and_one_word() {
     assert_eq!(last(9, &[(INT4, 2)], aggregate), "memory 0 0 1 0 0 0");
 }
 
+/// Passed over or given: what is left is the same, so only the rules in words can tell.
+#[test]
+fn what_carries_nothing_is_passed_over() {
+    // The last two registers fit a wide integer; the last one doesn't, evenly or not.
+    assert_eq!(last(1, &[(INT8, 6)], &[&[3, 1, 0, 16, 16]]), "direct 0 8 0 2 0 0");
+    assert_eq!(last(1, &[(INT8, 7)], &[&[3, 1, 0, 16, 16]]), "direct 0 8 1 0 0 0");
+    assert_eq!(last(2, &[(INT8, 7)], &[&[3, 1, 0, 16, 16]]), "direct 0 8 1 0 0 0");
+    // Seven words after one: one passed over for evenness, and the six that don't suffice.
+    assert_eq!(last(1, &[(INT8, 1)], &[&[3, 1, 0, 56, 16]]), "direct 0 8 7 0 0 0");
+    assert_eq!(last(2, &[(INT8, 1)], &[&[3, 1, 0, 56, 16]]), "direct 0 8 0 7 0 0");
+    // fastcall: a wide integer is in memory and no register survives it.
+    assert_eq!(last(22, &[], &[&[3, 1, 0, 8, 8]]), "direct 0 0 2 0 0 0");
+    assert_eq!(last(22, &[(INT4, 1)], &[&[3, 1, 0, 8, 8]]), "direct 0 0 1 0 0 0");
+    // An aggregate in memory that spends is given what it spends.
+    assert_eq!(last(22, &[], &[&[3, 2, 8, 4, 0, 0]]), "memory 0 0 0 2 0 0");
+    assert_eq!(last(22, &[], &[&[3, 2, 3, 1, 0, 0]]), "memory 1 0 0 1 0 0");
+}
+
 #[test]
 fn a_mark_is_a_state_of_row_3_alone() {
     let double: &[u64] = &[3, 1, 2, 8, 8];
