@@ -1,8 +1,8 @@
-//! What an operation passes over and gives (REFERENCE 9): a reading of the rules on its own.
+//! What an operation passes over and gives (REFERENCE 9): a second reading of the rules in words.
 //!
-//! The Rust keeps only what is left. The split is written here from the rules in words and from
-//! nothing else; the sheet holds the two against each other. Only what a test finds in a shape is
-//! asked of the Rust, which is where the rules leave it.
+//! The Rust keeps only what is left, so the sheet can hold no more than the sum against it: whether
+//! a register was passed over or given rests on this reading. From the Rust come a row's fields,
+//! which sizes return by reference, and what a test finds in a shape; all spending is done here.
 
 use std::sync::OnceLock;
 
