@@ -1,0 +1,5 @@
+pub mod Cases
+pub mod Numbers
+pub mod Inverse
+pub mod Ends
+mod Unique

@@ -1,0 +1,70 @@
+-- What a description says (REFERENCE 5). Banks, scalar rules, rules and the enums are the code's own types.
+use Prim.Native.Nat.{ℕ, _<_, _-_}
+use mathlib.Core.Path.{_≡_}
+use mathlib.Core.List.{List}
+use lib.ListN.{length, getD}
+use Rattle.describe.specs.declared.Banks.{Banks}
+use Rattle.describe.specs.declared.Scalars.{Scalars}
+use Rattle.describe.specs.declared.Rule.{Rule}
+use Rattle.describe.specs.declared.Test.{Test}
+use Rattle.describe.specs.declared.Travel.{Travel}
+use Rattle.describe.specs.declared.Short.{Short}
+use Rattle.describe.specs.declared.Test.the-variants.{Anything}
+use Rattle.describe.specs.declared.Travel.the-variants.{Ignore, AsFound}
+use Rattle.describe.specs.declared.Short.the-variants.{Unchanged, TryNextRule}
+use Rattle.describe.specs.declared.ReturnPointer.{ReturnPointer}
+use Rattle.describe.specs.declared.Variadic.{Variadic}
+use Rattle.describe.specs.declared.StackArgs.{StackArgs}
+use Rattle.describe.specs.declared.Narrow.{Narrow}
+use Rattle.describe.specs.declared.BitInts.{BitInts}
+use Rattle.describe.specs.declared.Cleanup.{Cleanup}
+use Rattle.describe.specs.declared.Others.{Others}
+
+-- One calling convention, completely. The name is its bytes.
+pub record Description : Type 0 where
+  pub name : List ℕ
+  pub banks : Banks
+  pub scalars : Scalars
+  pub returns : List Rule
+  pub arguments : List Rule
+  pub «return_pointer» : ReturnPointer
+  pub variadic : Variadic
+  pub «stack_args» : StackArgs
+  pub narrow : Narrow
+  pub «bit_ints» : BitInts
+  pub cleanup : Cleanup
+
+-- The fields beside banks, scalar rules and rules, as the code's own record of them.
+abbrev pub others : Description → Others
+others D =
+    record {
+      «return_pointer» = D .«return_pointer»;
+      variadic = D .variadic;
+      «stack_args» = D .«stack_args»;
+      narrow = D .narrow;
+      «bit_ints» = D .«bit_ints»;
+      cleanup = D .cleanup;
+    }
+
+-- A rule whose shortage has its own answer, and one that can't run short.
+abbrev pub ruleShort : Test → Travel → Short → Rule
+ruleShort when then short = record { when = when; then = then; short = short }
+
+abbrev pub rule : Test → Travel → Rule
+rule when then = ruleShort when then Unchanged
+
+-- What stands past the end of a list of rules.
+abbrev pub past : Rule
+past = rule Anything Ignore
+
+-- A rule that leaves nothing to the rules after it (REFERENCE 5.6): it matches anything, travels in a way that needs no slots
+-- that a test found, and where it falls short doesn't pass on to the next rule.
+pub record Decides (r : Rule) : Type 0 where
+  pub anything : r .when ≡ Anything
+  pub unsought : r .then ≡ AsFound → ⊥
+  pub stays : r .short ≡ TryNextRule → ⊥
+
+-- A list of rules that ends so.
+pub record Ends (rules : List Rule) : Type 0 where
+  pub some : 0 < length rules
+  pub last : Decides (getD rules (length rules - 1) past)

@@ -1,0 +1,4 @@
+pub mod Description
+pub mod Codes
+pub mod Row
+pub mod Questions

@@ -1,0 +1,161 @@
+// The language of descriptions (REFERENCE 5): what a description says, and the questions that its scalar rules answer by
+// themselves. `row` reads a description from a row of bytes.
+ghost use mathlib.Core.Path.{_≡_};
+ghost use Rattle.describe.specs.Questions.{isByReference, returnsByReference, wideReturnsIn, registerSize};
+
+pub mod codes;
+mod row;
+
+pub use row::WIDTH;
+pub use row::argument_rule;
+pub use row::banks_of;
+pub use row::others_of;
+pub use row::return_pointer_of;
+pub use row::return_rule;
+pub use row::scalars_of;
+pub use row::variadic_of;
+
+// What an aggregate has to look like for a rule to apply.
+pub enum Test {
+    Anything,
+    Empty,
+    SizeOneOf(u64, u64, u64, u64),
+    SizeAtMost(u64),
+    Homogeneous(u64),
+    FloatPair,
+    X87Stack,
+    LoneFloat,
+    FloatingMode,
+    ComplexFloat,
+    Eightbytes(u64),
+}
+
+// How it travels where the test matched.
+pub enum Travel {
+    Ignore,
+    AsFound,
+    AsIntegers,
+    AsOneInteger,
+    ByReference,
+    InMemory,
+    InMemoryAndSpend,
+}
+
+// What happens where the registers that a rule wanted are not there.
+pub enum Short {
+    Unchanged,
+    Memory,
+    MemoryAndDrain,
+    TryNextRule,
+}
+
+// Rules are tried in order, and the first whose test matches decides.
+pub struct Rule {
+    pub when: Test,
+    pub then: Travel,
+    pub short: Short,
+}
+
+// The registers that a call starts with. With shared banks every spend comes out of the integer one.
+pub struct Banks {
+    pub integer: u64,
+    pub float: u64,
+    pub shared: bool,
+    pub integer_width: u64,
+    pub float_width: u64,
+}
+
+// How a scalar spends registers. `in_memory` and `wide_integer_returns_in` are kinds of formats, or 0, the integer kind, for none.
+pub struct Scalars {
+    pub in_memory: u64,
+    pub wide_integer_is_all_or_nothing: bool,
+    pub wide_integer_starts_even: bool,
+    pub wide_integer_drains: bool,
+    pub wide_is_by_reference: bool,
+    pub wide_integer_returns_in: u64,
+    pub wide_integer_in_memory: bool,
+    pub decimal_in_integers: bool,
+    pub quad_returns_by_reference: bool,
+}
+
+// Where the address of a return value in memory travels.
+pub enum ReturnPointer {
+    FirstArgument,
+    FirstArgumentPopped,
+    Dedicated,
+}
+
+// What an argument after the dots does differently.
+pub enum Variadic {
+    SameAsFixed,
+    AlwaysMemory,
+    BothBanks,
+    IntegersOnly,
+    UnnamedIntegers,
+}
+
+// How arguments without a register sit in the argument area.
+pub enum StackArgs {
+    RegisterSized,
+    Packed,
+}
+
+// What stands above an integer narrower than an int in its register.
+pub enum Narrow {
+    Unspecified,
+    ToInt,
+    ArgsToInt,
+}
+
+// What stands above a bit-precise integer in its register.
+pub enum BitInts {
+    SpareBits,
+    Untaught,
+}
+
+// Who takes the argument area off the stack.
+pub enum Cleanup {
+    Caller,
+    Callee,
+}
+
+// The fields of a description beside its banks, scalar rules and lists of rules.
+pub struct Others {
+    pub return_pointer: ReturnPointer,
+    pub variadic: Variadic,
+    pub stack_args: StackArgs,
+    pub narrow: Narrow,
+    pub bit_ints: BitInts,
+    pub cleanup: Cleanup,
+}
+
+// Whether a scalar of this size travels as the address of a copy.
+pub fn scalar_is_by_reference(scalars: Scalars, size: u64) -> bool
+    ensures { λ r. ⌜ r ≡ isByReference scalars size ⌝ }
+{
+    scalars.wide_is_by_reference & !register_size(size)
+}
+
+// Whether a scalar of this size comes back through the address that the caller passes.
+pub fn scalar_returns_by_reference(scalars: Scalars, size: u64) -> bool
+    ensures { λ r. ⌜ r ≡ returnsByReference scalars size ⌝ }
+{
+    scalar_is_by_reference(scalars, size) | (scalars.quad_returns_by_reference & (size == 16))
+}
+
+// The format that an integer of this size comes back in where it is by reference otherwise, or 0 for none.
+pub fn wide_integer_returns_in(scalars: Scalars, size: u64) -> u64
+    ensures { λ r. ⌜ r ≡ wideReturnsIn scalars size ⌝ }
+{
+    if scalar_is_by_reference(scalars, size) {
+        scalars.wide_integer_returns_in
+    } else {
+        0
+    }
+}
+
+fn register_size(size: u64) -> bool
+    ensures { λ r. ⌜ r ≡ registerSize size ⌝ }
+{
+    (size == 1) | (size == 2) | (size == 4) | (size == 8)
+}

@@ -1,0 +1,253 @@
+// A description as a row of bytes, read back.
+ghost use mathlib.Core.Path.{_≡_};
+ghost use Prim.Native.Nat.{_≤_};
+ghost use Rattle.describe.specs.Row.{returnRule, argumentRule, ruleOf, banksOf, scalarsOf, othersOf, returnPointerOf, variadicOf};
+ghost use Rattle.describe.specs.Codes.{testFrom, sizeFrom, travelFrom, shortFrom, returnPointerFrom, variadicFrom, stackArgsFrom, narrowFrom, bitIntsFrom, cleanupFrom};
+use crate::codes::*;
+use crate::*;
+
+// A row holds a description in WIDTH bytes: the four numbers of the banks, a bit for each flag of banks and scalar rules, the two
+// formats, the other fields in two bytes, then four rules for returns and four for arguments. A rule is three bytes: its test,
+// the test's number, and the way of travel with what happens when short; three zeros stand where a list has ended. The module
+// `codes` names the values.
+pub const WIDTH: usize = 32;
+
+const INTEGER: usize = 0;
+
+const FLOAT: usize = 1;
+
+const INTEGER_WIDTH: usize = 2;
+
+const FLOAT_WIDTH: usize = 3;
+
+const FLAGS: usize = 4;
+
+const FORMATS: usize = 5;
+
+const CALLS: usize = 6;
+
+const STACK: usize = 7;
+
+const RETURNS: usize = 8;
+
+const ARGUMENTS: usize = 20;
+
+const RULES: u64 = 4;
+
+// Rule `i` for returns. A walk begins at 0 and goes on from one rule to the next; past the end stands a rule that ignores anything.
+pub fn return_rule(row: [u8; WIDTH], i: u64) -> Rule
+    ensures { λ r. ⌜ r ≡ returnRule row i ⌝ }
+{
+    rule_of(row, RETURNS, i)
+}
+
+// Rule `i` for arguments, likewise.
+pub fn argument_rule(row: [u8; WIDTH], i: u64) -> Rule
+    ensures { λ r. ⌜ r ≡ argumentRule row i ⌝ }
+{
+    rule_of(row, ARGUMENTS, i)
+}
+
+pub fn banks_of(row: [u8; WIDTH]) -> Banks
+    ensures { λ r. ⌜ r ≡ banksOf row ⌝ }
+{
+    Banks {
+        integer: wide(row[INTEGER]),
+        float: wide(row[FLOAT]),
+        shared: row[FLAGS] / SHARED % 2 == 1,
+        integer_width: wide(row[INTEGER_WIDTH]),
+        float_width: wide(row[FLOAT_WIDTH]),
+    }
+}
+
+pub fn scalars_of(row: [u8; WIDTH]) -> Scalars
+    ensures { λ r. ⌜ r ≡ scalarsOf row ⌝ }
+{
+    let flags = row[FLAGS];
+    let formats = row[FORMATS];
+    Scalars {
+        in_memory: wide(formats % 8),
+        wide_integer_is_all_or_nothing: flags / WIDE_INTEGER_IS_ALL_OR_NOTHING % 2 == 1,
+        wide_integer_starts_even: flags / WIDE_INTEGER_STARTS_EVEN % 2 == 1,
+        wide_integer_drains: flags / WIDE_INTEGER_DRAINS % 2 == 1,
+        wide_is_by_reference: flags / WIDE_IS_BY_REFERENCE % 2 == 1,
+        wide_integer_returns_in: wide(formats / 8),
+        wide_integer_in_memory: flags / WIDE_INTEGER_IN_MEMORY % 2 == 1,
+        decimal_in_integers: flags / DECIMAL_IN_INTEGERS % 2 == 1,
+        quad_returns_by_reference: flags / QUAD_RETURNS_BY_REFERENCE % 2 == 1,
+    }
+}
+
+pub fn others_of(row: [u8; WIDTH]) -> Others
+    ensures { λ r. ⌜ r ≡ othersOf row ⌝ }
+{
+    let stack = row[STACK];
+    Others {
+        return_pointer: return_pointer_of(row),
+        variadic: variadic_of(row),
+        stack_args: stack_args_from(stack % 2),
+        narrow: narrow_from(stack / 2 % 4),
+        bit_ints: bit_ints_from(stack / 8 % 2),
+        cleanup: cleanup_from(stack / 16),
+    }
+}
+
+pub fn return_pointer_of(row: [u8; WIDTH]) -> ReturnPointer
+    ensures { λ r. ⌜ r ≡ returnPointerOf row ⌝ }
+{
+    return_pointer_from(row[CALLS] % 4)
+}
+
+pub fn variadic_of(row: [u8; WIDTH]) -> Variadic
+    ensures { λ r. ⌜ r ≡ variadicOf row ⌝ }
+{
+    variadic_from(row[CALLS] / 4)
+}
+
+// The rule at place `i` of the list whose first byte stands at `first`.
+fn rule_of(row: [u8; WIDTH], first: usize, i: u64) -> Rule
+    requires { ⌜ first ≤ 20 ⌝ }
+    ensures { λ r. ⌜ r ≡ ruleOf row first i ⌝ }
+{
+    if i < RULES {
+        let at = first + 3 * (i as usize);
+        let way = row[at + 2];
+        Rule {
+            when: test_from(row[at], row[at + 1]),
+            then: travel_from(way % 8),
+            short: short_from(way / 8),
+        }
+    } else {
+        Rule {
+            when: Test::Anything,
+            then: Travel::Ignore,
+            short: Short::Unchanged,
+        }
+    }
+}
+
+fn test_from(code: u8, number: u8) -> Test
+    ensures { λ r. ⌜ r ≡ testFrom code number ⌝ }
+{
+    match code {
+        NO_RULE => Test::Anything,
+        ANYTHING => Test::Anything,
+        EMPTY => Test::Empty,
+        SIZE_ONE_OF => Test::SizeOneOf(
+            size_from(number % 4),
+            size_from(number / 4 % 4),
+            size_from(number / 16 % 4),
+            size_from(number / 64),
+        ),
+        SIZE_AT_MOST => Test::SizeAtMost(wide(number)),
+        HOMOGENEOUS => Test::Homogeneous(wide(number)),
+        FLOAT_PAIR => Test::FloatPair,
+        X87_STACK => Test::X87Stack,
+        LONE_FLOAT => Test::LoneFloat,
+        FLOATING_MODE => Test::FloatingMode,
+        COMPLEX_FLOAT => Test::ComplexFloat,
+        _ => Test::Eightbytes(wide(number)),
+    }
+}
+
+// One of the four sizes that a register may hold, by two bits.
+fn size_from(code: u8) -> u64
+    ensures { λ r. ⌜ r ≡ sizeFrom code ⌝ }
+{
+    match code {
+        0 => 1,
+        1 => 2,
+        2 => 4,
+        _ => 8,
+    }
+}
+
+fn travel_from(code: u8) -> Travel
+    ensures { λ r. ⌜ r ≡ travelFrom code ⌝ }
+{
+    match code {
+        0 => Travel::Ignore,
+        1 => Travel::AsFound,
+        2 => Travel::AsIntegers,
+        3 => Travel::AsOneInteger,
+        4 => Travel::ByReference,
+        5 => Travel::InMemory,
+        _ => Travel::InMemoryAndSpend,
+    }
+}
+
+fn short_from(code: u8) -> Short
+    ensures { λ r. ⌜ r ≡ shortFrom code ⌝ }
+{
+    match code {
+        0 => Short::Unchanged,
+        1 => Short::Memory,
+        2 => Short::MemoryAndDrain,
+        _ => Short::TryNextRule,
+    }
+}
+
+fn return_pointer_from(code: u8) -> ReturnPointer
+    ensures { λ r. ⌜ r ≡ returnPointerFrom code ⌝ }
+{
+    match code {
+        0 => ReturnPointer::FirstArgument,
+        1 => ReturnPointer::FirstArgumentPopped,
+        _ => ReturnPointer::Dedicated,
+    }
+}
+
+fn variadic_from(code: u8) -> Variadic
+    ensures { λ r. ⌜ r ≡ variadicFrom code ⌝ }
+{
+    match code {
+        0 => Variadic::SameAsFixed,
+        1 => Variadic::AlwaysMemory,
+        2 => Variadic::BothBanks,
+        3 => Variadic::IntegersOnly,
+        _ => Variadic::UnnamedIntegers,
+    }
+}
+
+fn stack_args_from(code: u8) -> StackArgs
+    ensures { λ r. ⌜ r ≡ stackArgsFrom code ⌝ }
+{
+    match code {
+        0 => StackArgs::RegisterSized,
+        _ => StackArgs::Packed,
+    }
+}
+
+fn narrow_from(code: u8) -> Narrow
+    ensures { λ r. ⌜ r ≡ narrowFrom code ⌝ }
+{
+    match code {
+        0 => Narrow::Unspecified,
+        1 => Narrow::ToInt,
+        _ => Narrow::ArgsToInt,
+    }
+}
+
+fn bit_ints_from(code: u8) -> BitInts
+    ensures { λ r. ⌜ r ≡ bitIntsFrom code ⌝ }
+{
+    match code {
+        0 => BitInts::SpareBits,
+        _ => BitInts::Untaught,
+    }
+}
+
+fn cleanup_from(code: u8) -> Cleanup
+    ensures { λ r. ⌜ r ≡ cleanupFrom code ⌝ }
+{
+    match code {
+        0 => Cleanup::Caller,
+        _ => Cleanup::Callee,
+    }
+}
+
+fn wide(byte: u8) -> u64
+    ensures { λ r. ⌜ r ≡ byte ⌝ }
+{
+    byte as u64
+}
