@@ -1,0 +1,38 @@
+-- `scalar_return` answers the line that applies to a scalar that comes back. Assumes nothing.
+use Rattle.spend.proofs.Spending.{return-direct, return-float, return-pointer}
+use borrow.Author.Needs.{needs}
+use Rattle.spend.proofs.scalar_return.Statement.{statement}
+use Rattle.spend.proofs.scalar_return.Tie as tie
+
+scalar-returns-by-reference-requires : tie.Need-scalar-returns-by-reference-requires
+scalar-returns-by-reference-requires c κs = search needs
+
+integers-requires : tie.Need-integers-requires
+integers-requires c κs = search needs
+
+returns : tie.Need-returns
+returns c = search (return-direct)
+
+one-float-requires : tie.Need-one-float-requires
+one-float-requires c κs = search needs
+
+returns-2 : tie.Need-returns-2
+returns-2 c = search (return-float)
+
+by-pointer-requires : tie.Need-by-pointer-requires
+by-pointer-requires c κs = search needs
+
+returns-3 : tie.Need-returns-3
+returns-3 c = search (return-pointer)
+
+pub scalar-return-spec : {M : Type 1} → statement M
+scalar-return-spec =
+    tie.close
+    (tie.spec
+    scalar-returns-by-reference-requires
+    integers-requires
+    returns
+    one-float-requires
+    returns-2
+    by-pointer-requires
+    returns-3)

@@ -1,0 +1,43 @@
+-- Ways, their numbers, and the parts that a decision is made of (REFERENCE 9).
+use Prim.Native.Nat.{ℕ}
+use lib.ListN.{length}
+use Rattle.shape.specs.Numbers.{integer}
+use Rattle.slots.specs.Cut.{cut}
+use Rattle.spend.specs.declared.Way.{Way}
+use Rattle.spend.specs.declared.Way.the-variants.{Ignore, Direct, Pieces, Reference, Memory}
+use Rattle.spend.specs.declared.Source.{Source}
+use Rattle.spend.specs.declared.Source.the-variants.{Empty, Cut, One}
+use Rattle.spend.specs.declared.Slots.{Slots}
+use Rattle.spend.specs.declared.Spent.{Spent}
+use Rattle.spend.specs.declared.Decision.{Decision}
+
+-- a way's number
+abbrev pub wayNumber : Way → ℕ
+wayNumber Ignore = 0
+wayNumber Direct = 1
+wayNumber Pieces = 2
+wayNumber Reference = 3
+wayNumber Memory = 4
+
+-- integers passed over and given, floats passed over and given
+abbrev pub spends : ℕ → ℕ → ℕ → ℕ → Spent
+spends ip ig fp fg = record { «integers_passed» = ip; «integers_given» = ig; «floats_passed» = fp; «floats_given» = fg }
+
+abbrev pub nothing : Spent
+nothing = spends 0 0 0 0
+
+-- a way without slots
+abbrev pub plain : Way → Spent → Decision
+plain way spent = record { way = way; slots = Empty; count = 0; spent = spent }
+
+-- Pieces, in these slots
+abbrev pub piecesOf : Slots → Spent → Decision
+piecesOf found spent = record { way = Pieces; slots = found .source; count = found .count; spent = spent }
+
+-- a size cut into integers of a width
+abbrev pub cutSlots : ℕ → ℕ → Slots
+cutSlots size width = record { count = length (cut size width); floats = 0; source = Cut size width }
+
+-- one slot at the start: its kind, its size, and 1 where it is a float
+abbrev pub oneSlot : ℕ → ℕ → ℕ → Slots
+oneSlot kind size floats = record { count = 1; floats = floats; source = One kind 0 size }

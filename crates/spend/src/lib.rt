@@ -1,0 +1,394 @@
+// What one value spends of the registers that a call has left, and how it travels: a scalar argument, a scalar that comes back, and an
+// aggregate that a rule matched. Passed over and given are counted here; the rules are those of docs/REFERENCE.md, 9.2 to 9.4.
+use describe::Banks;
+use describe::ReturnPointer;
+use describe::Rule;
+use describe::Scalars;
+use describe::Short;
+use describe::Travel;
+use shape::Scalar;
+ghost use mathlib.Core.Path.{_≡_};
+ghost use Prim.Native.Nat.{_-_};
+ghost use Rattle.spend.specs.Ways.{spends, plain, piecesOf, cutSlots, oneSlot};
+ghost use Rattle.spend.specs.Spending.{wantOf, scalarArgument, inRegisters, integerArgument, skipOf, scalarReturn, byPointer, travelOf, byReference, inMemoryAndSpend, inSlots, integerCost, floatCost, drainOf};
+
+// What a call has left: registers in each bank, and whether floats go in integer registers alone.
+pub struct Left {
+    pub integer: u64,
+    pub float: u64,
+    pub integers_only: bool,
+}
+
+// How a value travels.
+pub enum Way {
+    Ignore,
+    Direct,
+    Pieces,
+    Reference,
+    Memory,
+}
+
+// The registers that one operation passes over and gives, in each bank.
+pub struct Spent {
+    pub integers_passed: u64,
+    pub integers_given: u64,
+    pub floats_passed: u64,
+    pub floats_given: u64,
+}
+
+// Where the slots of a value that travels as Pieces stand: there are none, each piece of the shape is one, the classes of its eightbytes say
+// them, a size is cut into integers, or there is the one that is given.
+pub enum Source {
+    Empty,
+    EachPiece,
+    Classes,
+    Cut { size: u64, width: u64 },
+    One { kind: u64, offset: u64, size: u64 },
+}
+
+// How a value travels, its slots and their number, and what it spends.
+pub struct Decision {
+    pub way: Way,
+    pub slots: Source,
+    pub count: u64,
+    pub spent: Spent,
+}
+
+// What a rule that matched comes to: a decision, or the rule ran short and the next one is tried.
+pub enum Step {
+    Decided(Decision),
+    TryNextRule,
+}
+
+// The slots that a rule travels in: how many, how many of them floats, and where they stand.
+pub struct Slots {
+    pub count: u64,
+    pub floats: u64,
+    pub source: Source,
+}
+
+// A scalar argument: the first of the ten lines of REFERENCE 9.2 that applies.
+pub fn scalar_argument(banks: Banks, scalars: Scalars, left: Left, s: Scalar) -> Decision
+    ensures { λ r. ⌜ r ≡ scalarArgument banks scalars left s ⌝ }
+{
+    if describe::scalar_is_by_reference(scalars, s.size) {
+        return integers(Way::Reference, 0, shape::least(1, left.integer));
+    }
+    if (s.kind != shape::INTEGER) & (s.kind == scalars.in_memory) {
+        return integers(Way::Direct, 0, 0);
+    }
+    let want = registers(s.size, banks.integer_width);
+    if scalars.wide_integer_in_memory & (s.kind == shape::INTEGER) & (want > 1) {
+        return integers(Way::Direct, left.integer, 0);
+    }
+    if left.integers_only & (s.kind != shape::INTEGER) {
+        return cut_float(
+            s.size,
+            banks.integer_width,
+            shape::least(want, left.integer),
+        );
+    }
+    in_registers(banks, scalars, left, s, want)
+}
+
+// The last six of the ten lines: a scalar that goes in the registers of a bank as it is.
+fn in_registers(banks: Banks, scalars: Scalars, left: Left, s: Scalar, want: u64) -> Decision
+    ensures { λ r. ⌜ r ≡ inRegisters banks scalars left s want ⌝ }
+{
+    if banks.shared {
+        return integers(Way::Direct, 0, shape::least(1, left.integer));
+    }
+    if (s.kind != shape::INTEGER) & (s.size <= banks.float_width) {
+        return floats(shape::least(1, left.float));
+    }
+    if s.kind != shape::INTEGER {
+        return integers(Way::Direct, 0, shape::least(want, left.integer));
+    }
+    integer_argument(banks.integer, scalars, left.integer, want)
+}
+
+// The last three of the ten lines: an integer that wants so many registers.
+fn integer_argument(start: u64, scalars: Scalars, left: u64, want: u64) -> Decision
+    ensures { λ r. ⌜ r ≡ integerArgument start scalars left want ⌝ }
+{
+    if scalars.wide_integer_is_all_or_nothing {
+        if want <= left {
+            return integers(Way::Direct, 0, want);
+        }
+        return integers(Way::Direct, 0, 0);
+    }
+    if (want > 1) & (scalars.wide_integer_starts_even | scalars.wide_integer_drains) {
+        let skipped = skip(scalars.wide_integer_starts_even, minus(start, left), left);
+        if want <= minus(left, skipped) {
+            return integers(Way::Direct, skipped, want);
+        }
+        if scalars.wide_integer_drains {
+            return integers(Way::Direct, left, 0);
+        }
+        return integers(Way::Direct, skipped, 0);
+    }
+    integers(Way::Direct, 0, shape::least(want, left))
+}
+
+// Passed over for an even start: one, where an odd number is used and one is left.
+fn skip(even: bool, used: u64, left: u64) -> u64
+    ensures { λ r. ⌜ r ≡ skipOf even used left ⌝ }
+{
+    if even & (used % 2 == 1) {
+        return shape::least(1, left);
+    }
+    0
+}
+
+// A scalar that comes back (REFERENCE 9.4).
+pub fn scalar_return(scalars: Scalars, pointer: ReturnPointer, left: Left, s: Scalar) -> Decision
+    ensures { λ r. ⌜ r ≡ scalarReturn scalars pointer left s ⌝ }
+{
+    if !describe::scalar_returns_by_reference(scalars, s.size) {
+        return integers(Way::Direct, 0, 0);
+    }
+    if (s.kind == shape::INTEGER) & (scalars.wide_integer_returns_in != shape::INTEGER) {
+        return one_float(scalars.wide_integer_returns_in);
+    }
+    by_pointer(pointer, left.integer)
+}
+
+// What comes back through an address: it takes an argument register unless it has one of its own.
+fn by_pointer(pointer: ReturnPointer, left: u64) -> Decision
+    ensures { λ r. ⌜ r ≡ byPointer pointer left ⌝ }
+{
+    match pointer {
+        ReturnPointer::Dedicated => integers(Way::Reference, 0, 0),
+        ReturnPointer::FirstArgument => integers(Way::Reference, 0, shape::least(1, left)),
+        ReturnPointer::FirstArgumentPopped => integers(Way::Reference, 0, shape::least(1, left)),
+    }
+}
+
+// An aggregate of this size under a rule whose test found these slots (REFERENCE 9.3).
+pub fn travel(
+    banks: Banks,
+    pointer: ReturnPointer,
+    returning: bool,
+    left: Left,
+    rule: Rule,
+    size: u64,
+    found: Slots,
+) -> Step
+    ensures { λ r. ⌜ r ≡ travelOf banks pointer returning left rule size found ⌝ }
+{
+    let then = rule.then;
+    let short = rule.short;
+    let width = banks.integer_width;
+    match then {
+        Travel::Ignore => Step::Decided(integers(Way::Ignore, 0, 0)),
+        Travel::AsFound => in_slots(banks.shared, returning, left, short, found),
+        Travel::AsIntegers => in_slots(
+            banks.shared,
+            returning,
+            left,
+            short,
+            Slots {
+                count: slots::parts(size, width),
+                floats: 0,
+                source: Source::Cut { size, width },
+            },
+        ),
+        Travel::AsOneInteger => in_slots(
+            banks.shared,
+            returning,
+            left,
+            short,
+            Slots {
+                count: 1,
+                floats: 0,
+                source: Source::One {
+                    kind: shape::INTEGER,
+                    offset: 0,
+                    size,
+                },
+            },
+        ),
+        Travel::ByReference => Step::Decided(by_reference(pointer, returning, left.integer)),
+        Travel::InMemory => Step::Decided(integers(Way::Memory, 0, 0)),
+        Travel::InMemoryAndSpend => Step::Decided(in_memory_and_spend(returning, left.integer, registers(size, width))),
+    }
+}
+
+fn by_reference(pointer: ReturnPointer, returning: bool, left: u64) -> Decision
+    ensures { λ r. ⌜ r ≡ byReference pointer returning left ⌝ }
+{
+    if returning {
+        return by_pointer(pointer, left);
+    }
+    integers(Way::Reference, 0, shape::least(1, left))
+}
+
+fn in_memory_and_spend(returning: bool, left: u64, want: u64) -> Decision
+    ensures { λ r. ⌜ r ≡ inMemoryAndSpend returning left want ⌝ }
+{
+    if returning {
+        return integers(Way::Memory, 0, 0);
+    }
+    integers(Way::Memory, 0, shape::least(want, left))
+}
+
+// Slots on a return spend nothing; on an argument they cost registers, and what happens when short is the rule's.
+fn in_slots(shared: bool, returning: bool, left: Left, short: Short, found: Slots) -> Step
+    ensures { λ r. ⌜ r ≡ inSlots shared returning left short found ⌝ }
+{
+    if returning {
+        return Step::Decided(pieces(found, 0, 0));
+    }
+    let integer = integer_cost(shared, found.count, found.floats);
+    let float = float_cost(shared, found.floats);
+    if (integer <= left.integer) & (float <= left.float) {
+        return Step::Decided(pieces(found, integer, float));
+    }
+    match short {
+        Short::Unchanged => Step::Decided(pieces(
+            found,
+            shape::least(integer, left.integer),
+            shape::least(float, left.float),
+        )),
+        Short::Memory => Step::Decided(integers(Way::Memory, 0, 0)),
+        Short::MemoryAndDrain => Step::Decided(drained(
+            drain(integer, left.integer),
+            drain(float, left.float),
+        )),
+        Short::TryNextRule => Step::TryNextRule,
+    }
+}
+
+// Slots by bank: with shared banks every slot costs one of the integer bank.
+fn integer_cost(shared: bool, count: u64, floats: u64) -> u64
+    ensures { λ r. ⌜ r ≡ integerCost shared count floats ⌝ }
+{
+    if shared { count } else { minus(count, floats) }
+}
+
+fn float_cost(shared: bool, floats: u64) -> u64
+    ensures { λ r. ⌜ r ≡ floatCost shared floats ⌝ }
+{
+    if shared { 0 } else { floats }
+}
+
+// A bank that is short is passed over whole; the other is left as it is.
+fn drain(cost: u64, left: u64) -> u64
+    ensures { λ r. ⌜ r ≡ drainOf cost left ⌝ }
+{
+    if cost > left { left } else { 0 }
+}
+
+// Registers of a width that a size wants: rounded up, at least one.
+pub fn registers(size: u64, width: u64) -> u64
+    ensures { λ r. ⌜ r ≡ wantOf size width ⌝ }
+{
+    shape::most(slots::parts(size, width), 1)
+}
+
+// A decision without slots that spends integer registers alone.
+fn integers(way: Way, passed: u64, given: u64) -> Decision
+    ensures { λ r. ⌜ r ≡ plain way (spends passed given 0 0) ⌝ }
+{
+    Decision {
+        way,
+        slots: Source::Empty,
+        count: 0,
+        spent: Spent {
+            integers_passed: passed,
+            integers_given: given,
+            floats_passed: 0,
+            floats_given: 0,
+        },
+    }
+}
+
+fn floats(given: u64) -> Decision
+    ensures { λ r. ⌜ r ≡ plain Way.Direct (spends 0 0 0 given) ⌝ }
+{
+    Decision {
+        way: Way::Direct,
+        slots: Source::Empty,
+        count: 0,
+        spent: Spent {
+            integers_passed: 0,
+            integers_given: 0,
+            floats_passed: 0,
+            floats_given: given,
+        },
+    }
+}
+
+fn drained(integers: u64, floats: u64) -> Decision
+    ensures { λ r. ⌜ r ≡ plain Way.Memory (spends integers 0 floats 0) ⌝ }
+{
+    Decision {
+        way: Way::Memory,
+        slots: Source::Empty,
+        count: 0,
+        spent: Spent {
+            integers_passed: integers,
+            integers_given: 0,
+            floats_passed: floats,
+            floats_given: 0,
+        },
+    }
+}
+
+// Slots that are given so many registers of each bank.
+fn pieces(found: Slots, integer: u64, float: u64) -> Decision
+    ensures { λ r. ⌜ r ≡ piecesOf found (spends 0 integer 0 float) ⌝ }
+{
+    let slots = found.source;
+    Decision {
+        way: Way::Pieces,
+        slots,
+        count: found.count,
+        spent: Spent {
+            integers_passed: 0,
+            integers_given: integer,
+            floats_passed: 0,
+            floats_given: float,
+        },
+    }
+}
+
+// A float as integers, given so many registers.
+fn cut_float(size: u64, width: u64, given: u64) -> Decision
+    ensures { λ r. ⌜ r ≡ piecesOf (cutSlots size width) (spends 0 given 0 0) ⌝ }
+{
+    pieces(
+        Slots {
+            count: slots::parts(size, width),
+            floats: 0,
+            source: Source::Cut { size, width },
+        },
+        given,
+        0,
+    )
+}
+
+// One float slot at the start, given no register.
+fn one_float(format: u64) -> Decision
+    ensures { λ r. ⌜ r ≡ piecesOf (oneSlot format 0 1) (spends 0 0 0 0) ⌝ }
+{
+    pieces(
+        Slots {
+            count: 1,
+            floats: 1,
+            source: Source::One {
+                kind: format,
+                offset: 0,
+                size: 0,
+            },
+        },
+        0,
+        0,
+    )
+}
+
+fn minus(a: u64, b: u64) -> u64
+    ensures { λ r. ⌜ r ≡ a - b ⌝ }
+{
+    if a < b { 0 } else { a - b }
+}
