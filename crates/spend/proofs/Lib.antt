@@ -1,1 +1,3 @@
 pub mod Spending
+pub mod Ways
+mod Unique

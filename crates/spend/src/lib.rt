@@ -37,11 +37,11 @@ pub struct Spent {
 }
 
 // Where the slots of a value that travels as Pieces stand: there are none, each piece of the shape is one, the classes of its eightbytes say
-// them, a size is cut into integers, or there is the one that is given.
+// them for its size, a size is cut into integers, or there is the one that is given.
 pub enum Source {
     Empty,
     EachPiece,
-    Classes,
+    Classes { size: u64 },
     Cut { size: u64, width: u64 },
     One { kind: u64, offset: u64, size: u64 },
 }
