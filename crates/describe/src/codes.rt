@@ -53,6 +53,8 @@ pub const MEMORY_AND_DRAIN: u8 = 16;
 pub const TRY_NEXT_RULE: u8 = 24;
 
 // The flags of banks and scalar rules.
+pub const NO_FLAG: u8 = 0;
+
 pub const SHARED: u8 = 1;
 
 pub const WIDE_INTEGER_IS_ALL_OR_NOTHING: u8 = 2;

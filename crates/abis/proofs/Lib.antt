@@ -1,0 +1,7 @@
+pub mod Every
+pub mod Rows
+pub mod Lists
+pub mod Apart
+mod Questions
+mod Names
+mod Unique
