@@ -1,0 +1,8 @@
+pub mod Class
+pub mod Codes
+pub mod Marks
+pub mod Rest
+pub mod Counts
+pub mod Put
+pub mod Found
+mod Unique

@@ -1,0 +1,121 @@
+-- `eightbytes` answers the search. The invariant: the classes as they are, and the pieces that are left, decide the classes of all. Assumes nothing.
+use Prim.Native.Nat.{_-_, _≤_, _<_}
+use mathlib.Core.Path.{_≡_, refl, sym, _∙_}
+use mathlib.Core.List.{map}
+use mathlib.Core.Option.Option.{none, some}
+use lib.ListN.{length, take, drop, replicate}
+use Rattle.shape.specs.Words.{piecesOf}
+use Rattle.eightbytes.specs.Class.{None, classOf}
+use Rattle.eightbytes.specs.Eightbytes.{eightbytesIn, lastOf, mark, marked, settled, classified, Coded}
+use Rattle.eightbytes.proofs.Codes.{coded-is, coded-zeros}
+use Rattle.eightbytes.proofs.Marks.{marked-start, behind-start, marked-end, marked-stop, marked-turn, marked-behind, marked-length, inside}
+use Rattle.eightbytes.proofs.Found.{found-by, classes-by, nothing-by, over-limit, unfit, fit, behind}
+use borrow.Author.Needs.{needs}
+use native.Mathlib.Omega.{arith}
+use Rattle.eightbytes.proofs.eightbytes.Statement.{statement}
+use Rattle.eightbytes.proofs.eightbytes.Tie as tie
+
+abbrev Inv-loop : tie.InvT-loop
+Inv-loop words limit size n classes₀ at₀ classes at =
+    (at ≤ length words) × (Coded classes) × (length classes ≡ 8) × (drop n classes ≡ replicate (8 - n) 0)
+    × (marked (replicate n None) (piecesOf words) ≡ marked (take n (map classOf classes)) (piecesOf (drop at words)))
+
+abbrev μ-loop : tie.MeasureT-loop
+μ-loop words limit size n classes₀ at₀ classes at = length words - at
+
+least-requires : tie.Need-least-requires Inv-loop μ-loop
+least-requires c κs = search needs
+
+nothing-requires : tie.Need-nothing-requires Inv-loop μ-loop
+nothing-requires c κs = search needs
+
+returns : tie.Need-returns Inv-loop μ-loop
+returns c =
+    let a = c .before .before .before .before .args in
+    let e : classified (a .limit) (a .shape) (piecesOf (a .words .now)) ≡ none = search (over-limit) in
+    (found-by _ _ _ _ e _ (nothing-by _ _ (c .nothing .ensures .0)), classes-by _ _ _ _ e _ (c .nothing .ensures .1))
+
+eightbytes-in-requires : tie.Need-eightbytes-in-requires Inv-loop μ-loop
+eightbytes-in-requires c κs = search needs
+
+loop-holds : tie.Need-loop-holds Inv-loop μ-loop
+loop-holds c = (omega arith, coded-zeros 8, refl, behind-start (c .eightbytes-in .result) (omega arith), marked-start (c .eightbytes-in .result) _ (omega arith))
+
+sub-loop : tie.Need-sub-loop Inv-loop μ-loop
+sub-loop c = search needs
+
+piece-at-requires : tie.Need-piece-at-requires Inv-loop μ-loop
+piece-at-requires c κs = search needs
+
+fits-requires : tie.Need-fits-requires Inv-loop μ-loop
+fits-requires c κs = search needs
+
+nothing-requires-2 : tie.Need-nothing-requires-2 Inv-loop μ-loop
+nothing-requires-2 c κs = search needs
+
+returns-2 : tie.Need-returns-2 Inv-loop μ-loop
+returns-2 c =
+    let a = c .before .before .before .before .before .before .before .before .before .before .args in
+    let n = c .before .before .before .before .before .before .eightbytes-in .result in
+    let k : n ≤ length (c .before .before .before .before .before .loop .classes) = omega arith in
+    let m : marked (replicate n None) (piecesOf (a .words .now)) ≡ none = search (marked-stop) in
+    let e : classified (a .limit) (a .shape) (piecesOf (a .words .now)) ≡ none = search (unfit) in
+    (found-by _ _ _ _ e _ (nothing-by _ _ (c .nothing2 .ensures .0)), classes-by _ _ _ _ e _ (c .nothing2 .ensures .1))
+
+mark-requires : tie.Need-mark-requires Inv-loop μ-loop
+mark-requires c κs =
+    let n = c .before .before .before .before .before .eightbytes-in .result in
+    let k : n ≤ length (c .before .before .before .before .loop .classes) = omega arith in
+    let i : lastOf (c .before .before .piece-at .result) < n = search (inside) in
+    (c .before .before .before .before .loop .inv .1, omega arith)
+
+add-at : tie.Need-add-at Inv-loop μ-loop
+add-at c = search needs
+
+loop-less : tie.Need-loop-less Inv-loop μ-loop
+loop-less c = omega arith
+
+loop-again : tie.Need-loop-again Inv-loop μ-loop
+loop-again c =
+    let l = c .before .before .before .before .before .loop in
+    let n = c .before .before .before .before .before .before .eightbytes-in .result in
+    let k : n ≤ length (l .classes) = omega arith in
+    let m : length (c .mark .result) ≡ length (l .classes) = search (marked-length) in
+    let d : drop n (c .mark .result) ≡ drop n (l .classes) = search (marked-behind) in
+    (omega arith, coded-is _ (mark (map classOf (l .classes)) (c .before .before .before .piece-at .result)) (c .mark .ensures), omega arith, d ∙ l .inv .3, search (marked-turn))
+
+settle-requires : tie.Need-settle-requires Inv-loop μ-loop
+settle-requires c κs =
+    let s = c .before .before .before .before .before .before .args .shape .size in
+    let d : drop (eightbytesIn s) (c .before .loop .classes) ≡ replicate (8 - eightbytesIn s) 0 = search (behind) in
+    (c .before .loop .inv .1, omega arith, d)
+
+returns-3 : tie.Need-returns-3 Inv-loop μ-loop
+returns-3 c =
+    let a = c .before .before .before .before .before .before .before .args in
+    let m : marked (replicate (c .before .before .before .eightbytes-in .result) None) (piecesOf (a .words .now)) ≡ some (take (c .before .before .before .eightbytes-in .result) (map classOf (c .before .before .loop .classes))) = search (marked-end) in
+    let e : classified (a .limit) (a .shape) (piecesOf (a .words .now)) ≡ settled (take (eightbytesIn (a .shape .size)) (map classOf (c .before .before .loop .classes))) = search (fit) in
+    (found-by _ _ _ _ e _ (c .settle .ensures .0), classes-by _ _ _ _ e _ (c .settle .ensures .1))
+
+pub eightbytes-spec : {M : Type 1} → statement M
+eightbytes-spec =
+    tie.close
+    (tie.spec
+    Inv-loop
+    μ-loop
+    least-requires
+    nothing-requires
+    returns
+    eightbytes-in-requires
+    loop-holds
+    sub-loop
+    piece-at-requires
+    fits-requires
+    nothing-requires-2
+    returns-2
+    mark-requires
+    add-at
+    loop-less
+    loop-again
+    settle-requires
+    returns-3)

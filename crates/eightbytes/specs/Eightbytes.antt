@@ -1,0 +1,150 @@
+-- The slots of a shape by the classes of its eightbytes, or nothing (REFERENCE 8), step by step as the Rust's `eightbytes` finds them.
+use Prim.Native.Nat.{ℕ, zero, suc, _+_, _-_, _/_, _%_, _<_, min}
+use mathlib.Core.Path.{_≡_}
+use mathlib.Core.Bool.{Bool, true, false, cond, not, _&&_, _||_}
+use mathlib.Core.List.{List, [], _∷_, _++_, map}
+use mathlib.Core.Option.{Option}
+use mathlib.Core.Option.Option.{none, some}
+use lib.Dec.{leb, ltb, eqb}
+use lib.ListN.{length, getD, set, take, replicate}
+use Rattle.shape.specs.declared.Piece.{Piece}
+use Rattle.shape.specs.declared.Shape.{Shape}
+use Rattle.shape.specs.Numbers.{integer, single, double, x87-extended, quad}
+use Rattle.shape.specs.Questions.{endOf}
+use Rattle.slots.specs.declared.Slot.{Slot}
+use Rattle.slots.specs.Words.{integerSlot, floatSlot}
+use Rattle.slots.specs.Cut.{ceilDiv}
+use Rattle.slots.specs.Search.{Search, found, nothing, oneIf}
+use Rattle.eightbytes.specs.Class.{Class, None, Integer, Sse, SseUp, X87, Memory, code, classOf, same, either, merge}
+
+-- a limit above eight eightbytes counts as eight
+abbrev pub most-limit : ℕ
+most-limit = 64
+
+-- how many eightbytes a size has, the last perhaps narrower
+abbrev pub eightbytesIn : ℕ → ℕ
+eightbytesIn size = ceilDiv size 8
+
+-- ---- one piece
+
+-- the first and the last eightbyte that it reaches into. Outside the limits its end stops at the largest number of 64 bits, far past any shape
+abbrev pub firstOf : Piece → ℕ
+firstOf p = p .offset / 8
+
+abbrev pub lastOf : Piece → ℕ
+lastOf p = (endOf p - 1) / 8
+
+-- above an alignment of 1, its offset is a multiple of that
+abbrev pub aligned : Piece → Bool
+aligned p = leb (p .align) 1 || eqb (p .offset % p .align) 0
+
+-- its class, by its kind
+abbrev pub kindClass : ℕ → Class
+kindClass kind = cond (eqb kind integer) Integer (cond (eqb kind x87-extended) X87 Sse)
+
+-- the class of its eightbytes after one of this class: those of an Sse piece are SseUp
+abbrev pub later : Class → Class
+later c = cond (same c Sse) SseUp c
+
+-- a class merged into so many eightbytes, from one on
+unfoldable pub cover : List Class → ℕ → Class → ℕ → List Class
+cover cs at c zero = cs
+cover cs at c (suc n) = cover (set cs at (merge (getD cs at None) c)) (at + 1) (later c) n
+
+-- its class merged into each eightbyte that it reaches into
+unfoldable pub mark : List Class → Piece → List Class
+mark cs p = cover cs (firstOf p) (kindClass (p .kind)) (lastOf p + 1 - firstOf p)
+
+-- ---- the classes of a shape
+
+-- what a piece has to do: stand where its alignment asks, and reach past none of so many eightbytes
+unfoldable pub fits : ℕ → Piece → Bool
+fits n p = aligned p && ltb (lastOf p) n
+
+-- the classes after some pieces, none where a piece doesn't fit
+unfoldable pub marked : List Class → List Piece → Option (List Class)
+marked cs [] = some cs
+marked cs (p ∷ ps) = cond (fits (length cs) p) (marked (mark cs p) ps) none
+
+-- X87 or Memory anywhere
+unfoldable pub spoiled : List Class → Bool
+spoiled [] = false
+spoiled (c ∷ cs) = (same c X87 || same c Memory) || spoiled cs
+
+-- after the merge, from the first eightbyte up: SseUp with neither Sse nor SseUp below it is Sse
+abbrev pub mended : Class → Class → Class
+mended below c = cond (same c SseUp && not (same below Sse || same below SseUp)) Sse c
+
+unfoldable pub mend : Class → List Class → List Class
+mend below [] = []
+mend below (c ∷ cs) = mended below c ∷ mend (mended below c) cs
+
+unfoldable pub settled : List Class → Option (List Class)
+settled cs = cond (spoiled cs) none (some (mend None cs))
+
+abbrev pub andThen : Option (List Class) → (List Class → Option (List Class)) → Option (List Class)
+andThen none f = none
+andThen (some cs) f = f cs
+
+-- a class for each eightbyte of the shape, or none: over the limit, a piece that doesn't fit, X87 or Memory
+unfoldable pub classified : ℕ → Shape → List Piece → Option (List Class)
+classified limit shape ps =
+    cond (ltb (min limit most-limit) (shape .size)) none
+    (andThen (marked (replicate (eightbytesIn (shape .size)) None) ps) settled)
+
+-- ---- its slots
+
+-- the format of an Sse eightbyte: Quad with SseUp above it, Single where at most four bytes are left
+abbrev pub formatOf : Bool → ℕ → ℕ
+formatOf up left = cond up quad (cond (leb left 4) single double)
+
+-- the slot of an eightbyte at an offset, with so many bytes left: what is not Sse is an integer, None too
+abbrev pub ownSlot : Class → Bool → ℕ → ℕ → Slot
+ownSlot c up at left = cond (same c Sse) (floatSlot (formatOf up left) at) (integerSlot at (min left 8))
+
+-- SseUp is part of the slot below
+abbrev pub slotOf : Class → Bool → ℕ → ℕ → List Slot
+slotOf c up at left = cond (same c SseUp) [] (ownSlot c up at left ∷ [])
+
+abbrev pub upFirst : List Class → Bool
+upFirst [] = false
+upFirst (c ∷ cs) = same c SseUp
+
+-- the slots of the eightbytes from an offset on
+unfoldable pub slotsFrom : ℕ → ℕ → List Class → List Slot
+slotsFrom at left [] = []
+slotsFrom at left (c ∷ cs) = slotOf c (upFirst cs) at left ++ slotsFrom (at + 8) (left - 8) cs
+
+unfoldable pub slotsFound : ℕ → Option (List Class) → Search
+slotsFound size none = nothing
+slotsFound size (some cs) = found (slotsFrom 0 size cs)
+
+-- the whole search
+unfoldable pub eightbytes : ℕ → Shape → List Piece → Search
+eightbytes limit shape ps = slotsFound (shape .size) (classified limit shape ps)
+
+-- ---- the classes that stand beside the answer
+
+-- eight codes: one for each eightbyte, 0 behind them, all 0 where nothing is found
+unfoldable pub codes : Option (List Class) → List ℕ
+codes none = replicate 8 0
+codes (some cs) = map code cs ++ replicate (8 - length cs) 0
+
+-- the codes of a shape
+unfoldable pub classesOf : ℕ → Shape → List Piece → List ℕ
+classesOf limit shape ps = codes (classified limit shape ps)
+
+-- the slots that some codes stand for, in a shape of this size
+unfoldable pub slotsOf : ℕ → List ℕ → List Slot
+slotsOf size cs = slotsFrom 0 size (take (eightbytesIn size) (map classOf cs))
+
+-- ---- for the code's own functions
+
+-- how many slots some classes have
+unfoldable pub slotsIn : List Class → ℕ
+slotsIn [] = 0
+slotsIn (c ∷ cs) = oneIf (not (same c SseUp)) + slotsIn cs
+
+-- each is the code of a class
+abbrev pub Coded : List ℕ → Type 0
+Coded cs = (i : ℕ) → getD cs i 0 < 6
