@@ -1,0 +1,4 @@
+pub mod Each
+pub mod Tests
+pub mod Finds
+mod Unique
