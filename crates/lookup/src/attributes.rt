@@ -1,0 +1,144 @@
+// Attributes by name: which convention one asks for, and which one asks for a convention.
+ghost use mathlib.Core.Path.{_≡_};
+ghost use mathlib.Core.Option.{some};
+ghost use lib.ListN.{length};
+ghost use Rattle.lookup.specs.Lookup.{codeOf, nameAnswer, nameWritten};
+ghost use Rattle.lookup.specs.Attributes.{askedOnX86, askedOnX86-64, sameBytes};
+ghost use Rattle.lookup.specs.Attributes.{asked as askedOf, attribute as attributeOf};
+ghost use Rattle.lookup.specs.declared.codes.Convention.the-variants.{Regparm};
+use crate::NONE;
+use crate::codes::Architecture;
+use crate::codes::Convention;
+use crate::codes::FASTCALL;
+use crate::codes::MS;
+use crate::codes::NO_CALLEE_SAVED;
+use crate::codes::PRESERVE_NONE;
+use crate::codes::STDCALL;
+use crate::codes::SYSV;
+use crate::codes::System;
+use crate::codes::TARGET;
+use crate::codes::is_elf;
+use crate::codes::is_windows;
+
+// What writing a name answers: a refusal or 0, and the number of bytes written or NONE.
+pub struct Written {
+    pub refusal: u64,
+    pub length: u64,
+}
+
+const NO_ROOM: u64 = 7;
+
+pub fn asked(architecture: Architecture, system: System, name: &[u8]) -> u64
+    ensures { λ r. ⌜ r ≡ codeOf (askedOf architecture system (now (name .entry))) ⌝ }
+{
+    match architecture {
+        Architecture::X86_64 => asked_on_x86_64(system, name),
+        Architecture::X86 => asked_on_x86(name),
+        Architecture::Aarch64 => NONE,
+        Architecture::Riscv64 => NONE,
+        Architecture::Other => NONE,
+    }
+}
+
+// A convention that the target follows already is the target's own.
+fn asked_on_x86_64(system: System, name: &[u8]) -> u64
+    ensures { λ r. ⌜ r ≡ codeOf (askedOnX86-64 system (now (name .entry))) ⌝ }
+{
+    let elf = is_elf(system);
+    if same(name, b"no_callee_saved_registers") & elf {
+        return NO_CALLEE_SAVED;
+    }
+    if same(name, b"preserve_none") & elf {
+        return PRESERVE_NONE;
+    }
+    if same(name, b"ms_abi") {
+        return if is_windows(system) { TARGET } else { MS };
+    }
+    if same(name, b"sysv_abi") {
+        return if is_windows(system) { SYSV } else { TARGET };
+    }
+    NONE
+}
+
+fn asked_on_x86(name: &[u8]) -> u64
+    ensures { λ r. ⌜ r ≡ codeOf (askedOnX86 (now (name .entry))) ⌝ }
+{
+    if same(name, b"stdcall") {
+        return STDCALL;
+    }
+    if same(name, b"fastcall") {
+        return FASTCALL;
+    }
+    if same(name, b"cdecl") {
+        return TARGET;
+    }
+    NONE
+}
+
+fn same(name: &[u8], text: &[u8]) -> bool
+    ensures { λ r. ⌜ r ≡ sameBytes (now (name .entry)) (now (text .entry)) ⌝ }
+{
+    if name.len() != text.len() {
+        return false;
+    }
+    let mut i = 0;
+    while i < name.len() {
+        if name[i] != text[i] {
+            return false;
+        }
+        i += 1;
+    }
+    true
+}
+
+pub fn write_attribute(convention: Convention, out: &mut [u8]) -> Written
+    ensures { λ r. ⌜ (r ≡ nameAnswer (attributeOf convention) (length (now (out .entry)))) × (now (out .exit) ≡ nameWritten (attributeOf convention) (now (out .entry))) ⌝ }
+{
+    match convention {
+        Convention::Target => Written {
+            refusal: 0,
+            length: NONE,
+        },
+        Convention::Ms => write(b"ms_abi", out),
+        Convention::Sysv => write(b"sysv_abi", out),
+        Convention::Stdcall => write(b"stdcall", out),
+        Convention::Fastcall => write(b"fastcall", out),
+        Convention::Regparm(n) => write_regparm(n, out),
+        Convention::NoCalleeSaved => write(b"no_callee_saved_registers", out),
+        Convention::PreserveNone => write(b"preserve_none", out),
+    }
+}
+
+// No attribute names more than three registers, so a greater number has the name of three.
+fn write_regparm(n: u64, out: &mut [u8]) -> Written
+    ensures { λ r. ⌜ (r ≡ nameAnswer (attributeOf (Regparm n)) (length (now (out .entry)))) × (now (out .exit) ≡ nameWritten (attributeOf (Regparm n)) (now (out .entry))) ⌝ }
+{
+    match n {
+        0 => write(b"regparm(0)", out),
+        1 => write(b"regparm(1)", out),
+        2 => write(b"regparm(2)", out),
+        _ => write(b"regparm(3)", out),
+    }
+}
+
+// Writes a name to the front of `out`, where it fits.
+fn write(name: &[u8], out: &mut [u8]) -> Written
+    ensures { λ r. ⌜ (r ≡ nameAnswer (some (now (name .entry))) (length (now (out .entry)))) × (now (out .exit) ≡ nameWritten (some (now (name .entry))) (now (out .entry))) ⌝ }
+{
+    let n = name.len();
+    if n > out.len() {
+        return Written {
+            refusal: NO_ROOM,
+            length: 0,
+        };
+    }
+    let mut at = 0;
+    while at < n {
+        out[at] = name[at];
+        at += 1;
+    }
+    Written {
+        refusal: 0,
+        length: n as u64,
+    }
+}
