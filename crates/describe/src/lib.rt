@@ -6,6 +6,7 @@ ghost use Rattle.describe.specs.Questions.{isByReference, returnsByRefer
 pub mod codes;
 mod row;
 
+pub use row::RULES;
 pub use row::WIDTH;
 pub use row::argument_rule;
 pub use row::banks_of;

@@ -32,7 +32,8 @@ const RETURNS: usize = 8;
 
 const ARGUMENTS: usize = 20;
 
-const RULES: u64 = 4;
+// The rules that a row holds for each list, at most.
+pub const RULES: u64 = 4;
 
 // Rule `i` for returns. A walk begins at 0 and goes on from one rule to the next; past the end stands a rule that ignores anything.
 pub fn return_rule(row: [u8; WIDTH], i: u64) -> Rule
