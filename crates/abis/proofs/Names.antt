@@ -1,41 +1,73 @@
--- Copying a name to the front of a buffer: a turn of the loop copies one byte more, and the last leaves what the buffer is to hold.
+-- Names: what a number's entries in the two tables say, and copying a name to the front of a buffer, one byte more in each turn.
 use mathlib.Core.Path.{_≡_, refl, sym, ap, _∙_}
-use mathlib.Core.Bool.{false}
-use mathlib.Core.List.{List, _++_}
-use Prim.Native.Nat.{ℕ, _+_, _<_, _≤_}
+use mathlib.Core.List.{List, _++_, map}
+use Prim.Native.Nat.{ℕ, _+_, _-_, _<_, _≤_}
 use native.Mathlib.Nat.{zero-add}
 use native.Mathlib.Numerals.{add-one}
 use native.Mathlib.Omega.{arith}
-use lib.ListN.{length, getD, set, drop}
-use lib.Dec.{leb}
-use borrow.Author.Tests.{le-leb}
-use lib.Seq.{paste, paste-suc, take-length}
+use borrow.Author.Tests.{le-leb, lt-leb, lt-ltb, le-ltb}
+use lib.Dec.{leb, leb→le}
+use lib.ListN.{length, getD, set, take, replicate, length-append}
+use lib.Seq.{paste, paste-suc, length-take-le, take-append-seam}
+use Rattle.describe.specs.Description.{Description}
 use Rattle.abis.specs.declared.naming.Named.{Named}
-use Rattle.abis.specs.Abis.{described}
+use Rattle.abis.specs.Abis.{described, descriptions, blank}
 use Rattle.abis.specs.Answers.{putAnswer, putWritten, nameAnswer, nameWritten}
+use Rattle.abis.proofs.Every.{anywhere}
+use Rattle.abis.proofs.Rows.{indexed}
+
+-- a name with blanks behind it, and the name again, cut at its length
+abbrev pub padded : Description → List ℕ
+padded D = D .name ++ replicate (48 - length (D .name)) 32
+
+abbrev pub nameLength : Description → ℕ
+nameLength D = length (D .name)
+
+pub length-fits : (d : ℕ) → length (described d .name) ≤ 48
+unfolding described descriptions
+length-fits d = leb→le (length (described d .name)) 48 (anywhere (λ (D : Description). leb (nameLength D) 48) descriptions blank tt tt d)
+
+module _ (names : List (List ℕ)) (other : List ℕ) (lengths : List ℕ) (e : names ≡ map padded descriptions) (f : lengths ≡ map nameLength descriptions) (d : ℕ) (h : d < 30) where
+  pub length-there : (getD lengths d 0 ≤ 48) × (getD lengths d 0 ≤ length (getD names d other))
+  length-there =
+      rw (indexed nameLength lengths 0 f d h, indexed padded names other e d h, length-append (described d .name) (replicate (48 - length (described d .name)) 32))
+      (length-fits d, omega arith)
+
+  pub name-there : take (getD lengths d 0) (getD names d other) ≡ described d .name
+  name-there =
+      rw (indexed nameLength lengths 0 f d h, indexed padded names other e d h)
+      (take-append-seam (described d .name) (replicate (48 - length (described d .name)) 32))
 
 -- the buffer with the first n bytes of a name at its front
 abbrev pub filled : List ℕ → List ℕ → ℕ → List ℕ
 filled out name n = paste out 0 name n
 
-module _ (out name : List ℕ) (room : length name ≤ length out) where
-  pub filled-more : (n : ℕ) → n < length name → set (filled out name n) n (getD name n 0) ≡ filled out name (n + 1)
-  filled-more n h =
-      let inside : 0 + n < length out = omega arith in
-      let same : 0 + n ≡ n = omega arith in
-      ap (λ (k : ℕ). set (filled out name n) k (getD name n 0)) (sym same) ∙ (paste-suc out 0 name n 0 inside h ∙ ap (filled out name) (sym (add-one n)))
+pub filled-more : (out name : List ℕ) (n : ℕ) → n < length out → n < length name → set (filled out name n) n (getD name n 0) ≡ filled out name (n + 1)
+filled-more out name n room h =
+    let inside : 0 + n < length out = omega arith in
+    let same : 0 + n ≡ n = omega arith in
+    ap (λ (k : ℕ). set (filled out name n) k (getD name n 0)) (sym same)
+    ∙ (paste-suc out 0 name n 0 inside h ∙ ap (filled out name) (sym (add-one n)))
 
-  pub filled-whole : filled out name (length name) ≡ name ++ drop (length name) out
-  filled-whole = rw (take-length, zero-add)
+-- what `put` promises, where the bytes fit and where they don't
+module _ (out name : List ℕ) (n : ℕ) (enough : n ≤ length name) where
+  pub put-refused : length out < n →
+      (_≡_ {A = Named} (record { refusal = 7; length = 0 }) (putAnswer (take n name) (length out))) × (out ≡ putWritten (take n name) out)
+  unfolding putAnswer putWritten
+  put-refused h = rw (length-take-le n name enough, lt-ltb (length out) n h) (refl, refl)
 
--- The name of a number, where a `match` found its bytes.
-pub named : (k d : ℕ) (out out′ : List ℕ) (r : Named) → leb 30 k ≡ false → d ≡ k →
-    (r ≡ putAnswer (described k .name) (length out)) × (out′ ≡ putWritten (described k .name) out) →
-    (r ≡ nameAnswer d (length out)) × (out′ ≡ nameWritten d out)
-unfolding nameAnswer nameWritten
-named k d out out′ r below e p = rw (e, below) p
+  pub put-done : n ≤ length out →
+      (_≡_ {A = Named} (record { refusal = 0; length = n }) (putAnswer (take n name) (length out))) × (filled out name n ≡ putWritten (take n name) out)
+  unfolding putAnswer putWritten
+  put-done h = rw (length-take-le n name enough, le-ltb (length out) n h, zero-add n) (refl, refl)
 
+-- what `name` promises, by the number
 pub unnamed : (d : ℕ) (out : List ℕ) → 30 ≤ d →
     (_≡_ {A = Named} (record { refusal = 1; length = 0 }) (nameAnswer d (length out))) × (out ≡ nameWritten d out)
 unfolding nameAnswer nameWritten
 unnamed d out h = rw (le-leb 30 d h) (refl, refl)
+
+pub named : (d : ℕ) (out out′ : List ℕ) (r : Named) (bytes : List ℕ) → d < 30 → bytes ≡ described d .name →
+    (r ≡ putAnswer bytes (length out)) × (out′ ≡ putWritten bytes out) → (r ≡ nameAnswer d (length out)) × (out′ ≡ nameWritten d out)
+unfolding nameAnswer nameWritten
+named d out out′ r bytes h e p = rw (lt-leb 30 d h, ← e) p

@@ -7,7 +7,7 @@ use native.Mathlib.Nat.{le-of-suc-le-suc, not-suc-le-zero}
 use lib.Dec.{T}
 use lib.ListN.{length, getD, List·getD-map, List·getD-eq-default}
 use Rattle.describe.specs.declared.Others.{Others}
-use Rattle.describe.specs.Description.{past, others}
+use Rattle.describe.specs.Description.{Description, past, others}
 use Rattle.describe.specs.Row.{encode, decode, held, returnRule, argumentRule, banksOf, scalarsOf, othersOf, returnPointerOf, variadicOf}
 use Rattle.describe.proofs.Inverse.{return-rule-back, argument-rule-back, banks-back, scalars-back, others-back, decode-back}
 use Rattle.abis.specs.Abis.{described, descriptions, blank}
@@ -51,14 +51,14 @@ pub past-last : (d : ℕ) → 30 ≤ d → encode blank ≡ encode (described d)
 unfolding described descriptions
 past-last d h = ap encode (sym (List·getD-eq-default descriptions blank h))
 
--- The row of a number, where it was read from a table that holds the code of each description.
+-- What stands at a number in a table that holds a part of each description.
 inside : {A : Type 0} (xs : List A) (a b : A) (k : ℕ) → k < length xs → getD xs k a ≡ getD xs k b
 inside [] a b k h = absurd (not-suc-le-zero h)
 inside (x ∷ xs) a b zero h = refl
 inside (x ∷ xs) a b (suc k) h = inside xs a b k (le-of-suc-le-suc h)
 
-pub indexed : (table : List (List ℕ)) (other : List ℕ) → table ≡ map encode descriptions → (d : ℕ) → d < 30 → getD table d other ≡ encode (described d)
+pub indexed : {A : Type 0} (f : Description → A) (table : List A) (other : A) → table ≡ map f descriptions → (d : ℕ) → d < 30 → getD table d other ≡ f (described d)
 unfolding described descriptions
-indexed table other e d h =
-    ap (λ (rows : List (List ℕ)). getD rows d other) e
-    ∙ (inside (map encode descriptions) other (encode blank) d h ∙ List·getD-map encode descriptions d blank)
+indexed {A} f table other e d h =
+    ap (λ (entries : List A). getD entries d other) e
+    ∙ (inside (map f descriptions) other (f blank) d h ∙ List·getD-map f descriptions d blank)

@@ -1,33 +1,30 @@
--- `put` copies a name that fits byte by byte: before each turn the buffer has the bytes so far at its front. The measure is what is left of the name.
+-- `put` copies bytes that fit one by one: before each turn the buffer has those so far at its front. The measure is what is left of them.
 use mathlib.Core.Path.{_≡_, refl, _∙_, ap}
 use mathlib.Core.List.{List}
 use Prim.Native.Nat.{ℕ, _≤_, _-_}
 use native.Mathlib.Omega.{arith}
 use borrow.Author.Needs.{needs}
-use borrow.Author.Tests.{lt-ltb, le-ltb}
 use lib.ListN.{length, getD, set, length-set}
-use denote.Ref.{now}
 use lib.Seq.{paste-zero}
-use Rattle.abis.specs.Answers.{putAnswer, putWritten}
-use Rattle.abis.proofs.Names.{filled, filled-more, filled-whole}
+use denote.Ref.{now}
+use Rattle.abis.proofs.Names.{filled, filled-more, put-refused, put-done}
 use Rattle.abis.proofs.naming.put.Statement.{statement}
 use Rattle.abis.proofs.naming.put.Tie as tie
 
 abbrev Inv-loop : tie.InvT-loop
-Inv-loop name out₀ i₀ out i = (i ≤ length name) × (length out ≡ length out₀) × (out ≡ filled out₀ name i)
+Inv-loop count out₀ name n i₀ out i = (i ≤ count) × (length out ≡ length out₀) × (out ≡ filled out₀ name i)
 
 abbrev μ-loop : tie.MeasureT-loop
-μ-loop name out₀ i₀ out i = length name - i
+μ-loop count out₀ name n i₀ out i = count - i
 
 returns : tie.Need-returns Inv-loop μ-loop
-unfolding putAnswer putWritten
-returns c = (rw (lt-ltb _ _ (c .if1 .taken)), rw (lt-ltb _ _ (c .if1 .taken)))
+returns c = put-refused (now (c .before .args .out)) (c .before .args .t1) (c .before .args .count) (c .before .pre .1) (c .if1 .taken)
 
 loop-holds : tie.Need-loop-holds Inv-loop μ-loop
-loop-holds c = (search needs, refl, paste-zero (now (c .before .args .out)) 0 (now (c .before .args .name)))
+loop-holds c = (search needs, refl, paste-zero (now (c .before .args .out)) 0 (c .before .args .t1))
 
-shared-slice-read-out : tie.Need-shared-slice-read-out Inv-loop μ-loop
-shared-slice-read-out c = search needs
+array-read-out : tie.Need-array-read-out Inv-loop μ-loop
+array-read-out c = search needs
 
 slice-write-out : tie.Need-slice-write-out Inv-loop μ-loop
 slice-write-out c = search needs
@@ -40,26 +37,25 @@ loop-less c = search needs
 
 loop-again : tie.Need-loop-again Inv-loop μ-loop
 loop-again c =
-    let start = c .before .before .before .before .args in
-    let loop = c .before .before .loop in (
+    let start = c .before .before .before .args in
+    let loop = c .before .loop in (
       search needs,
       length-set (loop .out) (loop .i) _ ∙ loop .inv .1,
-      ap (λ (bytes : List ℕ). set bytes (loop .i) (getD (now (start .name)) (loop .i) 0)) (loop .inv .2) ∙ filled-more (now (start .out)) (now (start .name)) (search needs) (loop .i) (search needs),
+      ap (λ (bytes : List ℕ). set bytes (loop .i) (getD (start .t1) (loop .i) 0)) (loop .inv .2)
+          ∙ filled-more (now (start .out)) (start .t1) (loop .i) (search needs) (search needs),
     )
 
 same-length : tie.Need-same-length Inv-loop μ-loop
 same-length c = c .before .loop .inv .1
 
 returns-2 : tie.Need-returns-2 Inv-loop μ-loop
-unfolding putAnswer putWritten
 returns-2 c =
     let start = c .before .before .before .args in
     let loop = c .before .loop in
-    let room : length (now (start .name)) ≤ length (now (start .out)) = omega arith in
-    let whole : loop .i ≡ length (now (start .name)) = omega arith in (
-      rw (le-ltb _ _ room, whole),
-      rw (le-ltb _ _ room) (loop .inv .2 ∙ (ap (filled (now (start .out)) (now (start .name))) whole ∙ filled-whole (now (start .out)) (now (start .name)) room)),
-    )
+    let room : start .count ≤ length (now (start .out)) = omega arith in
+    let whole : loop .i ≡ start .count = omega arith in
+    let done = put-done (now (start .out)) (start .t1) (start .count) (c .before .before .before .pre .1) room in
+    (done .0, loop .inv .2 ∙ (ap (filled (now (start .out)) (start .t1)) whole ∙ done .1))
 
 pub put-spec : {M : Type 1} → statement M
 put-spec =
@@ -69,7 +65,7 @@ put-spec =
     μ-loop
     returns
     loop-holds
-    shared-slice-read-out
+    array-read-out
     slice-write-out
     add-i
     loop-less
