@@ -78,7 +78,7 @@ pub const X87_IN_MEMORY: u8 = 3;
 
 pub const RETURNS_IN_QUAD: u8 = 32;
 
-// What the callee of a call is told: the return pointer, and what arguments after the dots do.
+// Where the return pointer travels, and what arguments after the dots do.
 pub const FIRST_ARGUMENT: u8 = 0;
 
 pub const FIRST_ARGUMENT_POPPED: u8 = 1;
@@ -95,7 +95,7 @@ pub const INTEGERS_ONLY: u8 = 12;
 
 pub const UNNAMED_INTEGERS: u8 = 16;
 
-// What classification reads least: stack arguments, narrow integers, bit-precise integers, cleanup.
+// Stack arguments, narrow integers, bit-precise integers, cleanup.
 pub const REGISTER_SIZED: u8 = 0;
 
 pub const PACKED: u8 = 1;
