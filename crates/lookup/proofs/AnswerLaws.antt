@@ -1,9 +1,8 @@
 -- From codes to answers, each law with the tests and the calls' answers as its premises: an unknown code ends a lookup, a known one decodes. Assumes nothing.
 use Prim.Native.Nat.{ℕ}
-use mathlib.Core.Path.{_≡_, sym, _∙_}
+use mathlib.Core.Path.{_≡_}
 use mathlib.Core.List.{List}
 use mathlib.Core.Bool.{Bool, true, false, not}
-use lib.ListN.{length}
 use Rattle.lookup.specs.Codes.{isTarget, isConvention, architectureOf, systemOf, conventionOf}
 use Rattle.lookup.specs.Rows.{forTarget, forConvention}
 use Rattle.lookup.specs.Attributes.{asked, attribute}

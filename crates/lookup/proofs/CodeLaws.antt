@@ -4,7 +4,7 @@ use mathlib.Core.Path.{_≡_, refl, ap, sym, _∙_}
 use mathlib.Core.Bool.{Bool, true, false, not, _&&_, _||_, and-false}
 use native.Mathlib.Omega.{arith}
 use borrow.Author.Tests.{leb-true, lt-leb, ne-eqb, not-false, not-true}
-use lib.Dec.{leb, eqb}
+use lib.Dec.{eqb}
 use lib.ListN.{List·getD-eq-default}
 use Rattle.lookup.specs.Codes.{isConvention, architectures, systems, conventions, architectureOf, systemOf, conventionOf, conventionCode}
 use Rattle.lookup.specs.Lookup.{noneNumber, popsAnswer}

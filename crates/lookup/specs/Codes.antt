@@ -19,7 +19,8 @@ isTarget architecture system = leb architecture 4 && leb system 3
 abbrev pub isConvention : ℕ → Bool
 isConvention code = leb code 6 || (leb 256 code && leb code 511)
 
--- in the order of their codes, from 0
+-- in the order of their codes, from 0; the next code of an architecture or a system stands for every other, and codes from 256 on for
+-- regparm
 abbrev pub architectures : List Architecture
 architectures = X86 ∷ «X86_64» ∷ Aarch64 ∷ Riscv64 ∷ []
 

@@ -1,6 +1,6 @@
 // The codes of architectures, systems and conventions, and what each stands for.
 ghost use mathlib.Core.Path.{_≡_};
-ghost use mathlib.Core.Bool.{true};
+ghost use Prim.Native.Nat.{_-_};
 ghost use Rattle.lookup.specs.Codes.{isTarget, isConvention, architectureOf, systemOf, conventionOf, isWindows, isElf};
 
 pub enum Architecture {
@@ -102,7 +102,6 @@ pub fn system_of(code: u64) -> System
 }
 
 pub fn convention_of(code: u64) -> Convention
-    requires { ⌜ isConvention code ≡ true ⌝ }
     ensures { λ r. ⌜ r ≡ conventionOf code ⌝ }
 {
     match code {
@@ -113,8 +112,15 @@ pub fn convention_of(code: u64) -> Convention
         FASTCALL => Convention::Fastcall,
         NO_CALLEE_SAVED => Convention::NoCalleeSaved,
         PRESERVE_NONE => Convention::PreserveNone,
-        _ => Convention::Regparm(code - REGPARM),
+        _ => Convention::Regparm(minus(code, REGPARM)),
     }
+}
+
+// What is left of `a` without `b`, 0 where `b` is more: no known code is.
+fn minus(a: u64, b: u64) -> u64
+    ensures { λ r. ⌜ r ≡ a - b ⌝ }
+{
+    if a < b { 0 } else { a - b }
 }
 
 pub fn is_windows(system: System) -> bool

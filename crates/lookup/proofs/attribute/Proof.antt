@@ -1,5 +1,4 @@
 -- `attribute` meets its contract: an unknown code answers none and writes nothing, a known one as its convention does.
-use Rattle.lookup.proofs.CodeLaws.{known}
 use Rattle.lookup.proofs.AnswerLaws.{attribute-unknown, attribute-unwritten, attribute-known, attribute-written}
 use borrow.Author.Needs.{needs}
 use Rattle.lookup.proofs.attribute.Statement.{statement}
@@ -7,9 +6,6 @@ use Rattle.lookup.proofs.attribute.Tie as tie
 
 returns : tie.Need-returns
 returns c = (search (attribute-unknown), search (attribute-unwritten))
-
-convention-of-requires : tie.Need-convention-of-requires
-convention-of-requires c κs = search (known)
 
 returns-2 : tie.Need-returns-2
 returns-2 c = (search (attribute-known), search (attribute-written))
@@ -20,7 +16,7 @@ attribute-spec =
     (tie.spec
     (λ c κs. search needs)
     returns
-    convention-of-requires
+    (λ c κs. search needs)
     (λ c κs. search needs)
     (λ c. search needs)
     returns-2)

@@ -1,5 +1,4 @@
 -- `for_convention` meets its contract: an unknown code answers none, and known ones the row of what they stand for.
-use Rattle.lookup.proofs.CodeLaws.{known}
 use Rattle.lookup.proofs.AnswerLaws.{convention-off-target, convention-unknown, convention-known}
 use borrow.Author.Needs.{needs}
 use Rattle.lookup.proofs.for_convention.Statement.{statement}
@@ -10,9 +9,6 @@ returns c = search (convention-off-target)
 
 returns-2 : tie.Need-returns-2
 returns-2 c = search (convention-unknown)
-
-convention-of-requires : tie.Need-convention-of-requires
-convention-of-requires c κs = known (c .before .is-convention .ensures) (c .if2 .left)
 
 returns-3 : tie.Need-returns-3
 returns-3 c = search (convention-known)
@@ -25,7 +21,7 @@ for-convention-spec =
     returns
     (λ c κs. search needs)
     returns-2
-    convention-of-requires
+    (λ c κs. search needs)
     (λ c κs. search needs)
     (λ c κs. search needs)
     (λ c κs. search needs)

@@ -1,8 +1,9 @@
--- `convention_of` meets its contract: each named code by its arm, and any other known code is one of regparm's.
+-- `convention_of` meets its contract: each named code by its arm, and any other is above the names.
 use Prim.Native.Nat.{_≤_}
 use native.Mathlib.Omega.{arith}
+use borrow.Author.Needs.{needs}
 use Rattle.lookup.specs.Codes.{conventionOf}
-use Rattle.lookup.proofs.CodeLaws.{regparm-convention, regparm-code}
+use Rattle.lookup.proofs.CodeLaws.{regparm-convention}
 use Rattle.lookup.proofs.codes.convention_of.Statement.{statement}
 use Rattle.lookup.proofs.codes.convention_of.Tie as tie
 
@@ -10,9 +11,6 @@ above : (c : tie.At-match-rest) → 7 ≤ c .before .args .code
 above c =
     let four : 4 ≤ c .before .args .code = omega (arith, c .match .rest .0 .0 .0) in
     omega (arith, c .match .rest .1, c .match .rest .0 .1, c .match .rest .0 .0 .1)
-
-sub-t3 : tie.Need-sub-t3
-sub-t3 c = omega (arith, regparm-code (c .before .args .code) (above c) (c .before .pre))
 
 returns : tie.Need-returns
 unfolding conventionOf
@@ -43,9 +41,9 @@ unfolding conventionOf
 returns-7 c = rw (c .match .keys7)
 
 returns-8 : tie.Need-returns-8
-returns-8 c = regparm-convention (c .before .args .code) (above c)
+returns-8 c = rw (c .minus .ensures) (regparm-convention (c .before .before .args .code) (above (c .before)))
 
 pub convention-of-spec : {M : Type 1} → statement M
 convention-of-spec =
     tie.close
-    (tie.spec sub-t3 returns returns-2 returns-3 returns-4 returns-5 returns-6 returns-7 returns-8)
+    (tie.spec (λ c κs. search needs) returns returns-2 returns-3 returns-4 returns-5 returns-6 returns-7 returns-8)
