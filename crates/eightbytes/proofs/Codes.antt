@@ -1,6 +1,6 @@
 -- Lists of codes and the lists of their classes. Assumes nothing.
-use Prim.Native.Nat.{ℕ, zero, suc, _≤_, _<_}
-use mathlib.Core.Path.{_≡_, refl, sym, ap, ap₂, subst, _∙_}
+use Prim.Native.Nat.{ℕ, zero, suc, _<_}
+use mathlib.Core.Path.{_≡_, refl, sym, ap, ap₂, subst}
 use mathlib.Core.List.{List, [], _∷_, map}
 use native.Mathlib.Omega.{arith}
 use lib.ListN.{length, getD, set, take, drop, replicate, List·getD-map}
@@ -22,14 +22,6 @@ pub map-drop : {A B : Type 0} (f : A → B) (n : ℕ) (l : List A) → map f (dr
 map-drop f zero l = refl
 map-drop f (suc n) [] = refl
 map-drop f (suc n) (x ∷ xs) = map-drop f n xs
-
-pub length-map : {A B : Type 0} (f : A → B) (l : List A) → length (map f l) ≡ length l
-length-map f [] = refl
-length-map f (x ∷ xs) = ap suc (length-map f xs)
-
-pub map-replicate : {A B : Type 0} (f : A → B) (n : ℕ) (a : A) → map f (replicate n a) ≡ replicate n (f a)
-map-replicate f zero a = refl
-map-replicate {B = B} f (suc n) a = ap {B = List B} (λ r. f a ∷ r) (map-replicate f n a)
 
 -- to codes and back
 pub classes-codes : (cs : List Class) → map classOf (map code cs) ≡ cs

@@ -1,25 +1,24 @@
 -- The pass after the merge: what is done and what is left decide the classes and the counts. Assumes nothing.
-use Prim.Native.Nat.{ℕ, zero, suc, _+_, _-_, _≤_, _<_, min}
-use mathlib.Core.Path.{_≡_, refl, sym, ap, ap₂, _∙_}
-use mathlib.Core.Bool.{Bool, true, false, cond, not, _&&_, _||_}
+use Prim.Native.Nat.{ℕ, _+_, _-_, _≤_, _<_, min}
+use mathlib.Core.Path.{_≡_, refl, sym, ap₂, _∙_}
+use mathlib.Core.Bool.{Bool, true, false, cond, not}
 use mathlib.Core.List.{List, [], _∷_, _++_, map, append-assoc, append-nil}
-use mathlib.Core.Option.{Option}
 use mathlib.Core.Option.Option.{none, some}
 use native.Mathlib.Omega.{arith}
 use native.Mathlib.Numerals.{add-one}
 use native.Mathlib.Nat.{add-zero}
 use lib.Dec.{eqb, leb}
-use lib.ListN.{length, getD, set, take, drop, replicate, length-set, length-take, length-append, take-append-drop}
-use lib.Seq.{take-suc-set, drop-set-lt}
+use lib.ListN.{length-map, length, getD, set, take, drop, replicate, length-take, take-append-drop}
+use lib.Seq.{take-suc-set}
 use Rattle.shape.specs.Questions.{isFloat}
 use Rattle.slots.specs.declared.Slot.{Slot}
 use Rattle.slots.specs.declared.Found.{Found}
 use Rattle.slots.specs.declared.Found.the-variants.{Slots, Nothing}
 use Rattle.slots.specs.Search.{oneIf, floatsIn, foundOf}
 use Rattle.eightbytes.specs.Class.{Class, None, Integer, Sse, SseUp, X87, Memory, code, classOf, same}
-use Rattle.eightbytes.specs.Eightbytes.{most-limit, eightbytesIn, spoiled, mended, mend, settled, formatOf, ownSlot, slotOf, upFirst, slotsFrom, slotsFound, codes, slotsIn, Coded}
-use Rattle.eightbytes.proofs.Class.{class-code, code-class, sse-code, up-code, mended-low, mended-high, coded-lt}
-use Rattle.eightbytes.proofs.Codes.{map-set, map-take, codes-classes, coded-set, length-map}
+use Rattle.eightbytes.specs.Eightbytes.{most-limit, eightbytesIn, spoiled, mended, mend, settled, ownSlot, slotOf, upFirst, slotsFrom, slotsFound, codes, slotsIn, Coded}
+use Rattle.eightbytes.proofs.Class.{class-code, sse-code, up-code, mended-low, mended-high}
+use Rattle.eightbytes.proofs.Codes.{map-set, map-take, codes-classes}
 use Rattle.eightbytes.proofs.Rest.{rest, rest-step, rest-set, rest-end}
 
 -- how many of some classes are the lower half of a float's slot
@@ -82,7 +81,7 @@ module _ (xs : List ℕ) (n i below : ℕ) (h : i < n) (l : n ≤ length xs) (cl
   pub mend-turn : (all : List Class) → all ≡ take i (map classOf xs) ++ mend (classOf below) (rest xs n i)
       → all ≡ take (i + 1) (map classOf (set xs i class)) ++ mend (classOf class) (rest (set xs i class) n (i + 1))
   mend-turn all a =
-      let m : length (map classOf xs) ≡ length xs = length-map (classOf) xs in
+      let m : length (map classOf xs) ≡ length xs = length-map xs classOf in
       let t : take (i + 1) (map classOf (set xs i class)) ≡ take i (map classOf xs) ++ (classOf class ∷ []) =
       rw (map-set, add-one) (take-suc-set (map classOf xs) i (classOf class) (omega arith)) in
       rw (a, mend-step, t, rest-set xs n i class h, append-assoc)

@@ -1,6 +1,6 @@
 -- The whole search, from what its parts found, and what its users learn: its slots are those of the classes beside it, and how many there can be.
 -- Assumes nothing.
-use Prim.Native.Nat.{ℕ, zero, suc, _+_, _-_, _/_, _≤_, _<_, min}
+use Prim.Native.Nat.{ℕ, suc, _+_, _-_, _≤_, _<_, min}
 use mathlib.Core.Path.{_≡_, refl, sym, ap, _∙_}
 use mathlib.Core.Bool.{Bool, true, false, cond, not}
 use mathlib.Core.List.{List, [], _∷_, _++_, map, map-append}
@@ -15,12 +15,12 @@ use Rattle.shape.specs.declared.Piece.{Piece}
 use Rattle.shape.specs.declared.Shape.{Shape}
 use Rattle.slots.specs.declared.Slot.{Slot}
 use Rattle.slots.specs.declared.Found.{Found}
-use Rattle.slots.specs.declared.Found.the-variants.{Slots, Nothing}
-use Rattle.slots.specs.Search.{Search, found, nothing, oneIf, foundOf}
+use Rattle.slots.specs.declared.Found.the-variants.{Nothing}
+use Rattle.slots.specs.Search.{found, oneIf, foundOf}
 use Rattle.eightbytes.specs.Class.{Class, None, SseUp, code, classOf, same}
 use Rattle.eightbytes.specs.Eightbytes.{most-limit, eightbytesIn, mark, fits, marked, spoiled, mend, settled, andThen, classified, slotsFrom, slotsFound, eightbytes, codes, classesOf, slotsOf, slotsIn}
 use Rattle.eightbytes.proofs.Marks.{mark-length}
-use Rattle.eightbytes.proofs.Codes.{classes-codes, length-map}
+use Rattle.eightbytes.proofs.Codes.{classes-codes}
 use Rattle.eightbytes.proofs.Counts.{slots-length}
 
 -- ---- from the parts: `o` is what is known of the classes

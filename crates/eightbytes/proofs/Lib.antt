@@ -5,4 +5,5 @@ pub mod Rest
 pub mod Counts
 pub mod Put
 pub mod Found
+pub mod At
 mod Unique

@@ -1,24 +1,24 @@
 -- Marking pieces: one turn of each loop, and that what happens to the shape's own eightbytes happens to the first of the eight. Assumes nothing.
-use Prim.Native.Nat.{ℕ, zero, suc, _+_, _-_, _/_, _≤_, _<_, min}
+use Prim.Native.Nat.{ℕ, zero, suc, _+_, _-_, _/_, _≤_, _<_}
 use mathlib.Core.Path.{_≡_, refl, sym, ap, _∙_}
-use mathlib.Core.Bool.{Bool, true, false, cond, not, _&&_, false≢true}
-use mathlib.Core.List.{List, [], _∷_, map}
+use mathlib.Core.Bool.{Bool, true, false, not, _&&_, false≢true}
+use mathlib.Core.List.{List, _∷_, map}
 use mathlib.Core.Option.{Option}
 use mathlib.Core.Option.Option.{none, some}
 use native.Mathlib.Omega.{arith}
 use native.Mathlib.Nat.{sub-zero}
 use borrow.Author.Tests.{ltb-true, not-true, not-false}
 use lib.Dec.{ltb}
-use lib.ListN.{length, getD, set, take, drop, replicate, length-set, length-take}
+use lib.ListN.{length-map, length, getD, set, take, drop, replicate, length-set, length-take}
 use lib.Seq.{getD-take, take-set-lt, drop-set-lt}
 use Rattle.shape.specs.declared.Piece.{Piece}
 use Rattle.shape.specs.Questions.{endOf}
 use Rattle.shape.specs.Words.{piecesOf, pieceAt}
 use Rattle.shape.proofs.Words.{pieces-step, pieces-end}
 use Rattle.eightbytes.specs.Class.{Class, None, code, classOf, merge}
-use Rattle.eightbytes.specs.Eightbytes.{firstOf, lastOf, aligned, kindClass, later, cover, mark, fits, marked, Coded}
+use Rattle.eightbytes.specs.Eightbytes.{lastOf, aligned, kindClass, later, cover, mark, fits, marked, Coded}
 use Rattle.eightbytes.proofs.Class.{class-code}
-use Rattle.eightbytes.proofs.Codes.{map-set, map-drop, length-map, class-at, codes-classes, classes-codes}
+use Rattle.eightbytes.proofs.Codes.{map-set, map-drop, class-at, codes-classes, classes-codes}
 
 -- ---- the loop over the eightbytes of a piece
 

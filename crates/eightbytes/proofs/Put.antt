@@ -1,23 +1,22 @@
 -- The slots of the eightbytes that are left, and the words that they put behind those before. Assumes nothing.
-use Prim.Native.Nat.{ℕ, suc, _+_, _-_, _*_, _/_, _≤_, _<_, min}
-use mathlib.Core.Path.{_≡_, refl, sym, ap, _∙_}
-use mathlib.Core.Bool.{Bool, true, false, cond, not}
+use Prim.Native.Nat.{ℕ, _+_, _-_, _*_, _/_, _≤_, _<_, min}
+use mathlib.Core.Path.{_≡_, sym, ap, _∙_}
+use mathlib.Core.Bool.{Bool, false, not}
 use mathlib.Core.List.{List, [], _∷_, _++_, map}
 use native.Mathlib.Omega.{arith}
 use native.Mathlib.Nat.{sub-zero}
 use native.Mathlib.Decide.{decLe}
 use borrow.Author.Tests.{eq-eqb, ne-eqb}
 use lib.Dec.{eqb}
-use lib.ListN.{length, getD, take, drop, length-append}
+use lib.ListN.{length-map, length, getD, take, length-append}
 use lib.Seq.{take-all}
 use Rattle.slots.specs.declared.Slot.{Slot}
 use Rattle.slots.specs.Search.{oneIf}
 use Rattle.slots.specs.Words.{integerSlot, floatSlot, slotWords, slotSize, wordsOf, putAt, written}
 use Rattle.slots.proofs.Words.{put-split, put-none, words-append, length-words, written-short}
-use Rattle.eightbytes.specs.Class.{Class, Sse, SseUp, classOf, same}
+use Rattle.eightbytes.specs.Class.{classOf}
 use Rattle.eightbytes.specs.Eightbytes.{eightbytesIn, formatOf, ownSlot, slotOf, upFirst, slotsFrom, slotsOf, slotsIn}
 use Rattle.eightbytes.proofs.Class.{sse-code, up-code}
-use Rattle.eightbytes.proofs.Codes.{length-map}
 use Rattle.eightbytes.proofs.Rest.{rest, rest-step, rest-end}
 use Rattle.eightbytes.proofs.Counts.{slots-length}
 
@@ -99,7 +98,7 @@ module _ (size n : ℕ) (xs : List ℕ) (en : n ≡ min (eightbytesIn size) 8) (
   first-n = go (decLe (eightbytesIn size) 8)
     where
       k : length (map classOf xs) ≡ 8
-      k = rw (length-map classOf xs) l
+      k = rw (length-map xs classOf) l
 
       go : Dec (eightbytesIn size ≤ 8) → take (eightbytesIn size) (map classOf xs) ≡ take n (map classOf xs)
       go (yes h) = let e : eightbytesIn size ≡ n = omega arith in ap (λ (m : ℕ). take m (map classOf xs)) e

@@ -1,7 +1,6 @@
 -- The slots of a shape by the classes of its eightbytes, or nothing (REFERENCE 8), step by step as the Rust's `eightbytes` finds them.
 use Prim.Native.Nat.{ℕ, zero, suc, _+_, _-_, _/_, _%_, _<_, min}
-use mathlib.Core.Path.{_≡_}
-use mathlib.Core.Bool.{Bool, true, false, cond, not, _&&_, _||_}
+use mathlib.Core.Bool.{Bool, false, cond, not, _&&_, _||_}
 use mathlib.Core.List.{List, [], _∷_, _++_, map}
 use mathlib.Core.Option.{Option}
 use mathlib.Core.Option.Option.{none, some}
@@ -15,7 +14,7 @@ use Rattle.slots.specs.declared.Slot.{Slot}
 use Rattle.slots.specs.Words.{integerSlot, floatSlot}
 use Rattle.slots.specs.Cut.{ceilDiv}
 use Rattle.slots.specs.Search.{Search, found, nothing, oneIf}
-use Rattle.eightbytes.specs.Class.{Class, None, Integer, Sse, SseUp, X87, Memory, code, classOf, same, either, merge}
+use Rattle.eightbytes.specs.Class.{Class, None, Integer, Sse, SseUp, X87, Memory, code, classOf, same, merge}
 
 -- a limit above eight eightbytes counts as eight
 abbrev pub most-limit : ℕ
@@ -38,7 +37,7 @@ lastOf p = (endOf p - 1) / 8
 abbrev pub aligned : Piece → Bool
 aligned p = leb (p .align) 1 || eqb (p .offset % p .align) 0
 
--- its class, by its kind
+-- its class, by its kind: every kind but the integer's is a float's
 abbrev pub kindClass : ℕ → Class
 kindClass kind = cond (eqb kind integer) Integer (cond (eqb kind x87-extended) X87 Sse)
 
@@ -79,6 +78,7 @@ unfoldable pub mend : Class → List Class → List Class
 mend below [] = []
 mend below (c ∷ cs) = mended below c ∷ mend (mended below c) cs
 
+-- the classes that the slots come from, none where one is X87 or Memory
 unfoldable pub settled : List Class → Option (List Class)
 settled cs = cond (spoiled cs) none (some (mend None cs))
 
@@ -106,11 +106,12 @@ ownSlot c up at left = cond (same c Sse) (floatSlot (formatOf up left) at) (inte
 abbrev pub slotOf : Class → Bool → ℕ → ℕ → List Slot
 slotOf c up at left = cond (same c SseUp) [] (ownSlot c up at left ∷ [])
 
+-- whether the classes from the eightbyte above on begin with SseUp
 abbrev pub upFirst : List Class → Bool
 upFirst [] = false
 upFirst (c ∷ cs) = same c SseUp
 
--- the slots of the eightbytes from an offset on
+-- the slots of the eightbytes from an offset on, with so many bytes left there
 unfoldable pub slotsFrom : ℕ → ℕ → List Class → List Slot
 slotsFrom at left [] = []
 slotsFrom at left (c ∷ cs) = slotOf c (upFirst cs) at left ++ slotsFrom (at + 8) (left - 8) cs
@@ -134,7 +135,7 @@ codes (some cs) = map code cs ++ replicate (8 - length cs) 0
 unfoldable pub classesOf : ℕ → Shape → List Piece → List ℕ
 classesOf limit shape ps = codes (classified limit shape ps)
 
--- the slots that some codes stand for, in a shape of this size
+-- the slots that eight codes stand for in a shape of this size: those of the shape's eightbytes, as far as there are codes
 unfoldable pub slotsOf : ℕ → List ℕ → List Slot
 slotsOf size cs = slotsFrom 0 size (take (eightbytesIn size) (map classOf cs))
 

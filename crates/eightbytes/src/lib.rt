@@ -41,7 +41,7 @@ const MERGE: [[u8; 6]; 6] = [
 const EIGHTBYTE: u64 = 8;
 
 // A limit above eight eightbytes counts as eight.
-pub const MOST_LIMIT: u64 = 64;
+const MOST_LIMIT: u64 = 64;
 
 // What the search comes back with, and beside it the class of each eightbyte of the shape: `put_eightbytes` writes the slots from these.
 pub struct Classified {

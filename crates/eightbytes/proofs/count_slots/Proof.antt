@@ -1,6 +1,6 @@
 -- `count_slots` counts the classes that have a slot. The invariant: what is counted and what is left make the whole. Assumes nothing.
 use Prim.Native.Nat.{_+_, _-_, _≤_}
-use mathlib.Core.Path.{_≡_, refl, sym}
+use mathlib.Core.Path.{_≡_, sym}
 use native.Mathlib.Nat.{zero-add}
 use Rattle.eightbytes.specs.Eightbytes.{slotsIn}
 use Rattle.eightbytes.proofs.Rest.{rest}

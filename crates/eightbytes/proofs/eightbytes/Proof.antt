@@ -1,6 +1,6 @@
 -- `eightbytes` answers the search. The invariant: the classes as they are, and the pieces that are left, decide the classes of all. Assumes nothing.
 use Prim.Native.Nat.{_-_, _≤_, _<_}
-use mathlib.Core.Path.{_≡_, refl, sym, _∙_}
+use mathlib.Core.Path.{_≡_, refl, _∙_}
 use mathlib.Core.List.{map}
 use mathlib.Core.Option.Option.{none, some}
 use lib.ListN.{length, take, drop, replicate}

@@ -1,6 +1,6 @@
 -- `put_slots` is safe and ends: the buffer keeps its length, the slots that are printed are there, and each turn leaves fewer of them. Assumes nothing.
 use Prim.Native.Nat.{_≤_, _-_}
-use mathlib.Core.Path.{_≡_, refl}
+use mathlib.Core.Path.{_≡_}
 use lib.ListN.{length}
 use borrow.Author.Needs.{needs}
 use native.Mathlib.Omega.{arith}
