@@ -1,14 +1,14 @@
 -- Classes by their codes: codes tell classes apart, and what the code does to a code is what the definition does to its class. Assumes nothing.
 use Prim.Native.Nat.{ℕ, zero, suc, _≤_, _<_}
 use mathlib.Core.Path.{_≡_, refl, sym, ap, _∙_}
-use mathlib.Core.List.{List, [], _∷_, map}
+use mathlib.Core.List.{[], _∷_}
 use mathlib.Core.Bool.{Bool, true, false, cond, not, _&&_, _||_}
 use native.Mathlib.Omega.{arith}
 use borrow.Author.Tests.{eq-eqb, ne-eqb}
 use lib.Dec.{eqb}
-use lib.ListN.{getD, List·getD-eq-default}
+use lib.ListN.{List·getD-eq-default}
 use Rattle.shape.specs.Numbers.{integer, x87-extended}
-use Rattle.eightbytes.specs.Class.{Class, None, Integer, Sse, SseUp, X87, Memory, code, classOf, same, merge}
+use Rattle.eightbytes.specs.Class.{Class, None, Integer, Sse, SseUp, X87, Memory, code, classOf, same}
 use Rattle.eightbytes.specs.Eightbytes.{kindClass, later, mended}
 
 pub class-code : (c : Class) → classOf (code c) ≡ c
@@ -125,29 +125,3 @@ mended-high b Sse class e h = absurd (omega arith)
 mended-high b SseUp class e h = absurd (omega (arith, up-or-sse (not (same b Sse || same b SseUp))))
 mended-high b X87 class e h = refl
 mended-high b Memory class e h = refl
-
--- ---- the merge as a table
-
-abbrev numbers : List ℕ
-numbers = 0 ∷ 1 ∷ 2 ∷ 3 ∷ 4 ∷ 5 ∷ []
-
--- the codes that the definition gives: the row is the class that stands there, the column the one that comes
-abbrev pub rows : List (List ℕ)
-rows = map (λ (a : ℕ). map (λ (b : ℕ). code (merge (classOf a) (classOf b))) numbers) numbers
-
-below6 : (P : ℕ → Type 0) → P 0 → P 1 → P 2 → P 3 → P 4 → P 5 → (n : ℕ) → n < 6 → P n
-below6 P a b c d e f zero h = a
-below6 P a b c d e f (suc zero) h = b
-below6 P a b c d e f (suc (suc zero)) h = c
-below6 P a b c d e f (suc (suc (suc zero))) h = d
-below6 P a b c d e f (suc (suc (suc (suc zero)))) h = e
-below6 P a b c d e f (suc (suc (suc (suc (suc zero))))) h = f
-below6 P a b c d e f (suc (suc (suc (suc (suc (suc n)))))) h = absurd (omega arith)
-
-in-row : (a b : ℕ) → b < 6 → getD (map (λ (b : ℕ). code (merge (classOf a) (classOf b))) numbers) b 0 ≡ code (merge (classOf a) (classOf b))
-in-row a = below6 (λ b. getD (map (λ (b : ℕ). code (merge (classOf a) (classOf b))) numbers) b 0 ≡ code (merge (classOf a) (classOf b))) refl refl refl refl refl refl
-
-pub in-table : (a b : ℕ) → a < 6 → b < 6 → getD (getD rows a []) b 0 ≡ code (merge (classOf a) (classOf b))
-in-table a b ha hb =
-    below6 (λ a. getD (getD rows a []) b 0 ≡ code (merge (classOf a) (classOf b)))
-    (in-row 0 b hb) (in-row 1 b hb) (in-row 2 b hb) (in-row 3 b hb) (in-row 4 b hb) (in-row 5 b hb) a ha

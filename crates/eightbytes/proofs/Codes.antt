@@ -3,7 +3,7 @@ use Prim.Native.Nat.{ℕ, zero, suc, _<_}
 use mathlib.Core.Path.{_≡_, refl, sym, ap, ap₂, subst}
 use mathlib.Core.List.{List, [], _∷_, map}
 use native.Mathlib.Omega.{arith}
-use lib.ListN.{length, getD, set, take, drop, replicate, List·getD-map}
+use lib.ListN.{getD, set, take, drop, replicate, List·getD-map}
 use Rattle.eightbytes.specs.Class.{Class, None, code, classOf}
 use Rattle.eightbytes.specs.Eightbytes.{Coded}
 use Rattle.eightbytes.proofs.Class.{class-code, code-class, code-lt}
