@@ -210,7 +210,11 @@ pub fn travel(
         ),
         Travel::ByReference => Step::Decided(by_reference(pointer, returning, left.integer)),
         Travel::InMemory => Step::Decided(integers(Way::Memory, 0, 0)),
-        Travel::InMemoryAndSpend => Step::Decided(in_memory_and_spend(returning, left.integer, registers(size, width))),
+        Travel::InMemoryAndSpend => Step::Decided(in_memory_and_spend(
+            returning,
+            left.integer,
+            registers(size, width),
+        )),
     }
 }
 

@@ -1,0 +1,9 @@
+pub mod Steps
+pub mod Sources
+pub mod Agree
+pub mod Ends
+pub mod Walking
+pub mod Aligned
+pub mod Operations
+pub mod Eight
+mod Unique

@@ -1,0 +1,238 @@
+-- The laws of the parts of an operation: each way out of the code is one line of a definition. A law's premises are the tests and the callees'
+-- promises as the code has them. Assumes nothing.
+use Prim.Native.Nat.{ℕ, zero, suc, _-_, _/_, _≤_, _<_}
+use mathlib.Core.Path.{_≡_, refl, ap, sym, _∙_}
+use mathlib.Core.List.{List, [], _∷_}
+use mathlib.Core.Bool.{Bool, true, false, _&&_, _||_, not, cond}
+use native.Mathlib.Omega.{arith}
+use borrow.Author.Tests.{lt-ltb, le-ltb, le-leb, lt-leb}
+use lib.Dec.{ltb, eqb, leb}
+use lib.ListN.{length}
+use Rattle.shape.specs.declared.Scalar.{Scalar}
+use Rattle.shape.specs.declared.Shape.{Shape}
+use Rattle.shape.specs.declared.Piece.{Piece}
+use Rattle.shape.specs.Numbers.{accepted, bad-abi, bad-call, no-room}
+use Rattle.shape.specs.Words.{piecesOf}
+use Rattle.shape.specs.Check.{scalarRefusal, shapeRefusal}
+use Rattle.shape.proofs.Check.{else-first}
+use Rattle.slots.specs.declared.Found.{Found}
+use Rattle.slots.specs.declared.Found as founds
+use Rattle.slots.specs.Words.{slot, slotSize, slotWords, putAt, wordsOf, written}
+use Rattle.slots.specs.Cut.{cut}
+use Rattle.slots.specs.Search.{foundOf, floatsIn}
+use Rattle.slots.proofs.Words.{put-none}
+use Rattle.describe.specs.declared.Banks.{Banks}
+use Rattle.describe.specs.declared.Test.{Test}
+use Rattle.describe.specs.declared.Test.the-variants.{Anything, Empty, SizeOneOf, SizeAtMost, Homogeneous, FloatPair, X87Stack, LoneFloat, FloatingMode, ComplexFloat, Eightbytes}
+use Rattle.describe.specs.declared.Rule.{Rule}
+use Rattle.describe.specs.declared.Variadic.{Variadic}
+use Rattle.describe.specs.Row.{returnRule, argumentRule}
+use Rattle.find.specs.Find.{foundIf, homogeneous, floatPair, x87Stack, loneFloat, floatingMode, complexFloat, eachPiece}
+use Rattle.eightbytes.specs.declared.Classified.{Classified}
+use Rattle.eightbytes.specs.Eightbytes as eight
+use Rattle.abis.specs.Abis.{described}
+use Rattle.spend.specs.declared.Source as sources
+use Rattle.spend.specs.declared.Decision.{Decision}
+use Rattle.classify.specs.declared.Arg as args
+use Rattle.classify.specs.declared.Call.{Call}
+use Rattle.classify.specs.declared.Answer.{Answer}
+use Rattle.classify.specs.declared.Decided.{Decided}
+use Rattle.classify.specs.declared.Searched.{Searched}
+use Rattle.classify.specs.Pass.{matches}
+use Rattle.classify.specs.Classify.{leaves, call, variadic, isIntegersOnly}
+use Rattle.classify.specs.Answers.{descriptions, callOf, leftOf, isBadCall, callRefusal, argRefusal, refusalOf, refused, done, orAnswer, freshAnswer, variadicAnswer}
+use Rattle.classify.specs.Parts as parts
+
+-- ---- check
+
+module _ (c : Call) where
+  pub call-abi : descriptions ≤ c .abi → bad-abi ≡ callRefusal c
+  unfolding callRefusal
+  call-abi h = rw (le-leb _ _ h)
+
+  module _ (h : c .abi < descriptions) (B : Banks) (eb : B ≡ described (c .abi) .banks) (v : Variadic) (ev : v ≡ described (c .abi) .variadic) (marks : Bool) (em : marks ≡ isIntegersOnly v) where
+    pub call-bad : ((ltb (B .integer) (c .integer) || ltb (B .float) (c .float)) || (c .«integers_only» && not marks)) ≡ true → bad-call ≡ callRefusal c
+    unfolding callRefusal
+    call-bad t = rw (lt-leb _ _ h, ← ev, ← em, ← eb, t)
+
+    pub call-good : ((ltb (B .integer) (c .integer) || ltb (B .float) (c .float)) || (c .«integers_only» && not marks)) ≡ false → accepted ≡ callRefusal c
+    unfolding callRefusal
+    call-good t = rw (lt-leb _ _ h, ← ev, ← em, ← eb, t)
+
+module _ (arg : args.Arg) (ws : List ℕ) where
+  pub arg-void : arg ≡ args.the-variants.Void → accepted ≡ argRefusal arg ws
+  unfolding argRefusal
+  arg-void e = rw e
+
+  pub arg-scalar : (s : Scalar) → arg ≡ args.the-variants.Scalar s → (r : ℕ) → r ≡ scalarRefusal s → r ≡ argRefusal arg ws
+  unfolding argRefusal
+  arg-scalar s e r er = rw (er, e)
+
+  pub arg-aggregate : (shape : Shape) → arg ≡ args.the-variants.Aggregate shape → (r : ℕ) → r ≡ shapeRefusal shape ws → r ≡ argRefusal arg ws
+  unfolding argRefusal
+  arg-aggregate shape e r er = rw (er, e)
+
+module _ (c : Call) (arg : args.Arg) (ws : List ℕ) (r : ℕ) (er : r ≡ callRefusal c) where
+  pub refusal-call : (r ≡ accepted → ⊥) → r ≡ refusalOf c arg ws
+  unfolding refusalOf
+  refusal-call h = rw (← er) (else-first _ _ h)
+
+  pub refusal-arg : r ≡ accepted → (q : ℕ) → q ≡ argRefusal arg ws → q ≡ refusalOf c arg ws
+  unfolding refusalOf
+  refusal-arg z q eq = rw (← er, z, eq)
+
+-- ---- fresh and variadic
+
+pub fresh-refused : (abi : ℕ) → descriptions ≤ abi → (r : Answer) → r ≡ refused (callOf 0 (leaves 0 0 false)) bad-abi → r ≡ freshAnswer abi
+unfolding freshAnswer
+fresh-refused abi h r er = rw (er, le-leb _ _ h)
+
+pub fresh-done : (abi : ℕ) → abi < descriptions → (B : Banks) → B ≡ described abi .banks → (r : Answer)
+    → r ≡ done (callOf abi (leaves (B .integer) (B .float) false)) → r ≡ freshAnswer abi
+unfolding freshAnswer
+fresh-done abi h B eb r er = rw (er, eb, lt-leb _ _ h)
+
+pub or-refused : (n : ℕ) (c : Call) (rest : Answer) → (n ≡ accepted → ⊥) → refused c n ≡ orAnswer n c rest
+or-refused zero c rest h = absurd (h refl)
+or-refused (suc n) c rest h = refl
+
+module _ (c : Call) (n : ℕ) (en : n ≡ callRefusal c) (r : Answer) where
+  pub mark-refused : (n ≡ accepted → ⊥) → r ≡ refused c n → r ≡ variadicAnswer c
+  unfolding variadicAnswer
+  mark-refused h er = rw (er, ← en) (or-refused n c _ h)
+
+  pub mark-done : n ≡ accepted → (v : Variadic) → v ≡ described (c .abi) .variadic → (b : Bool) → b ≡ isIntegersOnly v
+      → r ≡ done (callOf (c .abi) (leaves (c .integer) (c .float) (b || c .«integers_only»))) → r ≡ variadicAnswer c
+  unfolding variadicAnswer
+  mark-done z v ev b eb er = rw (er, eb, ev, ← en, z)
+
+-- ---- the search
+
+module _ (matched : Bool) (r : Searched) where
+  pub matched-whole : matched ≡ true → r ≡ parts.searched (founds.the-variants.Slots 0 0) parts.noSource parts.noClasses
+      → r ≡ parts.searched (parts.foundWhere matched) parts.noSource parts.noClasses
+  matched-whole h er = rw (er, h)
+
+  pub missed-whole : matched ≡ false → r ≡ parts.searched founds.the-variants.Nothing parts.noSource parts.noClasses
+      → r ≡ parts.searched (parts.foundWhere matched) parts.noSource parts.noClasses
+  missed-whole h er = rw (er, h)
+
+found-where : (b : Bool) → parts.foundWhere b ≡ foundOf (foundIf b [])
+unfolding foundOf foundIf floatsIn
+found-where true = refl
+found-where false = refl
+
+module _ (B : Banks) (test : Test) (shape : Shape) (ps : List Piece) (r : Searched) where
+  pub test-anything : test ≡ Anything → r ≡ parts.searched (parts.foundWhere true) parts.noSource parts.noClasses → r ≡ parts.searchedBy B test shape ps
+  unfolding parts.searchedBy matches foundOf floatsIn
+  test-anything e er = rw (er, e)
+
+  pub test-empty : test ≡ Empty → r ≡ parts.searched (parts.foundWhere (eqb (shape .size) 0)) parts.noSource parts.noClasses → r ≡ parts.searchedBy B test shape ps
+  unfolding parts.searchedBy matches
+  test-empty e er = rw (er, e, found-where)
+
+  pub test-one-of : (a b c d : ℕ) → test ≡ SizeOneOf a b c d
+      → r ≡ parts.searched (parts.foundWhere (((eqb (shape .size) a || eqb (shape .size) b) || eqb (shape .size) c) || eqb (shape .size) d)) parts.noSource parts.noClasses
+      → r ≡ parts.searchedBy B test shape ps
+  unfolding parts.searchedBy matches
+  test-one-of a b c d e er = rw (er, e, found-where)
+
+  pub test-at-most : (limit : ℕ) → test ≡ SizeAtMost limit → r ≡ parts.searched (parts.foundWhere (leb (shape .size) limit)) parts.noSource parts.noClasses
+      → r ≡ parts.searchedBy B test shape ps
+  unfolding parts.searchedBy matches
+  test-at-most limit e er = rw (er, e, found-where)
+
+  pub test-homogeneous : (limit : ℕ) → test ≡ Homogeneous limit → (f : Found) → f ≡ foundOf (homogeneous limit shape ps)
+      → r ≡ parts.searched f parts.pieceSource parts.noClasses → r ≡ parts.searchedBy B test shape ps
+  unfolding parts.searchedBy matches
+  test-homogeneous limit e f ef er = rw (er, ef, e)
+
+  pub test-pair : test ≡ FloatPair → (f : Found) → f ≡ foundOf (floatPair (B .«integer_width») (B .«float_width») ps)
+      → r ≡ parts.searched f parts.pieceSource parts.noClasses → r ≡ parts.searchedBy B test shape ps
+  unfolding parts.searchedBy matches
+  test-pair e f ef er = rw (er, ef, e)
+
+  pub test-x87 : test ≡ X87Stack → (f : Found) → f ≡ foundOf (x87Stack shape ps) → r ≡ parts.searched f parts.pieceSource parts.noClasses
+      → r ≡ parts.searchedBy B test shape ps
+  unfolding parts.searchedBy matches
+  test-x87 e f ef er = rw (er, ef, e)
+
+  pub test-lone : test ≡ LoneFloat → (f : Found) → f ≡ foundOf (loneFloat ps) → r ≡ parts.searched f parts.pieceSource parts.noClasses
+      → r ≡ parts.searchedBy B test shape ps
+  unfolding parts.searchedBy matches
+  test-lone e f ef er = rw (er, ef, e)
+
+  pub test-mode : test ≡ FloatingMode → (f : Found) → f ≡ foundOf (floatingMode shape) → r ≡ parts.searched f parts.noSource parts.noClasses
+      → r ≡ parts.searchedBy B test shape ps
+  unfolding parts.searchedBy matches
+  test-mode e f ef er = rw (er, ef, e)
+
+  pub test-complex : test ≡ ComplexFloat → (f : Found) → f ≡ foundOf (complexFloat shape ps) → r ≡ parts.searched f parts.noSource parts.noClasses
+      → r ≡ parts.searchedBy B test shape ps
+  unfolding parts.searchedBy matches
+  test-complex e f ef er = rw (er, ef, e)
+
+  pub test-eightbytes : (limit : ℕ) → test ≡ Eightbytes limit → (k : Classified)
+      → (k .found ≡ foundOf (eight.eightbytes limit shape ps)) × (k .classes ≡ eight.classesOf limit shape ps)
+      → r ≡ parts.searched (k .found) (parts.classSource (shape .size)) (k .classes) → r ≡ parts.searchedBy B test shape ps
+  unfolding parts.searchedBy matches
+  test-eightbytes limit e k ek er = rw (er, ek .0, ek .1, e)
+
+-- ---- rules
+
+module _ (row : List ℕ) (returning : Bool) (i : ℕ) (r : Rule) where
+  pub rule-back : returning ≡ true → r ≡ returnRule row i → r ≡ parts.ruleIn row returning i
+  rule-back h er = rw (er, h)
+
+  pub rule-out : returning ≡ false → r ≡ argumentRule row i → r ≡ parts.ruleIn row returning i
+  rule-out h er = rw (er, h)
+
+-- ---- the writing and the answer
+
+module _ (source : sources.Source) (cs : List ℕ) (ps : List Piece) (out : List ℕ) where
+  pub write-none : source ≡ sources.the-variants.Empty → out ≡ written (parts.slotsIn source cs ps) out
+  unfolding parts.slotsIn written wordsOf
+  write-none e = rw e (sym (put-none out 0 (omega arith)))
+
+  module _ (out′ : List ℕ) where
+    pub write-each : source ≡ sources.the-variants.EachPiece → out′ ≡ written (eachPiece ps) out → out′ ≡ written (parts.slotsIn source cs ps) out
+    unfolding parts.slotsIn
+    write-each e eo = rw (eo, e)
+
+    pub write-classes : (size : ℕ) → source ≡ sources.the-variants.Classes size → out′ ≡ written (eight.slotsOf size cs) out → out′ ≡ written (parts.slotsIn source cs ps) out
+    unfolding parts.slotsIn
+    write-classes size e eo = rw (eo, e)
+
+    pub write-cut : (size width : ℕ) → source ≡ sources.the-variants.Cut size width → out′ ≡ written (cut size width) out → out′ ≡ written (parts.slotsIn source cs ps) out
+    unfolding parts.slotsIn
+    write-cut size width e eo = rw (eo, e)
+
+    pub write-one : (k o n : ℕ) → source ≡ sources.the-variants.One k o n → out′ ≡ putAt out 0 (slotWords (slot k o n)) → out′ ≡ written (parts.slotsIn source cs ps) out
+    unfolding parts.slotsIn written wordsOf
+    write-one k o n e eo = rw (eo, e)
+
+pub accepts : (c : Call) (d : Decision) (i₁ i₂ f₁ f₂ : ℕ) → i₁ ≡ c .integer - d .spent .«integers_passed» → i₂ ≡ i₁ - d .spent .«integers_given»
+    → f₁ ≡ c .float - d .spent .«floats_passed» → f₂ ≡ f₁ - d .spent .«floats_given»
+    → _≡_ {A = Answer} (record { next = callOf (c .abi) (leaves i₂ f₂ (c .«integers_only»)); outcome = record { refusal = accepted; way = d .way; spent = d .spent; slots = d .count } }) (parts.accepted c d)
+accepts c d i₁ i₂ f₁ f₂ e₁ e₂ e₃ e₄ = rw (e₂, e₁, e₄, e₃)
+
+module _ (c : Call) (d : Decision) (out : List ℕ) (room : ℕ) (er : room ≡ length out / slotSize) (r : Answer) where
+  pub short-answer : room < d .count → r ≡ refused c no-room → r ≡ parts.finished c d out
+  unfolding parts.finished
+  short-answer h e = rw (e, ← er, lt-ltb _ _ h)
+
+  pub fit-answer : d .count ≤ room → r ≡ parts.accepted c d → r ≡ parts.finished c d out
+  unfolding parts.finished
+  fit-answer h e = rw (e, ← er, le-ltb _ _ h)
+
+module _ (d : Decided) (ps : List Piece) (out : List ℕ) (room : ℕ) (er : room ≡ length out / slotSize) where
+  pub short-buffer : room < d .decision .count → out ≡ parts.finishedIn d ps out
+  unfolding parts.finishedIn
+  short-buffer h = rw (← er, lt-ltb _ _ h)
+
+  pub fit-buffer : d .decision .count ≤ room → (out′ : List ℕ) → out′ ≡ written (parts.slotsIn (d .decision .slots) (d .classes) ps) out → out′ ≡ parts.finishedIn d ps out
+  unfolding parts.finishedIn
+  fit-buffer h out′ e = rw (e, ← er, le-ltb _ _ h)
+
+pub frees : (d : Decided) (n : Decision) → n ≡ parts.spendsNothing (d .decision .way) (d .decision .slots) (d .decision .count) → parts.decided n (d .classes) ≡ parts.freelyDecided d
+frees d n en = rw en

@@ -1,0 +1,50 @@
+-- No second answer, and no other words in the lent slot buffer, meet the promise of a public function. Assumes nothing.
+use mathlib.Core.Path.{sym, _∙_}
+use contract.Lifetimes.{Lfts}
+use denote.Ref.{now}
+use Rattle.shape.proofs.OneAnswer.{OneAnswer, OneExit}
+use Rattle.classify.proofs.Call.fresh.Reads as fresh
+use Rattle.classify.proofs.Call.variadic.Reads as variadic
+use Rattle.classify.proofs.Call.returns.Reads as returns
+use Rattle.classify.proofs.Call.argument.Reads as argument
+use Rattle.classify.proofs.Call.variadic_argument.Reads as variadic-argument
+use Rattle.classify.proofs.Call.in_memory.Reads as in-memory
+use Rattle.classify.proofs.Call.abi.Reads as abi
+use Rattle.classify.proofs.Call.integer_left.Reads as integer-left
+use Rattle.classify.proofs.Call.float_left.Reads as float-left
+
+fresh-decides : (κs : Lfts 0) → OneAnswer (fresh.Post κs)
+fresh-decides κs a r q s t p p′ = p ∙ sym p′
+
+variadic-decides : (κs : Lfts 0) → OneAnswer (variadic.Post κs)
+variadic-decides κs a r q s t p p′ = p ∙ sym p′
+
+returns-decides : (κs : Lfts 2) → OneAnswer (returns.Post κs)
+returns-decides κs a r q s t p p′ = p .0 ∙ sym (p′ .0)
+
+returns-words : (κs : Lfts 2) → OneExit (returns.Post κs) (λ s. now (s .1 .1 .1 .0))
+returns-words κs a r q s t p p′ = p .1 ∙ sym (p′ .1)
+
+argument-decides : (κs : Lfts 2) → OneAnswer (argument.Post κs)
+argument-decides κs a r q s t p p′ = p .0 ∙ sym (p′ .0)
+
+argument-words : (κs : Lfts 2) → OneExit (argument.Post κs) (λ s. now (s .1 .1 .1 .0))
+argument-words κs a r q s t p p′ = p .1 ∙ sym (p′ .1)
+
+variadic-argument-decides : (κs : Lfts 2) → OneAnswer (variadic-argument.Post κs)
+variadic-argument-decides κs a r q s t p p′ = p .0 ∙ sym (p′ .0)
+
+variadic-argument-words : (κs : Lfts 2) → OneExit (variadic-argument.Post κs) (λ s. now (s .1 .1 .1 .0))
+variadic-argument-words κs a r q s t p p′ = p .1 ∙ sym (p′ .1)
+
+in-memory-decides : (κs : Lfts 1) → OneAnswer (in-memory.Post κs)
+in-memory-decides κs a r q s t p p′ = p ∙ sym p′
+
+abi-decides : (κs : Lfts 0) → OneAnswer (abi.Post κs)
+abi-decides κs a r q s t p p′ = p ∙ sym p′
+
+integer-left-decides : (κs : Lfts 0) → OneAnswer (integer-left.Post κs)
+integer-left-decides κs a r q s t p p′ = p ∙ sym p′
+
+float-left-decides : (κs : Lfts 0) → OneAnswer (float-left.Post κs)
+float-left-decides κs a r q s t p p′ = p ∙ sym p′

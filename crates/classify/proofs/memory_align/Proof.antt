@@ -1,0 +1,28 @@
+-- `memory_align` answers the alignment in the argument area. Assumes nothing.
+use Rattle.classify.proofs.Aligned.{align-plain, align-packed}
+use borrow.Author.Needs.{needs}
+use Rattle.classify.proofs.memory_align.Statement.{statement}
+use Rattle.classify.proofs.memory_align.Tie as tie
+
+others-requires : tie.Need-others-requires
+others-requires c κs = search needs
+
+enum-told : tie.Need-enum-told
+enum-told c = search needs
+
+enum-told-2 : tie.Need-enum-told-2
+enum-told-2 c = search needs
+
+packed-align-requires : tie.Need-packed-align-requires
+packed-align-requires c κs = search needs
+
+returns : tie.Need-returns
+returns c = search (align-plain)
+
+returns-2 : tie.Need-returns-2
+returns-2 c = search (align-packed)
+
+pub memory-align-spec : {M : Type 1} → statement M
+memory-align-spec =
+    tie.close
+    (tie.spec others-requires enum-told enum-told-2 packed-align-requires returns returns-2)

@@ -1,0 +1,5 @@
+pub mod Pass
+pub mod Classify
+pub mod Spending
+pub mod Answers
+pub mod Parts

@@ -1,0 +1,158 @@
+-- What the parts of an operation answer one another: the search, the walk, the writing and the answer. These say how the code goes about it;
+-- what an operation means is in Classify.antt and Spending.antt, and proofs/Agree.antt has this meet that.
+use Prim.Native.Nat.{ℕ, _-_, _/_, max}
+use mathlib.Core.List.{List, [], _∷_}
+use mathlib.Core.Bool.{Bool, cond}
+use mathlib.Core.Option.{Option}
+use mathlib.Core.Option.Option.{none, some}
+use lib.Dec.{ltb}
+use lib.ListN.{length, replicate}
+use Rattle.shape.specs.declared.Piece.{Piece}
+use Rattle.shape.specs.declared.Shape.{Shape}
+use Rattle.shape.specs.Numbers as numbers
+use Rattle.slots.specs.declared.Slot.{Slot}
+use Rattle.slots.specs.declared.Found.{Found}
+use Rattle.slots.specs.declared.Found as founds
+use Rattle.slots.specs.Words.{slot, slotSize, written}
+use Rattle.slots.specs.Cut.{cut}
+use Rattle.slots.specs.Search.{foundOf}
+use Rattle.describe.specs.declared.Banks.{Banks}
+use Rattle.describe.specs.declared.Rule.{Rule}
+use Rattle.describe.specs.declared.Test.{Test}
+use Rattle.describe.specs.declared.Test.the-variants.{Anything, Empty, SizeOneOf, SizeAtMost, Homogeneous, FloatPair, X87Stack, LoneFloat, FloatingMode, ComplexFloat, Eightbytes}
+use Rattle.describe.specs.Description.{Description}
+use Rattle.describe.specs.Row.{returnRule, argumentRule}
+use Rattle.find.specs.Find.{eachPiece}
+use Rattle.eightbytes.specs.Eightbytes as eight
+use Rattle.spend.specs.declared.Left.{Left}
+use Rattle.spend.specs.declared.Way.{Way}
+use Rattle.spend.specs.declared.Source as sources
+use Rattle.spend.specs.declared.Decision.{Decision}
+use Rattle.spend.specs.Ways as made
+use Rattle.classify.specs.declared.Arg as args
+use Rattle.classify.specs.declared.Call.{Call}
+use Rattle.classify.specs.declared.Answer.{Answer}
+use Rattle.classify.specs.declared.Decided.{Decided}
+use Rattle.classify.specs.declared.Searched.{Searched}
+use Rattle.classify.specs.declared.Limit as limits
+use Rattle.classify.specs.Pass.{matches}
+use Rattle.classify.specs.Classify as rust
+use Rattle.classify.specs.Classify.{leaves, homogeneousLimit, isHomogeneousBy}
+use Rattle.classify.specs.Spending.{Chosen, sourceOf, aggregate}
+use Rattle.classify.specs.Answers.{answered, callOf, refused}
+
+-- ---- the search
+
+abbrev pub noClasses : List ℕ
+noClasses = replicate 8 0
+
+-- the classes that stand beside what a test finds
+abbrev pub classesBy : Test → Shape → List Piece → List ℕ
+classesBy Anything shape ps = noClasses
+classesBy Empty shape ps = noClasses
+classesBy (SizeOneOf a b c d) shape ps = noClasses
+classesBy (SizeAtMost limit) shape ps = noClasses
+classesBy (Homogeneous limit) shape ps = noClasses
+classesBy FloatPair shape ps = noClasses
+classesBy X87Stack shape ps = noClasses
+classesBy LoneFloat shape ps = noClasses
+classesBy FloatingMode shape ps = noClasses
+classesBy ComplexFloat shape ps = noClasses
+classesBy (Eightbytes limit) shape ps = eight.classesOf limit shape ps
+
+abbrev pub searched : Found → sources.Source → List ℕ → Searched
+searched found source classes = record { found = found; source = source; classes = classes }
+
+unfoldable pub searchedBy : Banks → Test → Shape → List Piece → Searched
+searchedBy B test shape ps = searched (foundOf (matches B test shape ps)) (sourceOf test (shape .size)) (classesBy test shape ps)
+
+abbrev pub foundWhere : Bool → Found
+foundWhere matched = cond matched (founds.the-variants.Slots 0 0) founds.the-variants.Nothing
+
+abbrev pub noSource : sources.Source
+noSource = sources.the-variants.Empty
+
+abbrev pub pieceSource : sources.Source
+pieceSource = sources.the-variants.EachPiece
+
+abbrev pub classSource : ℕ → sources.Source
+classSource size = sources.the-variants.Classes size
+
+-- ---- the walk
+
+abbrev pub rulesOf : Description → Bool → List Rule
+rulesOf D returning = cond returning (D .returns) (D .arguments)
+
+abbrev pub ruleIn : List ℕ → Bool → ℕ → Rule
+ruleIn row returning i = cond returning (returnRule row i) (argumentRule row i)
+
+abbrev pub decided : Decision → List ℕ → Decided
+decided decision classes = record { decision = decision; classes = classes }
+
+unfoldable pub walked : Description → Bool → Left → List Rule → Shape → List Piece → Decided
+walked D returning left rules shape ps =
+    decided (aggregate D returning left rules shape ps .decision) (classesBy (aggregate D returning left rules shape ps .when) shape ps)
+
+-- the classes beside what decides a value
+abbrev pub argClasses : args.Arg → Test → List Piece → List ℕ
+argClasses args.the-variants.Void test ps = noClasses
+argClasses (args.the-variants.Scalar s) test ps = noClasses
+argClasses (args.the-variants.Aggregate shape) test ps = classesBy test shape ps
+
+abbrev pub decidedBy : Chosen → args.Arg → List Piece → Decided
+decidedBy c arg ps = decided (c .decision) (argClasses arg (c .when) ps)
+
+abbrev pub spendsNothing : Way → sources.Source → ℕ → Decision
+spendsNothing way source count = record { way = way; slots = source; count = count; spent = made.nothing }
+
+abbrev pub freelyDecided : Decided → Decided
+freelyDecided d = decided (spendsNothing (d .decision .way) (d .decision .slots) (d .decision .count)) (d .classes)
+
+-- ---- the writing and the answer
+
+-- the slots of a decision, from where they stand
+unfoldable pub slotsIn : sources.Source → List ℕ → List Piece → List Slot
+slotsIn sources.the-variants.Empty classes ps = []
+slotsIn sources.the-variants.EachPiece classes ps = eachPiece ps
+slotsIn (sources.the-variants.Classes size) classes ps = eight.slotsOf size classes
+slotsIn (sources.the-variants.Cut size width) classes ps = cut size width
+slotsIn (sources.the-variants.One kind offset size) classes ps = slot kind offset size ∷ []
+
+-- what is left of a bank
+abbrev pub after : ℕ → ℕ → ℕ → ℕ
+after left passed given = left - passed - given
+
+abbrev pub accepted : Call → Decision → Answer
+accepted c d =
+    answered
+    (callOf (c .abi)
+    (leaves (after (c .integer) (d .spent .«integers_passed») (d .spent .«integers_given»))
+    (after (c .float) (d .spent .«floats_passed») (d .spent .«floats_given»))
+    (c .«integers_only»)))
+    numbers.accepted
+    (d .way)
+    (d .spent)
+    (d .count)
+
+unfoldable pub finished : Call → Decision → List ℕ → Answer
+finished c d out = cond (ltb (length out / slotSize) (d .count)) (refused c numbers.no-room) (accepted c d)
+
+unfoldable pub finishedIn : Decided → List Piece → List ℕ → List ℕ
+finishedIn d ps out =
+    cond (ltb (length out / slotSize) (d .decision .count)) out (written (slotsIn (d .decision .slots) (d .classes) ps) out)
+
+-- ---- in_memory
+
+abbrev pub limitOption : Option ℕ → limits.Limit
+limitOption none = limits.the-variants.Nothing
+limitOption (some n) = limits.the-variants.Of n
+
+abbrev pub limitBy : Test → limits.Limit
+limitBy test = limitOption (rust.limitOf test none)
+
+unfoldable pub limitOf : List Rule → limits.Limit
+limitOf rules = limitOption (homogeneousLimit rules)
+
+unfoldable pub packedAlign : Description → Shape → List Piece → ℕ
+packedAlign D shape ps =
+    cond (isHomogeneousBy (homogeneousLimit (D .arguments)) shape ps) (shape .align) (max (shape .align) (D .banks .«integer_width»))
