@@ -533,7 +533,7 @@ fn accept(call: Call, decision: Decision) -> Answer
     ensures { λ r. ⌜ r ≡ parts.accepted call decision ⌝ }
 {
     let spent = decision.spent;
-    let way = decision.way;
+    let travels = decision.way;
     let next = Call {
         abi: call.abi,
         integer: minus(
@@ -547,7 +547,7 @@ fn accept(call: Call, decision: Decision) -> Answer
         next,
         outcome: Outcome {
             refusal: shape::ACCEPTED,
-            way,
+            way: travels,
             spent,
             slots: decision.count,
         },
