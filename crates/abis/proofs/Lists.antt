@@ -7,25 +7,25 @@ use lib.ListN.{length, getD}
 use Rattle.describe.specs.Description.{Description, Decides, Ends, past}
 use Rattle.describe.proofs.Ends.{isEnding, ends, goes-on}
 use Rattle.describe.proofs.Numbers.{and-left, and-right}
-use Rattle.abis.specs.Abis.{described, descriptions, blank}
+use Rattle.abis.specs.Abis.{described, descriptions, blank, description-count}
 use Rattle.abis.proofs.Every.{within, anywhere}
 
-both-ending : (d : ℕ) → d < 30 → T (isEnding (described d .returns) && isEnding (described d .arguments))
+both-ending : (d : ℕ) → d < description-count → T (isEnding (described d .returns) && isEnding (described d .arguments))
 unfolding described descriptions
 both-ending = within (λ (D : Description). isEnding (D .returns) && isEnding (D .arguments)) descriptions blank tt
 
-pub returns-end : (d : ℕ) → d < 30 → Ends (described d .returns)
+pub returns-end : (d : ℕ) → d < description-count → Ends (described d .returns)
 returns-end d h =
     ends (described d .returns) (and-left (isEnding (described d .returns)) (isEnding (described d .arguments)) (both-ending d h))
 
-pub arguments-end : (d : ℕ) → d < 30 → Ends (described d .arguments)
+pub arguments-end : (d : ℕ) → d < description-count → Ends (described d .arguments)
 arguments-end d h =
     ends (described d .arguments) (and-right (isEnding (described d .returns)) (isEnding (described d .arguments)) (both-ending d h))
 
-pub returns-go-on : (d : ℕ) → d < 30 → (i : ℕ) → i < length (described d .returns) → (Decides (getD (described d .returns) i past) → ⊥) → i + 1 < length (described d .returns)
+pub returns-go-on : (d : ℕ) → d < description-count → (i : ℕ) → i < length (described d .returns) → (Decides (getD (described d .returns) i past) → ⊥) → i + 1 < length (described d .returns)
 returns-go-on d h = goes-on (described d .returns) (returns-end d h)
 
-pub arguments-go-on : (d : ℕ) → d < 30 → (i : ℕ) → i < length (described d .arguments) → (Decides (getD (described d .arguments) i past) → ⊥) → i + 1 < length (described d .arguments)
+pub arguments-go-on : (d : ℕ) → d < description-count → (i : ℕ) → i < length (described d .arguments) → (Decides (getD (described d .arguments) i past) → ⊥) → i + 1 < length (described d .arguments)
 arguments-go-on d h = goes-on (described d .arguments) (arguments-end d h)
 
 -- No list has more than four rules. A walk doesn't stand on this.

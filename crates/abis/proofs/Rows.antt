@@ -10,7 +10,7 @@ use Rattle.describe.specs.declared.Others.{Others}
 use Rattle.describe.specs.Description.{Description, past, others}
 use Rattle.describe.specs.Row.{encode, decode, held, returnRule, argumentRule, banksOf, scalarsOf, othersOf, returnPointerOf, variadicOf}
 use Rattle.describe.proofs.Inverse.{return-rule-back, argument-rule-back, banks-back, scalars-back, others-back, decode-back}
-use Rattle.abis.specs.Abis.{described, descriptions, blank}
+use Rattle.abis.specs.Abis.{described, descriptions, blank, description-count}
 use Rattle.abis.proofs.Every.{anywhere}
 
 pub fits : (d : ℕ) → T (held (described d))
@@ -47,7 +47,7 @@ row-decoded d = decode-back (described d) (fits d)
 pub here : (k : ℕ) {d : ℕ} → d ≡ k → encode (described k) ≡ encode (described d)
 here k e = ap (λ (n : ℕ). encode (described n)) (sym e)
 
-pub past-last : (d : ℕ) → 30 ≤ d → encode blank ≡ encode (described d)
+pub past-last : (d : ℕ) → description-count ≤ d → encode blank ≡ encode (described d)
 unfolding described descriptions
 past-last d h = ap encode (sym (List·getD-eq-default descriptions blank h))
 
@@ -57,7 +57,7 @@ inside [] a b k h = absurd (not-suc-le-zero h)
 inside (x ∷ xs) a b zero h = refl
 inside (x ∷ xs) a b (suc k) h = inside xs a b k (le-of-suc-le-suc h)
 
-pub indexed : {A : Type 0} (f : Description → A) (table : List A) (other : A) → table ≡ map f descriptions → (d : ℕ) → d < 30 → getD table d other ≡ f (described d)
+pub indexed : {A : Type 0} (f : Description → A) (table : List A) (other : A) → table ≡ map f descriptions → (d : ℕ) → d < description-count → getD table d other ≡ f (described d)
 unfolding described descriptions
 indexed {A} f table other e d h =
     ap (λ (entries : List A). getD entries d other) e

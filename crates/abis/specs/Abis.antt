@@ -382,6 +382,10 @@ blank =
       cleanup = Caller;
     }
 
+-- How many there are.
+abbrev pub description-count : ℕ
+description-count = 30
+
 -- The description of a number.
 unfoldable pub described : ℕ → Description
 described d = getD descriptions d blank

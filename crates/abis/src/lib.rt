@@ -20,15 +20,6 @@ use table::*;
 
 pub const DESCRIPTIONS: u64 = 30;
 
-pub const BAD_ABI: u64 = 1;
-
-pub const BAD_SIZE: u64 = 5;
-
-pub const NO_ROOM: u64 = 7;
-
-// The largest size of a scalar (REFERENCE 2).
-const LARGEST: u64 = 64;
-
 // Yes or no, unless refused.
 pub struct Asked {
     pub refusal: u64,
@@ -90,9 +81,9 @@ pub fn scalar_is_by_reference(d: u64, size: u64) -> Asked
     ensures { λ r. ⌜ r ≡ isByReferenceAnswer d size ⌝ }
 {
     let refusal = question_refusal(d, size);
-    if refusal == 0 {
+    if refusal == shape::ACCEPTED {
         Asked {
-            refusal: 0,
+            refusal: shape::ACCEPTED,
             answer: describe::scalar_is_by_reference(scalars(d), size),
         }
     } else {
@@ -108,9 +99,9 @@ pub fn scalar_returns_by_reference(d: u64, size: u64) -> Asked
     ensures { λ r. ⌜ r ≡ returnsByReferenceAnswer d size ⌝ }
 {
     let refusal = question_refusal(d, size);
-    if refusal == 0 {
+    if refusal == shape::ACCEPTED {
         Asked {
-            refusal: 0,
+            refusal: shape::ACCEPTED,
             answer: describe::scalar_returns_by_reference(scalars(d), size),
         }
     } else {
@@ -126,9 +117,9 @@ pub fn wide_integer_returns_in(d: u64, size: u64) -> AskedFormat
     ensures { λ r. ⌜ r ≡ wideReturnsInAnswer d size ⌝ }
 {
     let refusal = question_refusal(d, size);
-    if refusal == 0 {
+    if refusal == shape::ACCEPTED {
         AskedFormat {
-            refusal: 0,
+            refusal: shape::ACCEPTED,
             format: describe::wide_integer_returns_in(scalars(d), size),
         }
     } else {
@@ -143,12 +134,12 @@ fn question_refusal(d: u64, size: u64) -> u64
     ensures { λ r. ⌜ r ≡ questionRefusal d size ⌝ }
 {
     if DESCRIPTIONS <= d {
-        return BAD_ABI;
+        return shape::BAD_ABI;
     }
-    if LARGEST < size {
-        return BAD_SIZE;
+    if shape::MOST_SIZE < size {
+        return shape::BAD_SIZE;
     }
-    0
+    shape::ACCEPTED
 }
 
 // The same row as `row` gives, for readers of literal places: where those are known, a `match` costs a few loads.

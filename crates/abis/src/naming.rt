@@ -3,9 +3,7 @@ ghost use mathlib.Core.Path.{_≡_};
 ghost use Prim.Native.Nat.{_≤_};
 ghost use lib.ListN.{length, take};
 ghost use Rattle.abis.specs.Answers.{nameAnswer, nameWritten, putAnswer, putWritten};
-use crate::BAD_ABI;
 use crate::DESCRIPTIONS;
-use crate::NO_ROOM;
 use crate::table::LENGTHS;
 use crate::table::LONGEST;
 use crate::table::NAMES;
@@ -22,7 +20,7 @@ pub fn name(d: u64, out: &mut [u8]) -> Named
 {
     if DESCRIPTIONS <= d {
         return Named {
-            refusal: BAD_ABI,
+            refusal: shape::BAD_ABI,
             length: 0,
         };
     }
@@ -40,7 +38,7 @@ fn put(name: [u8; LONGEST], count: u64, out: &mut [u8]) -> Named
     let n = count as usize;
     if out.len() < n {
         return Named {
-            refusal: NO_ROOM,
+            refusal: shape::NO_ROOM,
             length: 0,
         };
     }
@@ -50,7 +48,7 @@ fn put(name: [u8; LONGEST], count: u64, out: &mut [u8]) -> Named
         i += 1;
     }
     Named {
-        refusal: 0,
+        refusal: shape::ACCEPTED,
         length: count,
     }
 }

@@ -1,10 +1,11 @@
 // The thirty descriptions, a row each, in the order of their numbers. A row's lines: integer and float registers, integer and float
 // width; flags; formats; return pointer and variadic; stack arguments, narrow and bit-precise integers, cleanup; then four rules
 // for returns and four for arguments, each its test, the test's number, and the way of travel with what happens when short.
+use crate::DESCRIPTIONS;
 use describe::WIDTH;
 use describe::codes::*;
 
-pub const TABLE: [[u8; WIDTH]; 30] = [
+pub const TABLE: [[u8; WIDTH]; DESCRIPTIONS as usize] = [
     SYSV_AMD64,
     AAPCS64, DARWIN_ARM64, WINDOWS_ARM64,
     WIN64,
@@ -25,7 +26,7 @@ pub const TABLE: [[u8; WIDTH]; 30] = [
 
 // Each name, with blanks behind it up to the length of the longest, and its own length.
 pub const LONGEST: usize = 48;
-pub const NAMES: [[u8; LONGEST]; 30] = [
+pub const NAMES: [[u8; LONGEST]; DESCRIPTIONS as usize] = [
     *b"SysV AMD64                                      ",
     *b"AAPCS64                                         ",
     *b"Darwin arm64                                    ",
@@ -57,7 +58,7 @@ pub const NAMES: [[u8; LONGEST]; 30] = [
     *b"i386 Windows stdcall (MSVC)                     ",
     *b"i386 Windows fastcall (MSVC)                    ",
 ];
-pub const LENGTHS: [u64; 30] = [
+pub const LENGTHS: [u64; DESCRIPTIONS as usize] = [
     10,
     7, 12, 13,
     11,

@@ -1,6 +1,6 @@
 -- `named_row` gives each number its row: antt computes the code of each description, which is the row.
 use Rattle.describe.proofs.Cases.{none-below}
-use Rattle.abis.specs.Abis.{described, descriptions}
+use Rattle.abis.specs.Abis.{described, descriptions, description-count}
 use Rattle.abis.proofs.Rows.{here, past-last}
 use Rattle.abis.proofs.named_row.Statement.{statement}
 use Rattle.abis.proofs.named_row.Tie as tie
@@ -40,4 +40,4 @@ named-row-spec =
     (λ c. here 27 (c .match .keys28))
     (λ c. here 28 (c .match .keys29))
     (λ c. here 29 (c .match .keys30))
-    (λ c. past-last (c .before .args .d) (none-below 30 (c .before .args .d) (c .match .rest))))
+    (λ c. past-last (c .before .args .d) (none-below description-count (c .before .args .d) (c .match .rest))))
