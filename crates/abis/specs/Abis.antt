@@ -19,7 +19,7 @@ use Rattle.describe.specs.declared.BitInts.the-variants.{SpareBits, Untaught}
 use Rattle.describe.specs.declared.Cleanup.{Cleanup}
 use Rattle.describe.specs.declared.Cleanup.the-variants.{Caller, Callee}
 use Rattle.describe.specs.Description.{Description, rule, ruleShort}
-use Rattle.abis.specs.Text.{bytes}
+use Rattle.text.specs.Text.{bytes}
 
 -- Formats as a piece's kind has them; 0 is none.
 abbrev none : ℕ

@@ -1,14 +1,14 @@
 -- What the questions and the name of a description answer, by its number (REFERENCE 3, 5.5, 5.7).
 use Prim.Native.Nat.{ℕ}
 use mathlib.Core.Bool.{Bool, false, cond}
-use mathlib.Core.List.{List, _++_}
+use mathlib.Core.List.{List}
 use lib.Dec.{eqb, leb, ltb}
-use lib.ListN.{length, drop}
-use Rattle.shape.specs.Numbers.{accepted, bad-abi, bad-size, no-room, most-size}
+use Rattle.shape.specs.Numbers.{accepted, bad-abi, bad-size, most-size}
+use Rattle.text.specs.Text.{written, putAnswer, putWritten}
+use Rattle.text.specs.declared.Written.{Written}
 use Rattle.describe.specs.Questions.{isByReference, returnsByReference, wideReturnsIn}
 use Rattle.abis.specs.declared.Asked.{Asked}
 use Rattle.abis.specs.declared.AskedFormat.{AskedFormat}
-use Rattle.abis.specs.declared.naming.Named.{Named}
 use Rattle.abis.specs.Abis.{described, description-count}
 
 -- BAD_ABI where there is no such description, then BAD_SIZE above a scalar's limit.
@@ -33,17 +33,9 @@ returnsByReferenceAnswer d size = asked (questionRefusal d size) (returnsByRefer
 unfoldable pub wideReturnsInAnswer : ℕ → ℕ → AskedFormat
 wideReturnsInAnswer d size = askedFormat (questionRefusal d size) (wideReturnsIn (described d .scalars) size)
 
--- Bytes at the front of a buffer of some room: their number, or NO_ROOM where they don't fit.
-unfoldable pub putAnswer : List ℕ → ℕ → Named
-putAnswer bytes room =
-    cond (ltb room (length bytes)) (record { refusal = no-room; length = 0 }) (record { refusal = accepted; length = length bytes })
-
--- What the buffer then holds: the bytes, and behind them what it held; all that it held where they don't fit.
-unfoldable pub putWritten : List ℕ → List ℕ → List ℕ
-putWritten bytes out = cond (ltb (length out) (length bytes)) out (bytes ++ drop (length bytes) out)
-
-unfoldable pub nameAnswer : ℕ → ℕ → Named
-nameAnswer d room = cond (leb description-count d) (record { refusal = bad-abi; length = 0 }) (putAnswer (described d .name) room)
+-- BAD_ABI, or what writing the name answers and leaves.
+unfoldable pub nameAnswer : ℕ → ℕ → Written
+nameAnswer d room = cond (leb description-count d) (written bad-abi 0) (putAnswer (described d .name) room)
 
 unfoldable pub nameWritten : ℕ → List ℕ → List ℕ
 nameWritten d out = cond (leb description-count d) out (putWritten (described d .name) out)

@@ -14,7 +14,6 @@ use describe::ReturnPointer;
 use describe::Scalars;
 use describe::Variadic;
 use describe::WIDTH;
-pub use naming::Named;
 pub use naming::name;
 use table::*;
 

@@ -58,7 +58,7 @@ pub const NAMES: [[u8; LONGEST]; DESCRIPTIONS as usize] = [
     *b"i386 Windows stdcall (MSVC)                     ",
     *b"i386 Windows fastcall (MSVC)                    ",
 ];
-pub const LENGTHS: [u64; DESCRIPTIONS as usize] = [
+pub const LENGTHS: [usize; DESCRIPTIONS as usize] = [
     10,
     7, 12, 13,
     11,

@@ -3,14 +3,16 @@ use Prim.Native.Nat.{ℕ}
 use mathlib.Core.Path.{_≡_}
 use mathlib.Core.List.{List}
 use mathlib.Core.Bool.{Bool, true, false, not}
+use Rattle.shape.specs.Numbers.{accepted}
+use Rattle.text.specs.Text.{written}
+use Rattle.text.specs.declared.Written.{Written}
 use Rattle.lookup.specs.Codes.{isTarget, isConvention, architectureOf, systemOf, conventionOf}
 use Rattle.lookup.specs.Rows.{forTarget, forConvention}
 use Rattle.lookup.specs.Attributes.{asked, attribute}
-use Rattle.lookup.specs.Lookup.{noneNumber, numberOf, codeOf, targetAnswer, conventionAnswer, askedAnswer, written, nameAnswer, nameWritten, attributeAnswer, attributeWritten}
+use Rattle.lookup.specs.Lookup.{noneNumber, numberOf, codeOf, targetAnswer, conventionAnswer, askedAnswer, nameAnswer, nameWritten, attributeAnswer, attributeWritten}
 use Rattle.lookup.specs.declared.codes.Architecture.{Architecture}
 use Rattle.lookup.specs.declared.codes.System.{System}
 use Rattle.lookup.specs.declared.codes.Convention.{Convention}
-use Rattle.lookup.specs.declared.attributes.Written.{Written}
 use Rattle.lookup.proofs.CodeLaws.{known, unknown}
 
 module _ (architecture system : ℕ) {t : Bool} (e : t ≡ isTarget architecture system) where
@@ -49,7 +51,7 @@ module _ (architecture system : ℕ) {t : Bool} (e : t ≡ isTarget architecture
 
 module _ (convention : ℕ) {u : Bool} (e : u ≡ isConvention convention) where
   module _ (n : not u ≡ true) where
-    pub attribute-unknown : (room : ℕ) → written 0 noneNumber ≡ attributeAnswer convention room
+    pub attribute-unknown : (room : ℕ) → written accepted noneNumber ≡ attributeAnswer convention room
     unfolding nameAnswer
     attribute-unknown room = rw (unknown e n)
 

@@ -1,18 +1,16 @@
--- Names as bytes: comparing them byte by byte, and writing one to the front of a buffer. Assumes nothing.
+-- Names as bytes: comparing them byte by byte, and the name of regparm. Assumes nothing.
 use Prim.Native.Nat.{ℕ, suc, _+_, _≤_, _<_}
-use mathlib.Core.Path.{_≡_, refl, ap, sym, subst, _∙_}
+use mathlib.Core.Path.{_≡_, refl, ap, sym, _∙_}
 use mathlib.Core.List.{List, [], _∷_}
 use mathlib.Core.Bool.{Bool, true, false, _&&_}
-use mathlib.Core.Option.{some}
 use native.Mathlib.Omega.{arith}
 use native.Mathlib.Numerals.{add-one}
-use borrow.Author.Tests.{eqb-true, eq-eqb, ne-eqb, le-leb, lt-leb}
+use borrow.Author.Tests.{eqb-true, eq-eqb, ne-eqb}
 use lib.Dec.{eqb}
-use lib.ListN.{length, drop, set, getD, List·getD-eq-default}
-use lib.Seq.{drop-cons, drop-length, take-length, paste, paste-suc}
-use Rattle.lookup.specs.Attributes.{sameBytes, bytes, attribute, regparmNames}
-use Rattle.lookup.specs.Lookup.{written, nameAnswer, nameWritten}
-use Rattle.lookup.specs.declared.codes.Convention.the-variants.{Regparm}
+use lib.ListN.{length, drop, getD, List·getD-eq-default}
+use lib.Seq.{drop-cons, drop-length}
+use Rattle.text.specs.Text.{bytes}
+use Rattle.lookup.specs.Attributes.{sameBytes, regparmNames}
 
 -- lists of other lengths differ
 pub same-lengths : (as' bs : List ℕ) → (length as' ≡ length bs → ⊥) → false ≡ sameBytes as' bs
@@ -64,31 +62,6 @@ unfolding sameBytes
 same-refl [] = refl
 same-refl (a ∷ as') = rw (eq-eqb a a refl) (same-refl as')
 
--- the loop of `write`: a copy byte by byte
-module _ (name out₀ : List ℕ) where
-  pub no-room : length out₀ < length name → (written 7 0 ≡ nameAnswer (some name) (length out₀)) × (out₀ ≡ nameWritten (some name) out₀)
-  unfolding nameAnswer nameWritten
-  no-room h = (rw (lt-leb _ _ h), rw (lt-leb _ _ h))
-
-  module _ (room : length name ≤ length out₀) where
-    pub copy-next : (i : ℕ) (out : List ℕ) → i < length name → out ≡ paste out₀ 0 name i → set out i (getD name i 0) ≡ paste out₀ 0 name (i + 1)
-    copy-next i out h e =
-        let z : 0 + i ≡ i = omega arith in
-        rw (e, add-one)
-        (subst (λ (k : ℕ). set (paste out₀ 0 name i) k (getD name i 0) ≡ paste out₀ 0 name (suc i)) z
-        (paste-suc out₀ 0 name i 0 (omega arith) (omega arith)))
-
-    pub copy-answer : written 0 (length name) ≡ nameAnswer (some name) (length out₀)
-    unfolding nameAnswer
-    copy-answer = rw (le-leb _ _ room)
-
-    pub copy-done : (i : ℕ) (out : List ℕ) → length name ≤ i → i ≤ length name → out ≡ paste out₀ 0 name i → out ≡ nameWritten (some name) out₀
-    unfolding nameWritten
-    copy-done i out p q e =
-        let n : i ≡ length name = omega arith in
-        let z : 0 + length name ≡ length name = omega arith in
-        rw (le-leb _ _ room, e, n, z, take-length)
-
 -- every number of registers above two has the name of three
-pub three-or-more : (n : ℕ) → 3 ≤ n → some (bytes "regparm(3)") ≡ attribute (Regparm n)
-three-or-more n h = ap some (sym (List·getD-eq-default regparmNames (bytes "regparm(3)") h))
+pub three-or-more : (n : ℕ) → 3 ≤ n → getD regparmNames n (bytes "regparm(3)") ≡ bytes "regparm(3)"
+three-or-more n h = List·getD-eq-default regparmNames (bytes "regparm(3)") h

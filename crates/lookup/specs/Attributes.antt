@@ -1,23 +1,18 @@
 -- Which convention an attribute's name asks for, which name asks for a convention, and whose callee pops (REFERENCE 6.4).
 use Prim.Native.Nat.{ℕ}
-use Prim.Native.Char.{code}
-use Prim.Native.String.{String, [] as ends, _∷_ as _then_}
+use Prim.Native.String.{String}
 use mathlib.Core.List.{List, [], _∷_}
 use mathlib.Core.Bool.{Bool, true, false, cond, _&&_}
 use mathlib.Core.Option.{Option, none, some}
 use lib.Dec.{eqb}
 use lib.ListN.{getD}
+use Rattle.text.specs.Text.{bytes}
 use Rattle.lookup.specs.Codes.{isWindows, isElf}
 use Rattle.lookup.specs.declared.codes.Architecture.{Architecture}
 use Rattle.lookup.specs.declared.codes.Architecture.the-variants.{X86, «X86_64», Aarch64, Riscv64, Other}
 use Rattle.lookup.specs.declared.codes.System.{System}
 use Rattle.lookup.specs.declared.codes.Convention.{Convention}
 use Rattle.lookup.specs.declared.codes.Convention.the-variants.{Target, Ms, Sysv, Stdcall, Fastcall, Regparm, NoCalleeSaved, PreserveNone}
-
--- the bytes of a text of ASCII characters
-abbrev pub bytes : String → List ℕ
-bytes ends = []
-bytes (c then s) = code c ∷ bytes s
 
 -- whether two lists of bytes are the same, length and every byte
 unfoldable pub sameBytes : List ℕ → List ℕ → Bool

@@ -1,19 +1,19 @@
 -- What the public lookups promise, from codes to numbers: a code that isn't known answers none (REFERENCE 6.1).
 use Prim.Native.Nat.{ℕ}
-use mathlib.Core.List.{List, _++_}
+use mathlib.Core.List.{List}
 use mathlib.Core.Bool.{Bool, cond, _&&_}
 use mathlib.Core.Option.{Option, none, some}
-use lib.Dec.{leb}
-use lib.ListN.{length, drop}
+use Rattle.shape.specs.Numbers.{accepted, most-word}
+use Rattle.text.specs.Text.{written, putAnswer, putWritten}
+use Rattle.text.specs.declared.Written.{Written}
 use Rattle.lookup.specs.Codes.{isTarget, isConvention, architectureOf, systemOf, conventionOf, conventionCode}
 use Rattle.lookup.specs.Rows.{forTarget, forConvention}
 use Rattle.lookup.specs.Attributes.{asked, attribute, calleePops}
 use Rattle.lookup.specs.declared.codes.Convention.{Convention}
-use Rattle.lookup.specs.declared.attributes.Written.{Written}
 
 -- the number of none (REFERENCE 1.5)
 abbrev pub noneNumber : ℕ
-noneNumber = 18446744073709551615
+noneNumber = most-word
 
 abbrev pub numberOf : Option ℕ → ℕ
 numberOf none = noneNumber
@@ -40,22 +40,15 @@ askedAnswer architecture system msvc name =
 unfoldable pub popsAnswer : ℕ → Bool
 popsAnswer convention = isConvention convention && calleePops (conventionOf convention)
 
--- NO_ROOM (REFERENCE 3)
-abbrev pub noRoom : ℕ
-noRoom = 7
-
-abbrev pub written : ℕ → ℕ → Written
-written refusal count = record { refusal = refusal; length = count }
-
--- no name: none; a name that fits: its number of bytes; otherwise NO_ROOM
+-- no name: none; a name: what writing it answers
 unfoldable pub nameAnswer : Option (List ℕ) → ℕ → Written
-nameAnswer none room = written 0 noneNumber
-nameAnswer (some name) room = cond (leb (length name) room) (written 0 (length name)) (written noRoom 0)
+nameAnswer none room = written accepted noneNumber
+nameAnswer (some name) room = putAnswer name room
 
--- the name at the front, where it fits; every byte behind it keeps its value
+-- no name leaves every byte as it was
 unfoldable pub nameWritten : Option (List ℕ) → List ℕ → List ℕ
 nameWritten none out = out
-nameWritten (some name) out = cond (leb (length name) (length out)) (name ++ drop (length name) out) out
+nameWritten (some name) out = putWritten name out
 
 abbrev pub nameOf : ℕ → Option (List ℕ)
 nameOf convention = cond (isConvention convention) (attribute (conventionOf convention)) none

@@ -1,6 +1,5 @@
 // Attributes by name: which convention one asks for, and which one asks for a convention.
 ghost use mathlib.Core.Path.{_≡_};
-ghost use mathlib.Core.Option.{some};
 ghost use lib.ListN.{length};
 ghost use Rattle.lookup.specs.Lookup.{codeOf, nameAnswer, nameWritten};
 ghost use Rattle.lookup.specs.Attributes.{askedOnX86, askedOnX86-64, sameBytes};
@@ -19,14 +18,8 @@ use crate::codes::System;
 use crate::codes::TARGET;
 use crate::codes::is_elf;
 use crate::codes::is_windows;
-
-// What writing a name answers: a refusal or 0, and the number of bytes written or NONE.
-pub struct Written {
-    pub refusal: u64,
-    pub length: u64,
-}
-
-const NO_ROOM: u64 = 7;
+use text::Written;
+use text::put;
 
 pub fn asked(architecture: Architecture, system: System, name: &[u8]) -> u64
     ensures { λ r. ⌜ r ≡ codeOf (askedOf architecture system (now (name .entry))) ⌝ }
@@ -96,16 +89,16 @@ pub fn write_attribute(convention: Convention, out: &mut [u8]) -> Written
 {
     match convention {
         Convention::Target => Written {
-            refusal: 0,
+            refusal: shape::ACCEPTED,
             length: NONE,
         },
-        Convention::Ms => write(b"ms_abi", out),
-        Convention::Sysv => write(b"sysv_abi", out),
-        Convention::Stdcall => write(b"stdcall", out),
-        Convention::Fastcall => write(b"fastcall", out),
+        Convention::Ms => put(b"ms_abi", out),
+        Convention::Sysv => put(b"sysv_abi", out),
+        Convention::Stdcall => put(b"stdcall", out),
+        Convention::Fastcall => put(b"fastcall", out),
         Convention::Regparm(n) => write_regparm(n, out),
-        Convention::NoCalleeSaved => write(b"no_callee_saved_registers", out),
-        Convention::PreserveNone => write(b"preserve_none", out),
+        Convention::NoCalleeSaved => put(b"no_callee_saved_registers", out),
+        Convention::PreserveNone => put(b"preserve_none", out),
     }
 }
 
@@ -114,31 +107,9 @@ fn write_regparm(n: u64, out: &mut [u8]) -> Written
     ensures { λ r. ⌜ (r ≡ nameAnswer (attributeOf (Regparm n)) (length (now (out .entry)))) × (now (out .exit) ≡ nameWritten (attributeOf (Regparm n)) (now (out .entry))) ⌝ }
 {
     match n {
-        0 => write(b"regparm(0)", out),
-        1 => write(b"regparm(1)", out),
-        2 => write(b"regparm(2)", out),
-        _ => write(b"regparm(3)", out),
-    }
-}
-
-// Writes a name to the front of `out`, where it fits.
-fn write(name: &[u8], out: &mut [u8]) -> Written
-    ensures { λ r. ⌜ (r ≡ nameAnswer (some (now (name .entry))) (length (now (out .entry)))) × (now (out .exit) ≡ nameWritten (some (now (name .entry))) (now (out .entry))) ⌝ }
-{
-    let n = name.len();
-    if n > out.len() {
-        return Written {
-            refusal: NO_ROOM,
-            length: 0,
-        };
-    }
-    let mut at = 0;
-    while at < n {
-        out[at] = name[at];
-        at += 1;
-    }
-    Written {
-        refusal: 0,
-        length: n as u64,
+        0 => put(b"regparm(0)", out),
+        1 => put(b"regparm(1)", out),
+        2 => put(b"regparm(2)", out),
+        _ => put(b"regparm(3)", out),
     }
 }

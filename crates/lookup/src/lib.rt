@@ -4,7 +4,6 @@ mod attributes;
 mod codes;
 mod rows;
 
-pub use attributes::Written;
 use attributes::write_attribute;
 use codes::FASTCALL;
 use codes::STDCALL;
@@ -15,6 +14,7 @@ use codes::is_target;
 use codes::system_of;
 use rows::convention_row;
 use rows::target_row;
+use text::Written;
 ghost use mathlib.Core.Path.{_≡_};
 ghost use lib.ListN.{length};
 ghost use Rattle.lookup.specs.Lookup.{targetAnswer, conventionAnswer, askedAnswer, attributeAnswer, attributeWritten, popsAnswer};
@@ -66,7 +66,7 @@ pub fn attribute(convention: u64, out: &mut [u8]) -> Written
 {
     if !is_convention(convention) {
         return Written {
-            refusal: 0,
+            refusal: shape::ACCEPTED,
             length: NONE,
         };
     }

@@ -3,7 +3,7 @@ use mathlib.Core.Path.{refl}
 use Prim.Native.Nat.{_<_}
 use borrow.Author.Needs.{needs}
 use Rattle.abis.specs.Abis.{described, descriptions, description-count}
-use Rattle.abis.proofs.Names.{named, unnamed, name-there, length-there}
+use Rattle.abis.proofs.Names.{named, unnamed, name-there, length-there, length-cut}
 use Rattle.abis.proofs.naming.name.Statement.{statement}
 use Rattle.abis.proofs.naming.name.Tie as tie
 
@@ -17,6 +17,8 @@ name-spec =
     (λ c. search needs)
     (λ c. search needs)
     (λ c. search needs)
-    (λ c κs. length-there _ _ _ refl refl (c .before .before .before .before .args .d) (search needs))
+    (λ c. length-there _ _ _ refl refl (c .before .before .before .args .d) (search needs))
+    (λ c. length-cut _ _ _ refl refl (c .before .before .before .before .args .d) (search needs))
+    (λ c κs. search needs)
     (λ c. search needs)
-    (λ c. let d = c .before .before .before .before .before .before .before .args .d in let h : d < description-count = search needs in named d _ _ _ _ h (name-there _ _ _ refl refl d h) (c .before .before .put .ensures)))
+    (λ c. let d = c .before .before .before .before .before .before .before .before .args .d in let h : d < description-count = search needs in named d _ _ _ _ h (name-there _ _ _ refl refl d h) (c .before .before .put .ensures)))

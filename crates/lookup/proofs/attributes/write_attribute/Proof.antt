@@ -10,25 +10,31 @@ unfolding nameAnswer nameWritten
 returns c = rw (c .enum-told .given .1) (refl, refl)
 
 returns-2 : tie.Need-returns-2
-returns-2 c = rw (c .before .before .before .before .before .enum-told2 .given .1) (c .before .before .write .ensures)
+unfolding nameAnswer nameWritten
+returns-2 c = rw (c .before .before .before .before .before .enum-told2 .given .1) (c .before .before .put .ensures)
 
 returns-3 : tie.Need-returns-3
-returns-3 c = rw (c .before .before .before .before .before .enum-told3 .given .1) (c .before .before .write2 .ensures)
+unfolding nameAnswer nameWritten
+returns-3 c = rw (c .before .before .before .before .before .enum-told3 .given .1) (c .before .before .put2 .ensures)
 
 returns-4 : tie.Need-returns-4
-returns-4 c = rw (c .before .before .before .before .before .enum-told4 .given .1) (c .before .before .write3 .ensures)
+unfolding nameAnswer nameWritten
+returns-4 c = rw (c .before .before .before .before .before .enum-told4 .given .1) (c .before .before .put3 .ensures)
 
 returns-5 : tie.Need-returns-5
-returns-5 c = rw (c .before .before .before .before .before .enum-told5 .given .1) (c .before .before .write4 .ensures)
+unfolding nameAnswer nameWritten
+returns-5 c = rw (c .before .before .before .before .before .enum-told5 .given .1) (c .before .before .put4 .ensures)
 
 returns-6 : tie.Need-returns-6
 returns-6 c = rw (c .before .before .before .before .before .convention .given .1) (c .before .before .write-regparm .ensures)
 
 returns-7 : tie.Need-returns-7
-returns-7 c = rw (c .before .before .before .before .before .enum-told6 .given .1) (c .before .before .write5 .ensures)
+unfolding nameAnswer nameWritten
+returns-7 c = rw (c .before .before .before .before .before .enum-told6 .given .1) (c .before .before .put5 .ensures)
 
 returns-8 : tie.Need-returns-8
-returns-8 c = rw (c .before .before .before .before .before .enum-told7 .given .1) (c .before .before .write6 .ensures)
+unfolding nameAnswer nameWritten
+returns-8 c = rw (c .before .before .before .before .before .enum-told7 .given .1) (c .before .before .put6 .ensures)
 
 pub write-attribute-spec : {M : Type 1} → statement M
 write-attribute-spec =

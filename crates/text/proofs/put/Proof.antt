@@ -1,12 +1,12 @@
--- `write` meets its contract. The invariant: the bytes passed are the name's, and those to come are as they were.
+-- `put` meets its contract. The invariant: the bytes passed are the name's, and those to come are as they were.
 use Prim.Native.Nat.{_≤_, _-_}
 use mathlib.Core.Path.{_≡_, refl}
 use native.Mathlib.Omega.{arith}
 use lib.ListN.{length, length-set}
 use lib.Seq.{paste}
-use Rattle.lookup.proofs.NameLaws.{no-room, copy-next, copy-answer, copy-done}
-use Rattle.lookup.proofs.attributes.write.Statement.{statement}
-use Rattle.lookup.proofs.attributes.write.Tie as tie
+use Rattle.text.proofs.Copy.{refused, copy-next, copy-answer, copy-done}
+use Rattle.text.proofs.put.Statement.{statement}
+use Rattle.text.proofs.put.Tie as tie
 
 abbrev Inv-loop : tie.InvT-loop
 Inv-loop name out₀ n at₀ out at = (at ≤ n) × (length out ≡ length out₀) × (out ≡ paste out₀ 0 name at)
@@ -15,7 +15,7 @@ abbrev μ-loop : tie.MeasureT-loop
 μ-loop name out₀ n at₀ out at = n - at
 
 returns : tie.Need-returns Inv-loop μ-loop
-returns c = search (no-room)
+returns c = search (refused)
 
 loop-holds : tie.Need-loop-holds Inv-loop μ-loop
 loop-holds c = (omega arith, refl, refl)
@@ -41,8 +41,8 @@ same-length c = omega arith
 returns-2 : tie.Need-returns-2 Inv-loop μ-loop
 returns-2 c = (search (copy-answer), search (copy-done))
 
-pub write-spec : {M : Type 1} → statement M
-write-spec =
+pub put-spec : {M : Type 1} → statement M
+put-spec =
     tie.close
     (tie.spec
     Inv-loop

@@ -1,0 +1,2 @@
+mod Copy
+mod Unique

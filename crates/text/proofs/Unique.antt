@@ -1,0 +1,12 @@
+-- No second answer, and no other bytes in a lent buffer, meet the promise of a public function. Assumes nothing.
+use mathlib.Core.Path.{sym, _∙_}
+use contract.Lifetimes.{Lfts}
+use denote.Ref.{now}
+use Rattle.shape.proofs.OneAnswer.{OneAnswer, OneExit}
+use Rattle.text.proofs.put.Reads as put
+
+put-decides : (κs : Lfts 2) → OneAnswer (put.Post κs)
+put-decides κs a r q s t p p′ = p .0 ∙ sym (p′ .0)
+
+put-bytes : (κs : Lfts 2) → OneExit (put.Post κs) (λ s. now (s .1 .0))
+put-bytes κs a r q s t p p′ = p .1 ∙ sym (p′ .1)

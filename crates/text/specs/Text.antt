@@ -1,0 +1,26 @@
+-- Texts as bytes, and what writing one to the front of a buffer answers and leaves (REFERENCE 3, 5.5, 6.4).
+use Prim.Native.Nat.{ℕ}
+use Prim.Native.Char.{code}
+use Prim.Native.String.{String, [] as ends, _∷_ as _then_}
+use mathlib.Core.List.{List, [], _∷_, _++_}
+use mathlib.Core.Bool.{cond}
+use lib.Dec.{leb}
+use lib.ListN.{length, drop}
+use Rattle.shape.specs.Numbers.{accepted, no-room}
+use Rattle.text.specs.declared.Written.{Written}
+
+-- the bytes of a text of ASCII characters
+abbrev pub bytes : String → List ℕ
+bytes ends = []
+bytes (c then s) = code c ∷ bytes s
+
+abbrev pub written : ℕ → ℕ → Written
+written refusal count = record { refusal = refusal; length = count }
+
+-- the number of bytes, or NO_ROOM where they don't all fit
+unfoldable pub putAnswer : List ℕ → ℕ → Written
+putAnswer name room = cond (leb (length name) room) (written accepted (length name)) (written no-room 0)
+
+-- the bytes at the front, where they fit; every byte behind them keeps its value
+unfoldable pub putWritten : List ℕ → List ℕ → List ℕ
+putWritten name out = cond (leb (length name) (length out)) (name ++ drop (length name) out) out
