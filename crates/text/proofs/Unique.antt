@@ -4,9 +4,16 @@ use contract.Lifetimes.{Lfts}
 use denote.Ref.{now}
 use Rattle.shape.proofs.OneAnswer.{OneAnswer, OneExit}
 use Rattle.text.proofs.put.Reads as put
+use Rattle.text.proofs.append.Reads as append
 
 put-decides : (κs : Lfts 2) → OneAnswer (put.Post κs)
 put-decides κs a r q s t p p′ = p .0 ∙ sym (p′ .0)
 
 put-bytes : (κs : Lfts 2) → OneExit (put.Post κs) (λ s. now (s .1 .0))
 put-bytes κs a r q s t p p′ = p .1 ∙ sym (p′ .1)
+
+append-decides : (κs : Lfts 2) → OneAnswer (append.Post κs)
+append-decides κs a r q s t p p′ = p .0 ∙ sym (p′ .0)
+
+append-bytes : (κs : Lfts 2) → OneExit (append.Post κs) (λ s. now (s .0))
+append-bytes κs a r q s t p p′ = p .1 ∙ sym (p′ .1)

@@ -1,11 +1,11 @@
--- Texts as bytes, and what writing one to the front of a buffer answers and leaves (REFERENCE 3, 5.5, 6.4).
-use Prim.Native.Nat.{ℕ}
+-- Texts as bytes, and what writing one into a buffer answers and leaves (REFERENCE 3, 5.5, 6.4).
+use Prim.Native.Nat.{ℕ, _+_}
 use Prim.Native.Char.{code}
 use Prim.Native.String.{String, [] as ends, _∷_ as _then_}
 use mathlib.Core.List.{List, [], _∷_, _++_}
 use mathlib.Core.Bool.{cond}
 use lib.Dec.{leb}
-use lib.ListN.{length, drop}
+use lib.ListN.{length, take, drop}
 use Rattle.shape.specs.Numbers.{accepted, no-room}
 use Rattle.text.specs.declared.Written.{Written}
 
@@ -24,3 +24,11 @@ putAnswer name room = cond (leb (length name) room) (written accepted (length na
 -- the bytes at the front, where they fit; every byte behind them keeps its value
 unfoldable pub putWritten : List ℕ → List ℕ → List ℕ
 putWritten name out = cond (leb (length name) (length out)) (name ++ drop (length name) out) out
+
+-- the bytes at a place of the buffer, where they fit behind it; otherwise no byte changes
+unfoldable pub appended : List ℕ → ℕ → List ℕ → List ℕ
+appended out at bs = cond (leb (at + length bs) (length out)) (take at out ++ bs ++ drop (at + length bs) out) out
+
+-- the place behind them, or the same place, by the length of the buffer
+unfoldable pub appendEnd : ℕ → ℕ → List ℕ → ℕ
+appendEnd room at bs = cond (leb (at + length bs) room) (at + length bs) at

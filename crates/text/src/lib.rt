@@ -1,7 +1,7 @@
-// A name's bytes, written into a lent buffer: the one way that names leave (REFERENCE 5.5, 6.4).
+// Bytes of text, written into a lent buffer: the one way that names leave (REFERENCE 5.5, 6.4), and that programs make their lines.
 ghost use mathlib.Core.Path.{_≡_};
 ghost use lib.ListN.{length};
-ghost use Rattle.text.specs.Text.{putAnswer, putWritten};
+ghost use Rattle.text.specs.Text.{putAnswer, putWritten, appendEnd, appended};
 
 // A refusal, or how many bytes were written. Who has no name to write answers none for the number.
 pub struct Written {
@@ -13,20 +13,33 @@ pub struct Written {
 pub fn put(bytes: &[u8], out: &mut [u8]) -> Written
     ensures { λ r. ⌜ (r ≡ putAnswer (now (bytes .entry)) (length (now (out .entry)))) × (now (out .exit) ≡ putWritten (now (bytes .entry)) (now (out .entry))) ⌝ }
 {
-    let n = bytes.len();
-    if n > out.len() {
+    if bytes.len() > out.len() {
         return Written {
             refusal: shape::NO_ROOM,
             length: 0,
         };
     }
-    let mut at = 0;
-    while at < n {
-        out[at] = bytes[at];
-        at += 1;
-    }
+    append(out, 0, bytes);
     Written {
         refusal: shape::ACCEPTED,
-        length: n as u64,
+        length: bytes.len() as u64,
     }
+}
+
+// The bytes go to a place of `out`, where they all fit behind it; the place behind them. What doesn't fit is left out whole.
+pub fn append(out: &mut [u8], at: usize, bytes: &[u8]) -> usize
+    ensures { λ r. ⌜ (r ≡ appendEnd (length (now (out .entry))) at (now (bytes .entry))) × (now (out .exit) ≡ appended (now (out .entry)) at (now (bytes .entry))) ⌝ }
+{
+    if at > out.len() {
+        return at;
+    }
+    if bytes.len() > out.len() - at {
+        return at;
+    }
+    let mut i = 0;
+    while i < bytes.len() {
+        out[at + i] = bytes[i];
+        i += 1;
+    }
+    at + bytes.len()
 }

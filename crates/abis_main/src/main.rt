@@ -1,0 +1,277 @@
+// Prints every field, rule and question of the thirty descriptions, a fact to a line, each as its number (REFERENCE 5). The original's own
+// answers are printed in the same form, and the two are compared.
+use describe::BitInts;
+use describe::Cleanup;
+use describe::Narrow;
+use describe::ReturnPointer;
+use describe::Rule;
+use describe::Short;
+use describe::StackArgs;
+use describe::Test;
+use describe::Travel;
+use describe::Variadic;
+use libc::STDOUT_FILENO;
+use text::append;
+
+fn main() {
+    for d in 0..abis::DESCRIPTIONS {
+        description(d);
+    }
+}
+
+fn description(d: u64) {
+    let mut space = io::buffer();
+    let out: &mut [u8] = &mut space;
+    let a = name(out, d);
+    let b = banks(out, a, d);
+    let c = scalars(out, b, d);
+    let e = others(out, c, d);
+    let f = rules(out, e, d, true);
+    let g = rules(out, f, d, false);
+    let h = questions(out, g, d);
+    flush(out, h);
+}
+
+fn name(out: &mut [u8], d: u64) -> usize {
+    let mut space = [0u8; 64];
+    let written = abis::name(d, &mut space);
+    let a = begin(out, 0, d, b" name ");
+    if written.length > 64 {
+        return a;
+    }
+    let n = written.length as usize;
+    let b = append(out, a, &space[..n]);
+    append(out, b, b"\n")
+}
+
+fn banks(out: &mut [u8], at: usize, d: u64) -> usize {
+    let banks = abis::banks(d);
+    let numbers = [
+        banks.integer,
+        banks.float,
+        banks.shared as u64,
+        banks.integer_width,
+        banks.float_width,
+    ];
+    let a = begin(out, at, d, b" banks");
+    line(out, a, &numbers)
+}
+
+fn scalars(out: &mut [u8], at: usize, d: u64) -> usize {
+    let scalars = abis::scalars(d);
+    let numbers = [
+        scalars.in_memory,
+        scalars.wide_integer_is_all_or_nothing as u64,
+        scalars.wide_integer_starts_even as u64,
+        scalars.wide_integer_drains as u64,
+        scalars.wide_is_by_reference as u64,
+        scalars.wide_integer_returns_in,
+        scalars.wide_integer_in_memory as u64,
+        scalars.decimal_in_integers as u64,
+        scalars.quad_returns_by_reference as u64,
+    ];
+    let a = begin(out, at, d, b" scalars");
+    line(out, a, &numbers)
+}
+
+fn others(out: &mut [u8], at: usize, d: u64) -> usize {
+    let others = abis::others(d);
+    let pointer = others.return_pointer;
+    let dots = others.variadic;
+    let stack = others.stack_args;
+    let narrowed = others.narrow;
+    let bits = others.bit_ints;
+    let cleaner = others.cleanup;
+    let numbers = [
+        return_pointer(pointer),
+        variadic(dots),
+        stack_args(stack),
+        narrow(narrowed),
+        bit_ints(bits),
+        cleanup(cleaner),
+    ];
+    let a = begin(out, at, d, b" others");
+    line(out, a, &numbers)
+}
+
+// A list's rules, up to the one that decides whatever it is asked: no row has a rule behind that.
+fn rules(out: &mut [u8], from: usize, d: u64, returning: bool) -> usize {
+    let row = abis::row(d);
+    let mut at = from;
+    for i in 0..describe::RULES {
+        let numbers = if returning {
+            rule_numbers(describe::return_rule(row, i), i)
+        } else {
+            rule_numbers(describe::argument_rule(row, i), i)
+        };
+        at = rule_line(out, at, d, returning, numbers);
+        if decides(numbers) {
+            return at;
+        }
+    }
+    at
+}
+
+fn rule_line(out: &mut [u8], at: usize, d: u64, returning: bool, numbers: [u64; 8]) -> usize {
+    if returning {
+        let a = begin(out, at, d, b" returns");
+        return line(out, a, &numbers);
+    }
+    let a = begin(out, at, d, b" arguments");
+    line(out, a, &numbers)
+}
+
+// Where a rule stands, its test with the test's numbers, the way of travel, and what happens when short.
+fn rule_numbers(rule: Rule, i: u64) -> [u64; 8] {
+    let when = rule.when;
+    let then = rule.then;
+    let otherwise = rule.short;
+    let test = test_numbers(when);
+    [
+        i,
+        test[0],
+        test[1],
+        test[2],
+        test[3],
+        test[4],
+        travel(then),
+        short(otherwise),
+    ]
+}
+
+// Its test is Anything, and it doesn't pass on to the next.
+fn decides(rule: [u64; 8]) -> bool {
+    (rule[1] == 0) & (rule[7] != 3)
+}
+
+fn questions(out: &mut [u8], from: usize, d: u64) -> usize {
+    let mut at = from;
+    for size in 0..=shape::MOST_SIZE {
+        at = question_line(out, at, d, size);
+    }
+    at
+}
+
+fn question_line(out: &mut [u8], at: usize, d: u64, size: u64) -> usize {
+    let is = abis::scalar_is_by_reference(d, size);
+    let returns = abis::scalar_returns_by_reference(d, size);
+    let wide = abis::wide_integer_returns_in(d, size);
+    let numbers = [size, is.answer as u64, returns.answer as u64, wide.format];
+    let a = begin(out, at, d, b" questions");
+    line(out, a, &numbers)
+}
+
+// A test's number, and the four numbers that it may have.
+fn test_numbers(test: Test) -> [u64; 5] {
+    match test {
+        Test::Anything => [0, 0, 0, 0, 0],
+        Test::Empty => [1, 0, 0, 0, 0],
+        Test::SizeOneOf(a, b, c, d) => [2, a, b, c, d],
+        Test::SizeAtMost(limit) => [3, limit, 0, 0, 0],
+        Test::Homogeneous(limit) => [4, limit, 0, 0, 0],
+        Test::FloatPair => [5, 0, 0, 0, 0],
+        Test::X87Stack => [6, 0, 0, 0, 0],
+        Test::LoneFloat => [7, 0, 0, 0, 0],
+        Test::FloatingMode => [8, 0, 0, 0, 0],
+        Test::ComplexFloat => [9, 0, 0, 0, 0],
+        Test::Eightbytes(limit) => [10, limit, 0, 0, 0],
+    }
+}
+
+fn travel(travel: Travel) -> u64 {
+    match travel {
+        Travel::Ignore => 0,
+        Travel::AsFound => 1,
+        Travel::AsIntegers => 2,
+        Travel::AsOneInteger => 3,
+        Travel::ByReference => 4,
+        Travel::InMemory => 5,
+        Travel::InMemoryAndSpend => 6,
+    }
+}
+
+fn short(short: Short) -> u64 {
+    match short {
+        Short::Unchanged => 0,
+        Short::Memory => 1,
+        Short::MemoryAndDrain => 2,
+        Short::TryNextRule => 3,
+    }
+}
+
+fn return_pointer(pointer: ReturnPointer) -> u64 {
+    match pointer {
+        ReturnPointer::FirstArgument => 0,
+        ReturnPointer::FirstArgumentPopped => 1,
+        ReturnPointer::Dedicated => 2,
+    }
+}
+
+fn variadic(variadic: Variadic) -> u64 {
+    match variadic {
+        Variadic::SameAsFixed => 0,
+        Variadic::AlwaysMemory => 1,
+        Variadic::BothBanks => 2,
+        Variadic::IntegersOnly => 3,
+        Variadic::UnnamedIntegers => 4,
+    }
+}
+
+fn stack_args(stack_args: StackArgs) -> u64 {
+    match stack_args {
+        StackArgs::RegisterSized => 0,
+        StackArgs::Packed => 1,
+    }
+}
+
+fn narrow(narrow: Narrow) -> u64 {
+    match narrow {
+        Narrow::Unspecified => 0,
+        Narrow::ToInt => 1,
+        Narrow::ArgsToInt => 2,
+    }
+}
+
+fn bit_ints(bit_ints: BitInts) -> u64 {
+    match bit_ints {
+        BitInts::SpareBits => 0,
+        BitInts::Untaught => 1,
+    }
+}
+
+fn cleanup(cleanup: Cleanup) -> u64 {
+    match cleanup {
+        Cleanup::Caller => 0,
+        Cleanup::Callee => 1,
+    }
+}
+
+// The front of a line: whose row it is, and what it says.
+fn begin(out: &mut [u8], at: usize, d: u64, word: &[u8]) -> usize {
+    let a = append(out, at, b"row");
+    let b = number(out, a, d);
+    append(out, b, word)
+}
+
+// The rest of a line: numbers.
+fn line(out: &mut [u8], from: usize, numbers: &[u64]) -> usize {
+    let mut at = from;
+    for i in 0..numbers.len() {
+        at = number(out, at, numbers[i]);
+    }
+    append(out, at, b"\n")
+}
+
+// A number behind a space.
+fn number(out: &mut [u8], at: usize, n: u64) -> usize {
+    let mut digits = [0u8; 20];
+    let count = io::decimal(n, &mut digits);
+    let a = append(out, at, b" ");
+    append(out, a, &digits[..count])
+}
+
+fn flush(out: &[u8], at: usize) {
+    if at <= out.len() {
+        io::write_all(STDOUT_FILENO, &out[..at]);
+    }
+}
