@@ -3,6 +3,7 @@
 ghost use Prim.Native.Nat.{_≤_};
 ghost use lib.ListN.{length};
 use libc::STDOUT_FILENO;
+use text::append;
 
 // Architectures 0 to 4 and systems 0 to 3 are known. Each has one code more here, and every target comes without MSVC and with it.
 const UNKNOWN_ARCHITECTURE: u64 = 5;
@@ -207,10 +208,10 @@ fn end_of(names: &[u8], start: usize) -> usize
 
 fn begin(out: &mut [u8], at: usize, unknown: bool, word: &[u8]) -> usize {
     if unknown {
-        let at = put(out, at, b"unknown ");
-        return put(out, at, word);
+        let at = append(out, at, b"unknown ");
+        return append(out, at, word);
     }
-    put(out, at, word)
+    append(out, at, word)
 }
 
 fn put_target(out: &mut [u8], at: usize, target: Target) -> usize {
@@ -220,53 +221,37 @@ fn put_target(out: &mut [u8], at: usize, target: Target) -> usize {
 }
 
 fn put_name(out: &mut [u8], at: usize, name: &[u8]) -> usize {
-    let at = push(out, at, b' ');
+    let at = append(out, at, b" ");
     if name.len() == 0 {
-        return push(out, at, b'-');
+        return append(out, at, b"-");
     }
-    put(out, at, name)
+    append(out, at, name)
 }
 
 // A number behind a space, or the word for none.
 fn put_answer(out: &mut [u8], at: usize, answer: u64) -> usize {
     if answer == lookup::NONE {
-        return put(out, at, b" none");
+        return append(out, at, b" none");
     }
     let mut digits = [0u8; 20];
     let count = io::decimal(answer, &mut digits);
-    let at = push(out, at, b' ');
-    put(out, at, &digits[..count])
+    let at = append(out, at, b" ");
+    append(out, at, &digits[..count])
 }
 
 fn put_attribute(out: &mut [u8], at: usize, convention: u64) -> usize {
     let mut name = [0u8; 32];
     let written = lookup::attribute(convention, &mut name);
     if written.length > 32 {
-        return put(out, at, b" none");
+        return append(out, at, b" none");
     }
     let length = written.length as usize;
     put_name(out, at, &name[..length])
 }
 
-fn put(out: &mut [u8], from: usize, text: &[u8]) -> usize {
-    let mut at = from;
-    for i in 0..text.len() {
-        at = push(out, at, text[i]);
-    }
-    at
-}
-
-// One byte more, where there is room: a line is far shorter than what `end_line` leaves free.
-fn push(out: &mut [u8], at: usize, byte: u8) -> usize {
-    if at < out.len() {
-        out[at] = byte;
-        return at + 1;
-    }
-    at
-}
-
+// A line is far shorter than what this leaves free.
 fn end_line(out: &mut [u8], at: usize) -> usize {
-    let at = push(out, at, b'\n');
+    let at = append(out, at, b"\n");
     if at < 65000 {
         return at;
     }
