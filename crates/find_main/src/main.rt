@@ -4,6 +4,7 @@ use libc::STDIN_FILENO;
 use libc::STDOUT_FILENO;
 use shape::Shape;
 use slots::Found;
+use text::append;
 ghost use Prim.Native.Nat.{_+_, _≤_};
 ghost use lib.ListN.{length};
 ghost use Rattle.io.specs.Counts.{Counts};
@@ -132,7 +133,8 @@ fn lines(shape: Shape, pieces: &[u64], each: &[u64], out: &mut [u8]) -> usize
     let b = put_pair(out, a, pieces, each, 8, 16);
     let c = put_pair(out, b, pieces, each, 8, 8);
     let d = put_pair(out, c, pieces, each, 4, 8);
-    within(put_others(out, d, shape, pieces, each), out)
+    let e = put_others(out, d, shape, pieces, each);
+    within(put_eightbytes(out, e, shape, pieces), out)
 }
 
 // A number of bytes, no more than there are.
@@ -149,7 +151,7 @@ fn put_limits(out: &mut [u8], shape: Shape, pieces: &[u64], each: &[u64]) -> usi
     let mut at = 0;
     let mut limit = 1;
     while limit <= 8 {
-        at = put_text(out, at, b"homogeneous ");
+        at = append(out, at, b"homogeneous ");
         at = put_number(out, at, limit);
         at = put_found(out, at, find::homogeneous(shape, pieces, limit), each);
         limit += 1;
@@ -165,9 +167,9 @@ fn put_pair(
     integer_width: u64,
     float_width: u64,
 ) -> usize {
-    let a = put_text(out, at, b"float_pair ");
+    let a = append(out, at, b"float_pair ");
     let b = put_number(out, a, integer_width);
-    let c = put_byte(out, b, b' ');
+    let c = append(out, b, b" ");
     let d = put_number(out, c, float_width);
     put_found(
         out,
@@ -190,66 +192,68 @@ fn put_others(out: &mut [u8], at: usize, shape: Shape, pieces: &[u64], each: &[u
     )
 }
 
+fn put_eightbytes(out: &mut [u8], at: usize, shape: Shape, pieces: &[u64]) -> usize {
+    let a = put_eightbytes_within(out, at, shape, pieces, 8);
+    let b = put_eightbytes_within(out, a, shape, pieces, 16);
+    let c = put_eightbytes_within(out, b, shape, pieces, 24);
+    let d = put_eightbytes_within(out, c, shape, pieces, 32);
+    put_eightbytes_within(out, d, shape, pieces, 64)
+}
+
+fn put_eightbytes_within(
+    out: &mut [u8],
+    at: usize,
+    shape: Shape,
+    pieces: &[u64],
+    limit: u64,
+) -> usize {
+    let mut each = [0u64; 24];
+    let answer = eightbytes::eightbytes(shape, pieces, limit);
+    let classes = answer.classes;
+    eightbytes::put_eightbytes(classes, shape.size, &mut each);
+    let a = append(out, at, b"eightbytes ");
+    let b = put_number(out, a, limit);
+    let found = answer.found;
+    put_found(out, b, found, &each)
+}
+
 fn put_line(out: &mut [u8], at: usize, name: &[u8], found: Found, each: &[u64]) -> usize {
-    let to = put_text(out, at, name);
+    let to = append(out, at, name);
     put_found(out, to, found, each)
 }
 
 // The end of a line: nothing, or how many slots and then that many of `each`.
 fn put_found(out: &mut [u8], at: usize, found: Found, each: &[u64]) -> usize {
     match found {
-        Found::Nothing => put_text(out, at, b" nothing\n"),
+        Found::Nothing => append(out, at, b" nothing\n"),
         Found::Slots { count, floats: _ } => put_slots(out, at, count, each),
     }
 }
 
 fn put_slots(out: &mut [u8], at: usize, count: u64, each: &[u64]) -> usize {
-    let mut to = put_byte(out, at, b' ');
+    let mut to = append(out, at, b" ");
     to = put_number(out, to, count);
     let n = shape::least(count, slots::room(each.len()) as u64) as usize * slots::SLOT;
     let mut from = 0;
     while n - from >= slots::SLOT {
-        to = put_slot(out, to, &each[from..from + slots::SLOT]);
+        to = put_slot(out, to, each[from], each[from + 1], each[from + 2]);
         from += slots::SLOT;
     }
-    put_byte(out, to, b'\n')
+    append(out, to, b"\n")
 }
 
 // A space, and the words of a slot with a colon between them.
-fn put_slot(out: &mut [u8], at: usize, slot: &[u64]) -> usize {
-    let mut to = at;
-    let mut mark = b' ';
-    let mut i = 0;
-    while i < slot.len() {
-        to = put_byte(out, to, mark);
-        to = put_number(out, to, slot[i]);
-        mark = b':';
-        i += 1;
-    }
-    to
+fn put_slot(out: &mut [u8], at: usize, kind: u64, offset: u64, size: u64) -> usize {
+    let a = append(out, at, b" ");
+    let b = put_number(out, a, kind);
+    let c = append(out, b, b":");
+    let d = put_number(out, c, offset);
+    let e = append(out, d, b":");
+    put_number(out, e, size)
 }
 
 fn put_number(out: &mut [u8], at: usize, n: u64) -> usize {
     let mut text = [0u8; 20];
     let k = io::decimal(n, &mut text);
-    put_text(out, at, &text[..k])
-}
-
-fn put_text(out: &mut [u8], at: usize, text: &[u8]) -> usize {
-    let mut to = at;
-    let mut i = 0;
-    while i < text.len() {
-        to = put_byte(out, to, text[i]);
-        i += 1;
-    }
-    to
-}
-
-// A byte where there is room for it, and the next place.
-fn put_byte(out: &mut [u8], at: usize, b: u8) -> usize {
-    if at >= out.len() {
-        return at;
-    }
-    out[at] = b;
-    at + 1
+    append(out, at, &text[..k])
 }

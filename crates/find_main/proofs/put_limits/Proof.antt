@@ -16,11 +16,11 @@ abbrev μ-loop : tie.MeasureT-loop
 loop-holds : tie.Need-loop-holds Inv-loop μ-loop
 loop-holds c = (omega arith, omega arith)
 
-slice-aggregate-put-text : tie.Need-slice-aggregate-put-text Inv-loop μ-loop
-slice-aggregate-put-text c = search needs
+slice-aggregate-append : tie.Need-slice-aggregate-append Inv-loop μ-loop
+slice-aggregate-append c = search needs
 
-put-text-requires : tie.Need-put-text-requires Inv-loop μ-loop
-put-text-requires c κs = search needs
+append-requires : tie.Need-append-requires Inv-loop μ-loop
+append-requires c κs = search needs
 
 put-number-requires : tie.Need-put-number-requires Inv-loop μ-loop
 put-number-requires c κs = search needs
@@ -53,8 +53,8 @@ put-limits-spec =
     Inv-loop
     μ-loop
     loop-holds
-    slice-aggregate-put-text
-    put-text-requires
+    slice-aggregate-append
+    append-requires
     put-number-requires
     homogeneous-requires
     put-found-requires
