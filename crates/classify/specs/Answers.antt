@@ -11,7 +11,7 @@ use Rattle.shape.specs.Words.{piecesOf}
 use Rattle.shape.specs.Check.{refuse, orElse, scalarRefusal, shapeRefusal}
 use Rattle.slots.specs.Words.{slotSize, written}
 use Rattle.describe.specs.Description.{Description}
-use Rattle.abis.specs.Abis.{described}
+use Rattle.abis.specs.Abis.{described, description-count}
 use Rattle.spend.specs.declared.Left.{Left}
 use Rattle.spend.specs.declared.Way as ways
 use Rattle.spend.specs.declared.Spent.{Spent}
@@ -25,9 +25,8 @@ use Rattle.classify.specs.Pass.{wayOf, slotsOf}
 use Rattle.classify.specs.Classify.{Passed, leaves, call, variadic, isIntegersOnly, returns, argument, variadicArgument, inMemory}
 use Rattle.classify.specs.Spending.{Chosen, returnChoice, argumentChoice, dotsChoice}
 
--- how many descriptions there are
 abbrev pub descriptions : ℕ
-descriptions = 30
+descriptions = description-count
 
 -- ---- a call, as its description's number and what it has left
 

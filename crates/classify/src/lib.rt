@@ -29,9 +29,6 @@ ghost use Rattle.classify.specs.Answers.{descriptions, leftOf, callRefus
 ghost use Rattle.classify.specs.Answers as answers;
 ghost use Rattle.classify.specs.Parts as parts;
 
-// How many descriptions there are.
-const DESCRIPTIONS: u64 = 30;
-
 // The registers that one call has left: its description, integers, floats, and whether floats go in integer registers alone.
 pub struct Call {
     pub abi: u64,
@@ -72,7 +69,7 @@ impl Call {
     pub fn fresh(abi: u64) -> Answer
         ensures { λ r. ⌜ r ≡ freshAnswer abi ⌝ }
     {
-        if abi >= DESCRIPTIONS {
+        if abi >= abis::DESCRIPTIONS {
             return refused(
                 Call {
                     abi: 0,
@@ -194,7 +191,7 @@ fn check(call: Call, arg: Arg, words: &[u64]) -> u64
 fn check_call(call: Call) -> u64
     ensures { λ r. ⌜ r ≡ callRefusal call ⌝ }
 {
-    if call.abi >= DESCRIPTIONS {
+    if call.abi >= abis::DESCRIPTIONS {
         return shape::BAD_ABI;
     }
     let banks = abis::banks(call.abi);
