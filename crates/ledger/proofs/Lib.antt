@@ -1,0 +1,5 @@
+pub mod Fair
+pub mod Registers
+pub mod Ledger
+pub mod Twelve
+pub mod Performed

@@ -1,0 +1,24 @@
+-- The table of twelve calls, as one statement that antt computes: every entry's answer, with the words of the buffer, is the one listed.
+use mathlib.Core.Path.{_≡_, refl}
+use mathlib.Core.List.{map}
+use Rattle.shape.specs.Check.{scalarRefusal, pieceRefusal, piecesRefusal, listRefusal, shapeRefusal}
+use Rattle.shape.specs.Questions.{allOf, isAllOf}
+use Rattle.shape.specs.Words.{piecesOf}
+use Rattle.slots.specs.Cut.{upTo, cut}
+use Rattle.slots.specs.Search.{floatsIn}
+use Rattle.slots.specs.Words.{wordsOf, putAt, written}
+use Rattle.abis.specs.Abis as abis
+use Rattle.abis.specs.Abis.{described}
+use Rattle.find.specs.Find.{foundIf, floatsAt, allSame, isHomogeneous, homogeneous, slotOf, fitsOne, floatPair, x87Stack, loneFloat}
+use Rattle.eightbytes.specs.Class as class
+use Rattle.eightbytes.specs.Eightbytes as eight
+use Rattle.spend.specs.Spending as rules
+use Rattle.classify.specs.Pass.{matches}
+use Rattle.classify.specs.Classify as rust
+use Rattle.classify.specs.Spending as spending
+use Rattle.classify.specs.Answers as answers
+use Rattle.ledger.specs.Twelve.{twelve, answerTo, expected}
+
+pub twelve-calls : map answerTo twelve ≡ map expected twelve
+unfolding scalarRefusal pieceRefusal piecesRefusal listRefusal shapeRefusal allOf isAllOf piecesOf upTo cut floatsIn wordsOf putAt written abis.descriptions described foundIf floatsAt allSame isHomogeneous homogeneous slotOf fitsOne floatPair x87Stack loneFloat class.code class.same class.merge eight.cover eight.mark eight.fits eight.marked eight.spoiled eight.mend eight.settled eight.classified eight.slotsFrom eight.slotsFound eight.eightbytes rules.wantOf rules.skipOf rules.integerArgument rules.inRegisters rules.scalarArgument rules.whenShort rules.inSlots rules.travelOf matches rust.afterScalar rust.scalar rust.shortOf rust.inRegisters rust.travel rust.apply rust.returns rust.argument spending.aggregate spending.returnChoice spending.argumentChoice answers.callRefusal answers.argRefusal answers.refusalOf answers.inRoom answers.answerTo answers.writtenTo answers.returnsAnswer answers.returnsWritten answers.argumentAnswer answers.argumentWritten
+twelve-calls = refl

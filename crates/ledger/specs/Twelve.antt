@@ -1,0 +1,137 @@
+-- The table of twelve calls (REFERENCE 9): what is asked of a call on a description, and the whole answer, in the table's order and numbers.
+-- A call that names several cases has an entry for each.
+use Prim.Native.Nat.{ℕ, _-_}
+use mathlib.Core.List.{List, [], _∷_, _++_}
+use mathlib.Core.Bool.{Bool, false}
+use mathlib.Core.Option.{Option}
+use mathlib.Core.Option.Option.{none, some}
+use lib.ListN.{length, replicate}
+use Rattle.shape.specs.Numbers.{accepted, integer, single, double, x87-extended}
+use Rattle.shape.specs.Words.{scalar}
+use Rattle.slots.specs.declared.Slot.{Slot}
+use Rattle.slots.specs.Words.{slot, wordsOf}
+use Rattle.spend.specs.declared.Way.{Way}
+use Rattle.spend.specs.declared.Way.the-variants.{Direct, Pieces, Reference, Memory}
+use Rattle.spend.specs.declared.Spent.{Spent}
+use Rattle.spend.specs.Ways.{spends}
+use Rattle.classify.specs.declared.Arg as args
+use Rattle.classify.specs.declared.Call.{Call}
+use Rattle.classify.specs.declared.Answer.{Answer}
+use Rattle.classify.specs.Classify.{leaves}
+use Rattle.classify.specs.Answers.{callOf, answered, returnsWritten, argumentWritten, dotsWritten}
+use Rattle.ledger.specs.Ledger.{Operation, mark, return, argument, after-dots, answerOf, Bank, integers, floats, startOf}
+
+-- ---- what is asked
+
+-- room for eight slots, all zeros
+abbrev pub buffer : List ℕ
+buffer = replicate 24 0
+
+-- the words of a piece at an offset
+abbrev pub int4 : ℕ → List ℕ
+int4 at = integer ∷ 4 ∷ 4 ∷ at ∷ []
+
+abbrev pub int8 : ℕ → List ℕ
+int8 at = integer ∷ 8 ∷ 8 ∷ at ∷ []
+
+abbrev pub float4 : ℕ → List ℕ
+float4 at = single ∷ 4 ∷ 4 ∷ at ∷ []
+
+abbrev pub float8 : ℕ → List ℕ
+float8 at = double ∷ 8 ∷ 8 ∷ at ∷ []
+
+abbrev pub float16 : ℕ → List ℕ
+float16 at = x87-extended ∷ 16 ∷ 16 ∷ at ∷ []
+
+-- an aggregate of a size and an alignment, with these pieces, that comes back or is an argument; and an integer scalar that is one
+abbrev pub aggregate : ℕ → ℕ → args.Arg
+aggregate size align = args.the-variants.Aggregate (record { size = size; align = align; complex = false; floating = false })
+
+abbrev pub comes-back : ℕ → ℕ → List ℕ → Operation
+comes-back size align words = return (aggregate size align) words buffer
+
+abbrev pub is-passed : ℕ → ℕ → List ℕ → Operation
+is-passed size align words = argument (aggregate size align) words buffer
+
+abbrev pub integer-is-passed : ℕ → Operation
+integer-is-passed size = argument (args.the-variants.Scalar (scalar integer size size)) [] buffer
+
+-- ---- what is answered
+
+-- the way; integers and floats left; integers passed over and given; floats passed over and given; the slots
+pub record Line : Type 0 where
+  pub way : Way
+  pub integers-left : ℕ
+  pub floats-left : ℕ
+  pub spent : Spent
+  pub slots : List Slot
+
+abbrev pub line : Way → ℕ → ℕ → ℕ → ℕ → ℕ → ℕ → List Slot → Line
+line way i f ip ig fp fg slots = record { way = way; integers-left = i; floats-left = f; spent = spends ip ig fp fg; slots = slots }
+
+-- ---- the table
+
+-- the call's number in the table, the description, the integers and floats left where they aren't fresh, what is asked, what is answered
+pub record Entry : Type 0 where
+  pub number : ℕ
+  pub row : ℕ
+  pub integers-left : Option ℕ
+  pub floats-left : Option ℕ
+  pub asked : Operation
+  pub answer : Line
+
+abbrev pub entry : ℕ → ℕ → Option ℕ → Option ℕ → Operation → Line → Entry
+entry number row i f asked answer =
+    record { number = number; row = row; integers-left = i; floats-left = f; asked = asked; answer = answer }
+
+abbrev pub fresh : Option ℕ
+fresh = none
+
+abbrev pub twelve : List Entry
+twelve =
+    entry 1 0 fresh fresh (is-passed 16 8 (int8 0 ++ float8 8)) (line Pieces 5 7 0 1 0 1 (slot 0 0 8 ∷ slot 2 8 0 ∷ []))
+    ∷ entry 2 0 (some 1) fresh (is-passed 16 8 (int8 0 ++ int8 8)) (line Memory 1 8 0 0 0 0 [])
+    ∷ entry 3 0 (some 1) fresh (integer-is-passed 16) (line Direct 1 8 0 0 0 0 [])
+    ∷ entry 4 0 fresh fresh (is-passed 16 16 (float16 0)) (line Memory 6 8 0 0 0 0 [])
+    ∷ entry 4 0 fresh fresh (comes-back 16 16 (float16 0)) (line Pieces 6 8 0 0 0 0 (slot 3 0 0 ∷ []))
+    ∷ entry 5 0 fresh fresh (is-passed 12 4 (float4 0 ++ float4 4 ++ float4 8)) (line Pieces 6 6 0 0 0 2 (slot 2 0 0 ∷ slot 1 8 0 ∷ []))
+    ∷ entry 6 1 (some 7) fresh (integer-is-passed 16) (line Direct 4 8 1 2 0 0 [])
+    ∷ entry 6 2 (some 7) fresh (integer-is-passed 16) (line Direct 5 8 0 2 0 0 [])
+    ∷ entry 7 1 fresh fresh (is-passed 20 4 (float4 0 ++ float4 4 ++ float4 8 ++ float4 12 ++ float4 16)) (line Reference 7 8 0 1 0 0 [])
+    ∷ entry 8 1 fresh (some 2) (is-passed 24 8 (float8 0 ++ float8 8 ++ float8 16)) (line Memory 8 0 0 0 2 0 [])
+    ∷ entry 9 4 fresh fresh (is-passed 0 1 []) (line Reference 3 0 0 1 0 0 [])
+    ∷ entry 10 4 (some 0) fresh (is-passed 8 8 (int8 0)) (line Pieces 0 0 0 0 0 0 (slot 0 0 8 ∷ []))
+    ∷ entry 11 5 (some 2) (some 0) (is-passed 8 4 (float4 0 ++ int4 4)) (line Pieces 1 0 0 1 0 0 (slot 0 0 8 ∷ []))
+    ∷ entry 12 9 (some 1) fresh (integer-is-passed 8) (line Direct 1 0 0 0 0 0 [])
+    ∷ entry 12 9 (some 1) fresh (is-passed 8 4 (int4 0 ++ int4 4)) (line Memory 0 0 1 0 0 0 [])
+    ∷ []
+
+-- ---- an entry's answer, and the one that is expected: the answer and the words of the buffer
+
+abbrev pub orFresh : Option ℕ → ℕ → ℕ
+orFresh none start = start
+orFresh (some n) start = n
+
+abbrev pub callOn : Entry → Call
+callOn e = callOf (e .row) (leaves (orFresh (e .integers-left) (startOf integers (e .row))) (orFresh (e .floats-left) (startOf floats (e .row))) false)
+
+-- the mark has no buffer
+abbrev pub writtenBy : Operation → Call → List ℕ
+writtenBy mark c = []
+writtenBy (return arg words out) c = returnsWritten c arg words out
+writtenBy (argument arg words out) c = argumentWritten c arg words out
+writtenBy (after-dots arg words out) c = dotsWritten c arg words out
+
+abbrev pub answerTo : Entry → Answer × List ℕ
+answerTo e = (answerOf (e .asked) (callOn e), writtenBy (e .asked) (callOn e))
+
+-- the slots' words at the front of the buffer, and zeros after them
+abbrev pub slotsIn : List ℕ → List ℕ
+slotsIn words = words ++ replicate (24 - length words) 0
+
+abbrev pub expected : Entry → Answer × List ℕ
+expected e = (
+  answered (callOf (e .row) (leaves (e .answer .integers-left) (e .answer .floats-left) false)) accepted
+      (e .answer .way) (e .answer .spent) (length (e .answer .slots)),
+  slotsIn (wordsOf (e .answer .slots)),
+)
