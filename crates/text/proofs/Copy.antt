@@ -5,7 +5,6 @@ use mathlib.Core.List.{List}
 use native.Mathlib.Omega.{arith}
 use native.Mathlib.Numerals.{add-one}
 use borrow.Author.Tests.{le-leb, lt-leb}
-use lib.Dec.{leb}
 use lib.ListN.{length, set, getD}
 use lib.Seq.{take-length, paste, paste-suc}
 use Rattle.shape.specs.Numbers.{accepted, no-room}
