@@ -1,0 +1,83 @@
+-- What Barkpaddle promises, on one page: each statement in full, with the proof that it cites. Start here.
+--
+-- The operations are the methods of `classify::Call`: `fresh`, `variadic` (the mark), `returns`, `argument` and `variadic_argument` (after the
+-- dots). Each is a total function of its inputs, proved to answer exactly what its definition says, `freshAnswer`, `variadicAnswer`,
+-- `returnsAnswer`, `argumentAnswer` and `dotsAnswer` of classify/specs/Answers.antt, and to leave the lent slot buffer as `returnsWritten`,
+-- `argumentWritten` and `dotsWritten` say: so what is said of these definitions here is said of the code. That no second answer meets those
+-- promises is in each crate's proofs/Unique.antt. Assumes nothing.
+use Prim.Native.Nat.{ℕ, _/_, _≤_, _<_}
+use mathlib.Core.Path.{_≡_, refl}
+use mathlib.Core.List.{List, [], map}
+use lib.ListN.{length, take}
+use Rattle.shape.specs.Numbers.{accepted}
+use Rattle.shape.specs.Words.{piecesOf}
+use Rattle.slots.specs.Words.{slotSize, written}
+use Rattle.abis.specs.Abis.{described}
+use Rattle.classify.specs.declared.Arg.{Arg}
+use Rattle.classify.specs.declared.Call.{Call}
+use Rattle.classify.specs.declared.Answer.{Answer}
+use Rattle.classify.specs.Pass.{wayOf, slotsOf}
+use Rattle.classify.specs.Classify as rust
+use Rattle.classify.specs.Spending as rules
+use Rattle.classify.specs.Answers.{leftOf, callOf, refusalOf, freshAnswer, variadicAnswer, returnsAnswer, returnsWritten, argumentAnswer, argumentWritten, dotsAnswer, dotsWritten}
+use Rattle.ledger.specs.Ledger.{Operation, history, Ledger}
+use Rattle.ledger.specs.Twelve.{twelve, answerTo, expected}
+use Rattle.ledger.proofs.Ledger.{ledger}
+use Rattle.ledger.proofs.Twelve as calls
+use Rattle.demands.specs.Refusals.{Refused}
+use Rattle.demands.specs.Rust.{AsRust}
+use Rattle.demands.proofs.Refusing as refusing
+use Rattle.demands.proofs.Answering as answering
+
+-- ---- Demand 1: every entry answers every input, and a refusal is one of seven numbers and leaves everything as it was
+
+-- `Refused` says: the refusal's number is at most 7, the call is the one that was handed in, every other number of the answer is 0, and the
+-- buffer holds the words that it held
+pub return-refused : (c : Call) (arg : Arg) (words out : List ℕ) → (returnsAnswer c arg words out .outcome .refusal ≡ accepted → ⊥)
+    → Refused c out (returnsAnswer c arg words out) (returnsWritten c arg words out)
+return-refused = refusing.return-refused
+
+pub argument-refused : (c : Call) (arg : Arg) (words out : List ℕ) → (argumentAnswer c arg words out .outcome .refusal ≡ accepted → ⊥)
+    → Refused c out (argumentAnswer c arg words out) (argumentWritten c arg words out)
+argument-refused = refusing.argument-refused
+
+pub dots-refused : (c : Call) (arg : Arg) (words out : List ℕ) → (dotsAnswer c arg words out .outcome .refusal ≡ accepted → ⊥)
+    → Refused c out (dotsAnswer c arg words out) (dotsWritten c arg words out)
+dots-refused = refusing.dots-refused
+
+pub mark-refused : (c : Call) → (variadicAnswer c .outcome .refusal ≡ accepted → ⊥) → Refused c [] (variadicAnswer c) []
+mark-refused = refusing.mark-refused
+
+-- ---- Demand 2: what is accepted is answered as the Rust answers, with the counts of the spending rules
+
+-- where the checks refuse nothing and the slots have room. `AsRust` says: the way, the slots at the front of the buffer with all later words as
+-- they were, and the counts left are the Rust's; what is passed over and given is by the rules
+pub return-as-rust : (c : Call) (arg : Arg) (words out : List ℕ) → refusalOf c arg words ≡ accepted
+    → length (slotsOf (rust.returns (described (c .abi)) (leftOf c) arg (piecesOf words) .pass)) ≤ length out / slotSize
+    → AsRust c out (rust.returns (described (c .abi)) (leftOf c) arg (piecesOf words)) (rules.returnChoice (described (c .abi)) (leftOf c) arg (piecesOf words))
+    (returnsAnswer c arg words out) (returnsWritten c arg words out)
+return-as-rust = answering.return-as-rust
+
+pub argument-as-rust : (c : Call) (arg : Arg) (words out : List ℕ) → refusalOf c arg words ≡ accepted
+    → length (slotsOf (rust.argument (described (c .abi)) (leftOf c) arg (piecesOf words) .pass)) ≤ length out / slotSize
+    → AsRust c out (rust.argument (described (c .abi)) (leftOf c) arg (piecesOf words)) (rules.argumentChoice (described (c .abi)) (leftOf c) arg (piecesOf words))
+    (argumentAnswer c arg words out) (argumentWritten c arg words out)
+argument-as-rust = answering.argument-as-rust
+
+pub dots-as-rust : (c : Call) (arg : Arg) (words out : List ℕ) → refusalOf c arg words ≡ accepted
+    → length (slotsOf (rust.variadicArgument (described (c .abi)) (leftOf c) arg (piecesOf words) .pass)) ≤ length out / slotSize
+    → AsRust c out (rust.variadicArgument (described (c .abi)) (leftOf c) arg (piecesOf words)) (rules.dotsChoice (described (c .abi)) (leftOf c) arg (piecesOf words))
+    (dotsAnswer c arg words out) (dotsWritten c arg words out)
+dots-as-rust = answering.dots-as-rust
+
+-- ---- Demand 3: the ledger
+
+-- any description, any operations in any order, refused ones among them, after any number of them: `Ledger` has one clause for each sentence of
+-- REFERENCE 10
+pub every-register-once : (d : ℕ) → d < 30 → (ops : List Operation) (n : ℕ) → Ledger d (take n (history d ops))
+every-register-once = ledger
+
+-- ---- The table of twelve calls
+
+pub twelve-calls : map answerTo twelve ≡ map expected twelve
+twelve-calls = calls.twelve-calls

@@ -1,0 +1,3 @@
+pub mod Demands
+mod Refusing
+mod Answering
