@@ -1,0 +1,135 @@
+-- What the domain's clauses say, as facts: each is read off the test that computes it. Assumes nothing.
+use Prim.Native.Nat.{ℕ, zero, suc, _+_, _*_, _/_, _%_, _≤_, _<_}
+use mathlib.Core.Path.{_≡_, refl, sym, ap, subst₂, _∙_}
+use mathlib.Core.Bool.{Bool, true, false, cond, not, _&&_, _||_, true≢false, false≢true}
+use mathlib.Core.List.{List, [], _∷_}
+use native.Mathlib.Omega.{arith}
+use native.Mathlib.Decide.{decLe}
+use borrow.Author.Tests.{eqb-true, ltb-true, leb-true, not-true}
+use lib.Dec.{eqb, leb, ltb}
+use Rattle.shape.specs.declared.Piece.{Piece}
+use Rattle.shape.specs.declared.Shape.{Shape}
+use Rattle.shape.specs.Numbers.{integer, single, double, x87-extended, quad}
+use Rattle.find.proofs.Each.{and-true}
+use Rattle.psabi.specs.Psabi.{liesIn, eightbytesIn}
+use Rattle.psabi.specs.Domain.{every, any, howMany, atEach, isX87Piece, x87In, otherIn, isIntegerSize, isOfKind, isPlain, Domain}
+
+-- ---- tests
+
+pub or-left : (a b : Bool) → a || b ≡ false → a ≡ false
+or-left true b h = h
+or-left false b h = refl
+
+pub or-right : (a b : Bool) → a || b ≡ false → b ≡ false
+or-right true b h = absurd (true≢false h)
+or-right false b h = h
+
+by-or : {P : Type 0} (a b : Bool) → (a ≡ true → P) → (b ≡ true → P) → a || b ≡ true → P
+by-or true b f g h = f refl
+by-or false b f g h = g h
+
+-- ---- kinds and sizes
+
+pub data Usual : ℕ → ℕ → Type 0 where
+  int1 : Usual 0 1
+  int2 : Usual 0 2
+  int4 : Usual 0 4
+  int8 : Usual 0 8
+  int16 : Usual 0 16
+  single4 : Usual 1 4
+  double8 : Usual 2 8
+  x87-16 : Usual 3 16
+  quad16 : Usual 4 16
+
+module _ (k s : ℕ) where
+  both : {a b : ℕ} → Usual a b → eqb k a ≡ true → eqb s b ≡ true → Usual k s
+  both {a} {b} u e f = subst₂ Usual (sym (eqb-true k a e)) (sym (eqb-true s b f)) u
+
+  of-integer : eqb k integer ≡ true → isIntegerSize s ≡ true → Usual k s
+  of-integer e h =
+      by-or _ (eqb s 16)
+      (by-or _ (eqb s 8) (by-or _ (eqb s 4) (by-or (eqb s 1) (eqb s 2) (both int1 e) (both int2 e)) (both int4 e)) (both int8 e))
+      (both int16 e)
+      h
+
+  pub usual : isOfKind k s ≡ true → Usual k s
+  usual h =
+      by-or _ ((eqb k x87-extended || eqb k quad) && eqb s 16)
+      (by-or _ (eqb k double && eqb s 8)
+      (by-or (eqb k integer && isIntegerSize s) (eqb k single && eqb s 4)
+      (λ a. let x = and-true (eqb k integer) (isIntegerSize s) a in of-integer (x .0) (x .1))
+      (λ a. let x = and-true (eqb k single) (eqb s 4) a in both single4 (x .0) (x .1)))
+      (λ a. let x = and-true (eqb k double) (eqb s 8) a in both double8 (x .0) (x .1)))
+      (λ a.
+      let x = and-true (eqb k x87-extended || eqb k quad) (eqb s 16) a in
+      by-or (eqb k x87-extended) (eqb k quad) (λ e. both x87-16 e (x .1)) (λ e. both quad16 e (x .1)) (x .0))
+      h
+
+-- ---- pieces
+
+pub record Regular (size : ℕ) (p : Piece) : Type 0 where
+  pub usual : Usual (p .kind) (p .size)
+  pub natural : p .align ≡ p .size
+  pub inside : p .offset + p .size ≤ size
+  pub x87-at : isX87Piece p ≡ true → p .offset % 16 ≡ 0
+
+pub data Each (P : Piece → Type 0) : List Piece → Type 0 where
+  done : Each P []
+  more : {p : Piece} {ps : List Piece} → P p → Each P ps → Each P (p ∷ ps)
+
+x87-multiple : (x : Bool) (n : ℕ) → not x || eqb n 0 ≡ true → x ≡ true → n ≡ 0
+x87-multiple true n h e = eqb-true n 0 h
+x87-multiple false n h e = absurd (false≢true e)
+
+each-regular : (size : ℕ) (ps : List Piece) → every (λ p. leb (p .offset + p .size) size) ps ≡ true → every (λ p. eqb (p .align) (p .size)) ps ≡ true
+    → every (λ p. isOfKind (p .kind) (p .size)) ps ≡ true → every (λ p. not (isX87Piece p) || eqb (p .offset % 16) 0) ps ≡ true → Each (Regular size) ps
+unfolding every
+each-regular size [] i n s a = done
+each-regular size (p ∷ ps) i n s a =
+    let i′ = and-true (leb (p .offset + p .size) size) _ i in
+    let n′ = and-true (eqb (p .align) (p .size)) _ n in
+    let s′ = and-true (isOfKind (p .kind) (p .size)) _ s in
+    let a′ = and-true (not (isX87Piece p) || eqb (p .offset % 16) 0) _ a in
+    more
+    (record {
+      usual = usual (p .kind) (p .size) (s′ .0);
+      natural = eqb-true _ _ (n′ .0);
+      inside = leb-true _ _ (i′ .0);
+      x87-at = x87-multiple (isX87Piece p) _ (a′ .0);
+    })
+    (each-regular size ps (i′ .1) (n′ .1) (s′ .1) (a′ .1))
+
+-- ---- eightbytes
+
+at-each : (n : ℕ) (f : ℕ → Bool) → atEach n f ≡ true → (k : ℕ) → k < n → f k ≡ true
+unfolding atEach
+at-each zero f h k l = absurd (omega arith)
+at-each (suc n) f h k l = go (and-true (f n) (atEach n f) h .0) (at-each n f (and-true (f n) (atEach n f) h .1) k) (decLe n k)
+  where
+    go : f n ≡ true → (k < n → f k ≡ true) → Dec (n ≤ k) → f k ≡ true
+    go e ih (yes g) = let q : k ≡ n = omega arith in rw q e
+    go e ih (no g) = ih (omega arith)
+
+-- ---- the clauses
+
+module _ {shape : Shape} {ps : List Piece} (d : Domain shape ps) where
+  pub above-0 : 0 < shape .size
+  above-0 = ltb-true _ _ (d .positive)
+
+  pub no-complex : shape .complex ≡ false
+  no-complex = not-true (shape .complex) (d .plain)
+
+  pub regular : Each (Regular (shape .size)) ps
+  regular = each-regular (shape .size) ps (d .inside) (d .natural) (d .sized) (d .aligned)
+
+  within : (k : ℕ) → 8 * k < shape .size → k < eightbytesIn (shape .size)
+  within k h = omega arith
+
+  pub touched : (k : ℕ) → 8 * k < shape .size → any (λ p. liesIn p k) ps ≡ true
+  touched k h = at-each _ (λ k. any (λ p. liesIn p k) ps) (d .touched) k (within k h)
+
+  pub apart : (k : ℕ) → 8 * k < shape .size → any (λ p. x87In p k) ps && any (λ p. otherIn p k) ps ≡ false
+  apart k h = not-true _ (at-each _ (λ k. not (any (λ p. x87In p k) ps && any (λ p. otherIn p k) ps)) (d .apart) k (within k h))
+
+  pub at-most-one : howMany isX87Piece ps ≤ 1
+  at-most-one = leb-true _ _ (d .lone)

@@ -1,0 +1,3 @@
+pub mod Psabi
+pub mod Domain
+pub mod Reading
