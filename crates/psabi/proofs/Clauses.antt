@@ -12,7 +12,7 @@ use Rattle.shape.specs.declared.Shape.{Shape}
 use Rattle.shape.specs.Numbers.{integer, single, double, x87-extended, quad}
 use Rattle.find.proofs.Each.{and-true}
 use Rattle.psabi.specs.Psabi.{liesIn, eightbytesIn}
-use Rattle.psabi.specs.Domain.{every, any, howMany, atEach, isX87Piece, x87In, otherIn, isIntegerSize, isOfKind, isPlain, Domain}
+use Rattle.psabi.specs.Domain.{every, any, howMany, atEach, isX87Piece, x87In, otherIn, isIntegerSize, isOfKind, Domain}
 
 -- ---- tests
 
@@ -115,9 +115,6 @@ at-each (suc n) f h k l = go (and-true (f n) (atEach n f) h .0) (at-each n f (an
 module _ {shape : Shape} {ps : List Piece} (d : Domain shape ps) where
   pub above-0 : 0 < shape .size
   above-0 = ltb-true _ _ (d .positive)
-
-  pub no-complex : shape .complex ≡ false
-  no-complex = not-true (shape .complex) (d .plain)
 
   pub regular : Each (Regular (shape .size)) ps
   regular = each-regular (shape .size) ps (d .inside) (d .natural) (d .sized) (d .aligned)

@@ -1,7 +1,9 @@
-mod Examples
+pub mod Examples
 pub mod Clauses
 pub mod Agree
 pub mod Lone
 pub mod Sides
 pub mod Ways
 pub mod RowZero
+pub mod Answers
+pub mod Needed

@@ -6,7 +6,7 @@ use mathlib.Core.Bool.{Bool, true, false, cond, not, _&&_, _||_, true≢false, f
 use mathlib.Core.List.{List, [], _∷_}
 use native.Mathlib.Omega.{arith}
 use native.Mathlib.Decide.{decLe}
-use borrow.Author.Tests.{ltb-true, lt-ltb, eqb-true, ne-eqb}
+use borrow.Author.Tests.{ltb-true, lt-ltb, eqb-true}
 use lib.Dec.{eqb, ltb}
 use lib.ListN.{length}
 use Rattle.shape.specs.declared.Piece.{Piece}
@@ -18,7 +18,7 @@ use Rattle.find.specs.Find.{foundIf, floatsAt, x87Stack}
 use Rattle.find.proofs.Each.{and-true}
 use Rattle.psabi.specs.Psabi.{liesIn}
 use Rattle.psabi.specs.Domain.{any, howMany, isX87Piece, x87In, otherIn, Domain}
-use Rattle.psabi.proofs.Clauses.{or-left, or-right, Usual, int1, int2, int4, int8, int16, single4, double8, x87-16, quad16, Regular, Each, done, more, above-0, no-complex, regular, touched, apart, at-most-one}
+use Rattle.psabi.proofs.Clauses.{or-left, or-right, Usual, int1, int2, int4, int8, int16, single4, double8, x87-16, quad16, Regular, Each, done, more, above-0, regular, touched, apart, at-most-one}
 use Rattle.psabi.proofs.Agree.{usual-pos}
 
 x87-size : {k s : ℕ} → Usual k s → eqb k 3 ≡ true → s ≡ 16
@@ -133,15 +133,19 @@ kinds shape ps d = go (decLe (shape .size) 16) (any isX87Piece ps) refl
     go (no h) b x = no-x87 (λ g. absurd (omega arith))
 
 -- and then it is nothing for the x87 stack
-and-no : (a b : Bool) → a && (b && false) ≡ false
-and-no true true = refl
-and-no true false = refl
-and-no false b = refl
+not-two : (p q : Piece) (ps : List Piece) → howMany isX87Piece (p ∷ q ∷ ps) ≤ 1 → allOf 3 (p ∷ q ∷ ps) ≡ false
+unfolding howMany allOf
+not-two p q ps h = go (isX87Piece p) (isX87Piece q) h
+  where
+    go : (x y : Bool) → cond x 1 0 + (cond y 1 0 + howMany isX87Piece ps) ≤ 1 → x && (y && allOf 3 ps) ≡ false
+    go true true g = absurd (omega arith)
+    go true false g = refl
+    go false y g = refl
 
 pub no-stack : (shape : Shape) (ps : List Piece) → Domain shape ps → (shape .size ≤ 16 → any isX87Piece ps ≡ false) → x87Stack shape ps ≡ nothing
 unfolding x87Stack isAllOf allOf foundIf any
 no-stack shape [] d n = refl
-no-stack shape (p ∷ q ∷ ps) d n = rw (no-complex d, ne-eqb (length (p ∷ q ∷ ps)) 1 (omega arith), and-no (allOf 3 (p ∷ q ∷ ps)) (eqb (length (p ∷ q ∷ ps)) 2))
+no-stack shape (p ∷ q ∷ ps) d n = rw (not-two p q ps (at-most-one d))
 no-stack shape (p ∷ []) d n = go (isX87Piece p) refl
   where
     go : (x : Bool) → isX87Piece p ≡ x → foundIf ((x && true) && true) (floatsAt 3 (p ∷ [])) ≡ nothing

@@ -22,7 +22,7 @@ use Rattle.eightbytes.specs.Class as ours
 use Rattle.eightbytes.specs.Class.{None}
 use Rattle.eightbytes.specs.Eightbytes.{cover, mark, fits, marked, spoiled, mend, settled, classified, slotsFound, eightbytes}
 use Rattle.eightbytes.proofs.At.{allFit, markAll, marked-all}
-use Rattle.describe.specs.declared.Test.the-variants.{Eightbytes}
+use Rattle.describe.specs.declared.Test.the-variants.{X87Stack, Eightbytes}
 use Rattle.describe.specs.declared.Travel.the-variants.{AsFound}
 use Rattle.describe.specs.declared.Short.the-variants.{Memory}
 use Rattle.describe.specs.Description.{rule, ruleShort}
@@ -34,7 +34,7 @@ use Rattle.psabi.specs.Psabi as psabi
 use Rattle.psabi.specs.Psabi.{Class, NO-CLASS, is, Travels, mergedIn, classesFrom, anyUnaligned, eightbytesIn, cleaned, psabiArgument, psabiResult}
 use Rattle.psabi.specs.Domain.{any, isX87Piece, Domain}
 use Rattle.psabi.specs.Reading.{standing, placesOf, readArgument, readResult}
-use Rattle.psabi.proofs.Clauses.{Regular, Each, above-0, no-complex, regular, touched}
+use Rattle.psabi.proofs.Clauses.{Regular, Each, above-0, regular, touched}
 use Rattle.psabi.proofs.Agree.{rep, Ready, Plain, plain-at, classes-agree}
 use Rattle.psabi.proofs.Lone.{Lone, Kinds, x87-value, no-x87, kinds, no-stack}
 use Rattle.psabi.proofs.Sides.{all-fit, ready, unaligned, small, large, has-class}
@@ -190,3 +190,37 @@ module _ (shape : Shape) (ps : List Piece) (d : Domain shape ps) (i f : ℕ) (hi
           ∙ in-all d (λ s. readResult (leaves i f false) (give i f s)) (psabi.returned (standing i f)) (in-memory i f hi)
           (λ c. result-one i f (shape .size) hi hf) (λ c e. result-two i f (shape .size) hi hf) x
       go (x87-value l) = rw (l .only) (x87-result i f shape (l .whole))
+
+-- ---- the integers-only mark stays away
+
+module _ (i f : ℕ) (shape : Shape) (ps : List Piece) (h : 0 < shape .size) where
+  pub argument-unmarked : argument (described 0) (leaves i f false) (Aggregate shape) ps .left .«integers_only» ≡ false
+  unfolding spend
+  argument-unmarked = rw (argument-walk i f shape ps h) (go (eightbytes 16 shape ps))
+    where
+      by-cost : (b : Bool) (p q : Passed) → p .left .«integers_only» ≡ false → q .left .«integers_only» ≡ false → cond b p q .left .«integers_only» ≡ false
+      by-cost true p q x y = x
+      by-cost false p q x y = y
+
+      go : (s : Search) → spend i f s .left .«integers_only» ≡ false
+      go nothing = refl
+      go (found ss) =
+          by-cost (leb (length ss - floatsIn ss) i && leb (floatsIn ss) f)
+          (passed (pieces ss) (leaves (i - (length ss - floatsIn ss)) (f - floatsIn ss) false))
+          (passed memory (leaves i f false))
+          refl
+          refl
+
+  pub result-unmarked : returns (described 0) (leaves i f false) (Aggregate shape) ps .left .«integers_only» ≡ false
+  unfolding returns apply matches described descriptions foundIf travel inRegisters
+  result-unmarked = rw (ne-eqb (shape .size) 0 (omega arith)) (go (x87Stack shape ps) (eightbytes 16 shape ps))
+    where
+      go : (s t : Search)
+          → tried s (described 0) (leaves i f false) (rule X87Stack AsFound) shape true
+          (tried t (described 0) (leaves i f false) (rule (Eightbytes 16) AsFound) shape true (passed reference (leaves (i - 1) f false)))
+          .left
+          .«integers_only»
+          ≡ false
+      go (found ss) t = refl
+      go nothing (found ss) = refl
+      go nothing nothing = refl
