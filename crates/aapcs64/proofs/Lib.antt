@@ -1,0 +1,5 @@
+pub mod Laid
+pub mod Hfa
+pub mod Row
+pub mod Agrees
+pub mod Answered

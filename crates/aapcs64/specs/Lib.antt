@@ -1,0 +1,3 @@
+pub mod Aapcs64
+pub mod Told
+pub mod Domain

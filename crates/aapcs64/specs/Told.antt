@@ -1,0 +1,109 @@
+-- Shapes and answers of the descriptions in the standard's terms (REFERENCE 12): the composite that a shape and its pieces stand for, and what an
+-- answer's way, slots and counts left say of registers.
+use Prim.Native.Nat.{ℕ, zero, suc, _+_, _-_, max}
+use mathlib.Core.List.{List, [], _∷_, map}
+use mathlib.Core.Bool.{Bool, true, false, cond}
+use mathlib.Core.Option.{Option}
+use mathlib.Core.Option.Option.{none, some}
+use lib.Dec.{ltb}
+use lib.ListN.{getD}
+use Rattle.shape.specs.declared.Piece.{Piece}
+use Rattle.shape.specs.declared.Shape.{Shape}
+use Rattle.shape.specs.Questions.{isFloat}
+use Rattle.slots.specs.declared.Slot.{Slot}
+use Rattle.describe.specs.declared.ReturnPointer.{ReturnPointer}
+use Rattle.describe.specs.declared.ReturnPointer.the-variants.{FirstArgument, FirstArgumentPopped, Dedicated}
+use Rattle.spend.specs.declared.Left.{Left}
+use Rattle.spend.specs.declared.Way.{Way}
+use Rattle.spend.specs.declared.Way.the-variants.{Ignore, Direct, Pieces, Reference, Memory}
+use Rattle.classify.specs.Pass.{wayOf, slotsOf}
+use Rattle.classify.specs.Classify.{Passed}
+use Rattle.aapcs64.specs.Aapcs64.{Fundamental, integral, floating, Precision, half, single, double, quad, Member, Composite, Register, v, x, Part, part, Place, registers, stack, copy, copyOnStack, State, state, Passing, passing, Result, comes, throughX8, Returning, returning}
+
+-- ---- shapes
+
+-- the type of a piece. The standard has no x87 type: such a piece is so many bytes of no floating-point type
+abbrev pub typeOf : ℕ → ℕ → Fundamental
+typeOf kind size =
+    getD (integral size ∷ floating single ∷ floating double ∷ integral size ∷ floating quad ∷ []) kind (integral size)
+
+abbrev pub memberOf : Piece → Member
+memberOf p = record { type = typeOf (p .kind) (p .size); offset = p .offset }
+
+abbrev pub composite : ℕ → Shape → List Piece → Composite
+composite natural shape ps = record { members = map memberOf ps; size = shape .size; natural = natural }
+
+-- a shape and its pieces don't tell the natural alignment: where a composite holds another that was given an alignment, that counts, and the
+-- shape's own doesn't, if it was given to the whole. It is no more than the largest of them all
+unfoldable pub mostAlign : List Piece → ℕ
+mostAlign [] = 0
+mostAlign (p ∷ ps) = max (p .align) (mostAlign ps)
+
+abbrev pub mostNatural : Shape → List Piece → ℕ
+mostNatural shape ps = max (shape .align) (mostAlign ps)
+
+-- ---- answers
+
+-- the numbers of the next registers, of eight each
+abbrev pub stateOf : Left → State
+stateOf left = state (8 - left .integer) (8 - left .float)
+
+-- how many bytes a float of a format has; an x87 value has ten
+abbrev pub formatBytes : ℕ → ℕ
+formatBytes kind = getD (0 ∷ 4 ∷ 8 ∷ 10 ∷ 16 ∷ []) kind 0
+
+-- slots go to the next registers of their bank, in order
+unfoldable pub partsOf : ℕ → ℕ → List Slot → List Part
+partsOf n s [] = []
+partsOf n s (slot ∷ slots) =
+    cond (isFloat (slot .kind))
+    (part (v s) (slot .offset) (formatBytes (slot .kind)) ∷ partsOf n (s + 1) slots)
+    (part (x n) (slot .offset) (slot .size) ∷ partsOf (n + 1) s slots)
+
+-- an address goes in the integer register that was given for it, and on the stack if none was
+abbrev pub copyOf : Left → Left → Place
+copyOf before after =
+    cond (ltb (after .integer) (before .integer)) (copy (x (8 - before .integer))) copyOnStack
+
+-- the standard has no argument that is left out or that isn't looked into: these ways, and the integers-only mark, say nothing in its terms
+abbrev pub placeOf : Way → Left → List Slot → Left → Option Place
+placeOf Ignore before slots after = none
+placeOf Direct before slots after = none
+placeOf Pieces before slots after = some (registers (partsOf (8 - before .integer) (8 - before .float) slots))
+placeOf Reference before slots after = some (copyOf before after)
+placeOf Memory before slots after = some stack
+
+abbrev pub passingOf : Option Place → Left → Option Passing
+passingOf none after = none
+passingOf (some place) after = cond (after .«integers_only») none (some (passing place (stateOf after)))
+
+-- an argument's way and slots, between what was left before and after it
+unfoldable pub told : Left → Way → List Slot → Left → Option Passing
+told before way slots after = passingOf (placeOf way before slots after) after
+
+abbrev pub toldPassed : Left → Passed → Option Passing
+toldPassed before p = told before (wayOf (p .pass)) (slotsOf (p .pass)) (p .left)
+
+-- a result comes back in the first registers of each bank, or at an address that goes where the description says
+abbrev pub addressedBy : ReturnPointer → Option Result
+addressedBy FirstArgument = none
+addressedBy FirstArgumentPopped = none
+addressedBy Dedicated = some throughX8
+
+abbrev pub resultBy : Way → ReturnPointer → List Slot → Option Result
+resultBy Ignore pointer slots = none
+resultBy Direct pointer slots = none
+resultBy Pieces pointer slots = some (comes (partsOf 0 0 slots))
+resultBy Reference pointer slots = addressedBy pointer
+resultBy Memory pointer slots = none
+
+abbrev pub returningOf : Option Result → Left → Option Returning
+returningOf none after = none
+returningOf (some result) after = cond (after .«integers_only») none (some (returning result (stateOf after)))
+
+-- a result's way and slots, with what is left after it
+unfoldable pub toldResult : ReturnPointer → Way → List Slot → Left → Option Returning
+toldResult pointer way slots after = returningOf (resultBy way pointer slots) after
+
+abbrev pub toldReturned : ReturnPointer → Passed → Option Returning
+toldReturned pointer p = toldResult pointer (wayOf (p .pass)) (slotsOf (p .pass)) (p .left)
