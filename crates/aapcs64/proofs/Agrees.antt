@@ -19,11 +19,10 @@ use Rattle.slots.proofs.Cut.{length-upTo, length-cut}
 use Rattle.abis.specs.Abis.{described, descriptions}
 use Rattle.classify.specs.declared.Arg.the-variants.{Aggregate}
 use Rattle.classify.specs.Pass.{reference}
-use Rattle.classify.specs.Classify.{Passed, passed, leaves, argument, returns}
+use Rattle.classify.specs.Classify.{passed, leaves, call, argument, returns}
 use Rattle.aapcs64.specs.Aapcs64.{Composite, addressable, count, doublewords, memberParts, wordParts, x, registers, stack, copy, copyOnStack, state, Passing, passing, parameter, stageC, stageA, isHfa, comes, throughX8, returning, result}
-use Rattle.aapcs64.specs.Told.{composite, mostAlign, mostNatural, partsOf, told, toldPassed, toldResult, toldReturned}
-use Rattle.aapcs64.specs.Domain.{Domain, every}
-use Rattle.aapcs64.proofs.Laid.{laid-out}
+use Rattle.aapcs64.specs.Told.{composite, mostAlign, mostNatural, stateOf, partsOf, told, toldPassed, toldResult, toldReturned}
+use Rattle.aapcs64.specs.Domain.{Domain, Enough, enough, every}
 use Rattle.aapcs64.proofs.Hfa.{Vectors, Others, Agreed, vectors, others, agreement}
 use Rattle.aapcs64.proofs.Row.{spent, argument-found, argument-small, argument-large, returns-found, returns-small, returns-large}
 use Rattle.find.proofs.Each.{and-true}
@@ -38,7 +37,7 @@ few-aligns (p ∷ ps) e =
     let h : p .align ≤ 8 = leb-true _ _ (a .0) in
     omega (arith, few-aligns ps (a .1))
 
-narrow : (shape : Shape) (ps : List Piece) (natural : ℕ) → Domain shape ps → natural ≤ mostNatural shape ps → natural ≤ 8
+narrow : (shape : Shape) (ps : List Piece) (natural : ℕ) → Enough shape ps → natural ≤ mostNatural shape ps → natural ≤ 8
 narrow shape ps natural d h = omega (arith, d .shape-align, few-aligns ps (d .aligns))
 
 -- ---- sixteen bytes are one or two doublewords
@@ -133,7 +132,7 @@ module _ (I F : ℕ) (hI : I ≤ 8) (hF : F ≤ 8) where
 
 -- ---- arguments
 
-module _ (shape : Shape) (ps : List Piece) (d : Domain shape ps) (natural : ℕ) (n : natural ≤ mostNatural shape ps) where
+module _ (shape : Shape) (ps : List Piece) (d : Enough shape ps) (natural : ℕ) (n : natural ≤ mostNatural shape ps) where
   abbrev c : Composite
   c = composite natural shape ps
 
@@ -185,7 +184,7 @@ module _ (shape : Shape) (ps : List Piece) (d : Domain shape ps) (natural : ℕ)
         go (no l) = told-copy I F hI hF (omega arith) ∙ rw (by-C9 (8 - I) (8 - F) c (o .test) h (omega arith))
 
     pub argument-agrees : Same
-    argument-agrees = go (agreement natural shape ps (laid-out shape ps d)) (decLe (shape .size) 16)
+    argument-agrees = go (agreement natural shape ps d) (decLe (shape .size) 16)
       where
         go : Agreed natural shape ps → Dec (shape .size ≤ 16) → Same
         go (vectors f) size = in-vectors f
@@ -202,7 +201,7 @@ module _ (shape : Shape) (ps : List Piece) (d : Domain shape ps) (natural : ℕ)
 
     pub returns-agrees : SameResult
     unfolding toldResult result described descriptions
-    returns-agrees = go (agreement natural shape ps (laid-out shape ps d)) (decLe (shape .size) 16)
+    returns-agrees = go (agreement natural shape ps d) (decLe (shape .size) 16)
       where
         small : natural ≤ 8
         small = narrow shape ps natural d n
@@ -214,3 +213,21 @@ module _ (shape : Shape) (ps : List Piece) (d : Domain shape ps) (natural : ℕ)
             rw (returns-small shape ps (d .some) I F (o .finds) h, in-x (shape .size) h 0 0, by-C12 0 0 c (o .test) h small (omega arith))
         go (others o) (no h) =
             rw (returns-large shape ps (d .some) I F (o .finds) (omega arith), by-C9 0 0 c (o .test) (omega arith) (omega arith))
+
+-- ---- the domain
+
+module _ (shape : Shape) (ps : List Piece) (natural I F : ℕ) where
+  pub argument-is-aapcs64 : Domain shape ps → natural ≤ mostNatural shape ps → I ≤ 8 → F ≤ 8
+      → toldPassed (leaves I F false) (argument (described 1) (leaves I F false) (Aggregate shape) ps)
+      ≡ some (parameter (state (8 - I) (8 - F)) (composite natural shape ps))
+  argument-is-aapcs64 d n hI hF = argument-agrees shape ps (enough shape ps d) natural n I F hI hF
+
+  pub returns-is-aapcs64 : Domain shape ps → natural ≤ mostNatural shape ps
+      → toldReturned (described 1 .«return_pointer») (returns (described 1) (leaves I F false) (Aggregate shape) ps)
+      ≡ some (result (state (8 - I) (8 - F)) (composite natural shape ps))
+  returns-is-aapcs64 d n = returns-agrees shape ps (enough shape ps d) natural n I F
+
+-- a fresh call is stage A
+pub fresh-is-stageA : stateOf (call (described 1)) ≡ stageA
+unfolding described descriptions
+fresh-is-stageA = refl

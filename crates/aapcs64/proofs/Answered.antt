@@ -29,7 +29,7 @@ use Rattle.classify.specs.Answers.{leftOf, callOf, isBadCall, callRefusal, refu
 use Rattle.aapcs64.specs.Aapcs64.{State, Composite, Passing, parameter, Returning, result}
 use Rattle.aapcs64.specs.Told.{composite, mostNatural, stateOf, told, toldPassed, toldResult, toldReturned}
 use Rattle.aapcs64.specs.Domain.{Domain}
-use Rattle.aapcs64.proofs.Agrees.{argument-agrees, returns-agrees}
+use Rattle.aapcs64.proofs.Agrees.{argument-is-aapcs64, returns-is-aapcs64}
 
 -- ---- what isn't refused
 
@@ -73,52 +73,47 @@ module _ (c : Call) (arg : Arg) (ws out : List ℕ) (p : Passed) (spent : Spent)
 
 -- ---- the answers
 
+-- an answer beside the slots at the front of the buffer, of which something is said
+pub record Answers (a : Answer) (out buffer : List ℕ) (says : List Slot → Type 0) : Type 0 where
+  pub slots : List Slot
+  pub count : a .outcome .slots ≡ length slots
+  pub in-buffer : buffer ≡ written slots out
+  pub description : a .next .abi ≡ 1
+  pub standard : says slots
+
 module _ (c : Call) (abi : c .abi ≡ 1) (shape : Shape) (ws out : List ℕ) (d : Domain shape (piecesOf ws)) (natural : ℕ) (n : natural ≤ mostNatural shape (piecesOf ws)) where
-  -- an answer beside the slots that the buffer's front holds, which say in the standard's terms what it says
-  pub record Answers (a : Answer) (buffer : List ℕ) (says : List Slot → Type 0) : Type 0 where
-    pub slots : List Slot
-    pub count : a .outcome .slots ≡ length slots
-    pub in-buffer : buffer ≡ written slots out
-    pub description : a .next .abi ≡ 1
-    pub standard : says slots
-
-  abbrev Argument : Answer → List Slot → Type 0
-  Argument a slots = told (leftOf c) (a .outcome .way) slots (leftOf (a .next)) ≡ some (parameter (stateOf (leftOf c)) (composite natural shape (piecesOf ws)))
-
-  abbrev arg : Arg
-  arg = Aggregate shape
-
-  pub argument-answered : argumentAnswer c arg ws out .outcome .refusal ≡ accepted
-      → Answers (argumentAnswer c arg ws out) (argumentWritten c arg ws out) (Argument (argumentAnswer c arg ws out))
+  pub argument-answered : argumentAnswer c (Aggregate shape) ws out .outcome .refusal ≡ accepted
+      → Answers (argumentAnswer c (Aggregate shape) ws out) out (argumentWritten c (Aggregate shape) ws out)
+      (λ (slots : List Slot).
+      told (leftOf c) (argumentAnswer c (Aggregate shape) ws out .outcome .way) slots (leftOf (argumentAnswer c (Aggregate shape) ws out .next))
+      ≡ some (parameter (stateOf (leftOf c)) (composite natural shape (piecesOf ws))))
   unfolding argumentAnswer argumentWritten
   argument-answered ok =
-      let p : Passed = argument (described (c .abi)) (leftOf c) arg (piecesOf ws) in
-      let g = given c arg ws out p _ ok in
+      let p : Passed = argument (described (c .abi)) (leftOf c) (Aggregate shape) (piecesOf ws) in
+      let g = given c (Aggregate shape) ws out p _ ok in
       let k = good c abi (g .checked) in
       record {
         slots = slotsOf (p .pass);
         count = ap (λ (a : Answer). a .outcome .slots) (g .answer);
         in-buffer = g .buffer;
         description = ap (λ (a : Answer). a .next .abi) (g .answer) ∙ abi;
-        standard = rw (g .answer, abi, k .unmarked) (argument-agrees shape (piecesOf ws) d natural n (c .integer) (c .float) (k .integers) (k .floats));
+        standard = rw (g .answer, abi, k .unmarked) (argument-is-aapcs64 shape (piecesOf ws) natural (c .integer) (c .float) d n (k .integers) (k .floats));
       }
 
-  abbrev Result : Answer → List Slot → Type 0
-  Result a slots =
-      toldResult (described 1 .«return_pointer») (a .outcome .way) slots (leftOf (a .next))
-      ≡ some (result (stateOf (leftOf c)) (composite natural shape (piecesOf ws)))
-
-  pub returns-answered : returnsAnswer c arg ws out .outcome .refusal ≡ accepted
-      → Answers (returnsAnswer c arg ws out) (returnsWritten c arg ws out) (Result (returnsAnswer c arg ws out))
+  pub returns-answered : returnsAnswer c (Aggregate shape) ws out .outcome .refusal ≡ accepted
+      → Answers (returnsAnswer c (Aggregate shape) ws out) out (returnsWritten c (Aggregate shape) ws out)
+      (λ (slots : List Slot).
+      toldResult (described 1 .«return_pointer») (returnsAnswer c (Aggregate shape) ws out .outcome .way) slots (leftOf (returnsAnswer c (Aggregate shape) ws out .next))
+      ≡ some (result (stateOf (leftOf c)) (composite natural shape (piecesOf ws))))
   unfolding returnsAnswer returnsWritten
   returns-answered ok =
-      let p : Passed = returns (described (c .abi)) (leftOf c) arg (piecesOf ws) in
-      let g = given c arg ws out p _ ok in
+      let p : Passed = returns (described (c .abi)) (leftOf c) (Aggregate shape) (piecesOf ws) in
+      let g = given c (Aggregate shape) ws out p _ ok in
       let k = good c abi (g .checked) in
       record {
         slots = slotsOf (p .pass);
         count = ap (λ (a : Answer). a .outcome .slots) (g .answer);
         in-buffer = g .buffer;
         description = ap (λ (a : Answer). a .next .abi) (g .answer) ∙ abi;
-        standard = rw (g .answer, abi, k .unmarked) (returns-agrees shape (piecesOf ws) d natural n (c .integer) (c .float));
+        standard = rw (g .answer, abi, k .unmarked) (returns-is-aapcs64 shape (piecesOf ws) natural (c .integer) (c .float) d n);
       }

@@ -1,78 +1,85 @@
--- On pieces that are laid out one behind another, the test for homogeneous pieces finds exactly the HFAs: members of one type are pieces of one
--- kind, size and alignment, no two share an address, and without holes they fill the size. Assumes nothing.
-use Prim.Native.Nat.{ℕ, zero, suc, _+_, _*_, _≤_, _<_}
+-- The test for homogeneous pieces finds exactly the HFAs: pieces of one floating-point type have one kind, size and alignment, and in offset order
+-- and without overlap no two of them share an address. Assumes nothing.
+use Prim.Native.Nat.{ℕ, suc, _+_, _*_, _≤_, _<_}
 use mathlib.Core.Path.{_≡_, refl, sym, ap, _∙_}
 use mathlib.Core.List.{List, [], _∷_, map}
 use mathlib.Core.Bool.{Bool, true, false, _&&_, _||_, or-false}
 use native.Mathlib.Omega.{arith}
-use native.Mathlib.Nat.{mul-suc, mul-zero, suc-mul, mul-comm}
+use native.Mathlib.Nat.{mul-comm}
 use lib.Dec.{leb, eqb}
 use lib.ListN.{length, length-map}
-use borrow.Author.Tests.{eqb-true, eq-eqb, le-leb, lt-ltb}
+use borrow.Author.Tests.{eqb-true, eqb-false, eq-eqb, ne-eqb, leb-true, le-leb, lt-ltb}
 use Rattle.shape.specs.declared.Piece.{Piece}
 use Rattle.shape.specs.declared.Shape.{Shape}
+use Rattle.shape.specs.Words.{piece}
 use Rattle.shape.specs.Questions.{isFloat}
 use Rattle.slots.specs.declared.Slot.{Slot}
-use Rattle.slots.specs.Search.{Search, found, nothing, floatsIn}
-use Rattle.find.specs.Find.{foundIf, floatsAt, sameScalar, allSame, isHomogeneous, homogeneous}
+use Rattle.slots.specs.Search.{found, nothing, floatsIn}
+use Rattle.find.specs.Find.{foundIf, floatsAt, allSame, isHomogeneous, homogeneous}
 use Rattle.find.proofs.Each.{and-true, length-at, floats-at}
-use Rattle.find.proofs.Tests.{fields}
-use Rattle.aapcs64.specs.Aapcs64.{Precision, bytesOf, half, single, double, quad, Fundamental, integral, floating, sizeOf, Member, Composite, same, isOf, allOf, insert, addressable, count, isHfaOf, isHfa, memberParts}
+use Rattle.aapcs64.specs.Aapcs64.{Precision, half, single, double, quad, bytesOf, Fundamental, integral, floating, sizeOf, Composite, isOf, allOf, insert, addressable, count, isHfaOf, isHfa, memberParts}
 use Rattle.aapcs64.specs.Told.{typeOf, memberOf, composite, formatBytes, partsOf}
-use Rattle.aapcs64.specs.Domain.{end}
-use Rattle.aapcs64.proofs.Laid.{Usual, int, Laid, done, next}
-use Rattle.aapcs64.proofs.Laid as pieces
+use Rattle.aapcs64.specs.Domain.{every, isUsual, end, inOrder, apart, Enough}
 
--- ---- no two members share an address
+-- ---- the pieces' scalars
 
-pub addressable-laid : {o last : ℕ} {ps : List Piece} → Laid o ps last → addressable (map memberOf ps) ≡ map memberOf ps
-unfolding addressable insert
-addressable-laid done = refl
-addressable-laid (next {ps = []} u n l) = refl
-addressable-laid (next {p = p} {ps = q ∷ qs} u n l) = rw (addressable-laid l) (first p q qs n l refl)
+data Usual : ℕ → ℕ → ℕ → Type 0 where
+  int : {s a : ℕ} → Usual 0 s a
+  singles : Usual 1 4 4
+  doubles : Usual 2 8 8
+
+scalar : (k s a kind size : ℕ) → Usual kind size size → eqb k kind && eqb s size && eqb a size ≡ true → Usual k s a
+scalar k s a kind size u e =
+    let x = and-true (eqb k kind && eqb s size) (eqb a size) e in
+    let y = and-true (eqb k kind) (eqb s size) (x .0) in
+    rw (eqb-true k kind (y .0), eqb-true s size (y .1), eqb-true a size (x .1)) u
+
+usual : (p : Piece) → isUsual p ≡ true → Usual (p .kind) (p .size) (p .align)
+usual p = go (p .kind) (p .size) (p .align)
   where
-    first : (p q : Piece) (qs : List Piece) {o last : ℕ} → 0 < p .size → Laid o (q ∷ qs) last → o ≡ end p
-        → insert (memberOf p) (map memberOf (q ∷ qs)) ≡ map memberOf (p ∷ q ∷ qs)
-    first p q qs n (next u m l) e = rw (lt-ltb (p .offset) (q .offset) (omega arith))
+    go : (k s a : ℕ) → eqb k 0 || eqb k 1 && eqb s 4 && eqb a 4 || eqb k 2 && eqb s 8 && eqb a 8 ≡ true → Usual k s a
+    go k s a e = by (eqb k 0) (eqb k 1 && eqb s 4 && eqb a 4) refl refl e
+      where
+        by : (b c : Bool) → eqb k 0 ≡ b → eqb k 1 && eqb s 4 && eqb a 4 ≡ c → b || c || eqb k 2 && eqb s 8 && eqb a 8 ≡ true → Usual k s a
+        by true c eb ec e = rw (eqb-true k 0 eb) int
+        by false true eb ec e = scalar k s a 1 4 singles ec
+        by false false eb ec e = scalar k s a 2 8 doubles e
 
-counted : (natural : ℕ) (shape : Shape) {o last : ℕ} {ps : List Piece} → Laid o ps last → count (composite natural shape ps) ≡ length ps
-unfolding count
-counted natural shape {ps = ps} l = ap length (addressable-laid l) ∙ length-map ps memberOf
-
--- ---- members of a type
-
--- a kind stands for a floating-point type: of pieces as they are laid out, those of the kind are of its size and alignment
+-- a kind stands for a floating-point type: of such pieces, those of the kind are of its size and alignment
 record Stands (kind : ℕ) (p : Precision) : Type 0 where
   told : (k s a : ℕ) → Usual k s a → eqb k kind && eqb s (bytesOf p) && eqb a (bytesOf p) ≡ isOf p (typeOf k s)
   sized : (k s a : ℕ) → Usual k s a → isOf p (typeOf k s) ≡ true → s ≡ bytesOf p
+  some : 0 < bytesOf p
   format : formatBytes kind ≡ bytesOf p
   float : isFloat kind ≡ true
 
 single-stands : Stands 1 single
-single-stands = record { told = told; sized = sized; format = refl; float = refl }
+single-stands = record { told = told; sized = sized; some = omega arith; format = refl; float = refl }
   where
     told : (k s a : ℕ) → Usual k s a → eqb k 1 && eqb s 4 && eqb a 4 ≡ isOf single (typeOf k s)
     told k s a int = refl
-    told k s a pieces.single = refl
-    told k s a pieces.double = refl
+    told k s a singles = refl
+    told k s a doubles = refl
 
     sized : (k s a : ℕ) → Usual k s a → isOf single (typeOf k s) ≡ true → s ≡ 4
     sized k s a int e = absurd (let z : _≡_ {A = ℕ} 0 1 = cc in omega arith)
-    sized k s a pieces.single e = refl
-    sized k s a pieces.double e = absurd (let z : _≡_ {A = ℕ} 0 1 = cc in omega arith)
+    sized k s a singles e = refl
+    sized k s a doubles e = absurd (let z : _≡_ {A = ℕ} 0 1 = cc in omega arith)
 
 double-stands : Stands 2 double
-double-stands = record { told = told; sized = sized; format = refl; float = refl }
+double-stands = record { told = told; sized = sized; some = omega arith; format = refl; float = refl }
   where
     told : (k s a : ℕ) → Usual k s a → eqb k 2 && eqb s 8 && eqb a 8 ≡ isOf double (typeOf k s)
     told k s a int = refl
-    told k s a pieces.single = refl
-    told k s a pieces.double = refl
+    told k s a singles = refl
+    told k s a doubles = refl
 
     sized : (k s a : ℕ) → Usual k s a → isOf double (typeOf k s) ≡ true → s ≡ 8
     sized k s a int e = absurd (let z : _≡_ {A = ℕ} 0 1 = cc in omega arith)
-    sized k s a pieces.single e = absurd (let z : _≡_ {A = ℕ} 0 1 = cc in omega arith)
-    sized k s a pieces.double e = refl
+    sized k s a singles e = absurd (let z : _≡_ {A = ℕ} 0 1 = cc in omega arith)
+    sized k s a doubles e = refl
+
+-- ---- members of one type
 
 size-of : (p : Precision) (f : Fundamental) → isOf p f ≡ true → sizeOf f ≡ bytesOf p
 size-of p (integral n) e = absurd (let z : _≡_ {A = ℕ} 0 1 = cc in omega arith)
@@ -80,22 +87,47 @@ size-of p (floating q) e = sym (eqb-true (bytesOf p) (bytesOf q) e)
 
 module _ (kind : ℕ) (p : Precision) (st : Stands kind p) where
   abbrev first : ℕ → Piece
-  first o = record { kind = kind; size = bytesOf p; align = bytesOf p; offset = o }
+  first o = piece kind (bytesOf p) (bytesOf p) o
 
-  same-type : (at : ℕ) {o last : ℕ} {ps : List Piece} → Laid o ps last → allSame (first at) ps ≡ allOf p (map memberOf ps)
-  unfolding allSame allOf
-  same-type at done = refl
-  same-type at (next {p = q} u n l) = rw (st .told (q .kind) (q .size) (q .align) u, same-type at l)
+  same-type : (o : ℕ) (ps : List Piece) → every isUsual ps ≡ true → allSame (first o) ps ≡ allOf p (map memberOf ps)
+  unfolding allSame allOf every
+  same-type o [] u = refl
+  same-type o (q ∷ ps) u =
+      let x = and-true (isUsual q) (every isUsual ps) u in
+      rw (st .told (q .kind) (q .size) (q .align) (usual q (x .0)), same-type o ps (x .1))
 
-  -- members of one type fill what they are laid out over
-  filled : {o last : ℕ} {ps : List Piece} → Laid o ps last → allOf p (map memberOf ps) ≡ true → last ≡ o + bytesOf p * length ps
-  unfolding allOf
-  filled {o} done e = omega (arith, mul-zero (bytesOf p))
-  filled (next {p = q} {ps = ps} u n l) e =
-      let a = and-true (isOf p (typeOf (q .kind) (q .size))) (allOf p (map memberOf ps)) e in
-      let z : q .size ≡ bytesOf p = st .sized (q .kind) (q .size) (q .align) u (a .0) in
-      let h = filled l (a .1) in
-      omega (arith, mul-suc (bytesOf p) (length ps))
+  -- of two that follow one another, the second starts behind the first
+  behind : (q r : Piece) → Usual (q .kind) (q .size) (q .align) → Usual (r .kind) (r .size) (r .align)
+      → isOf p (typeOf (q .kind) (q .size)) ≡ true → isOf p (typeOf (r .kind) (r .size)) ≡ true
+      → q .offset ≤ r .offset → leb (end q) (r .offset) || leb (end r) (q .offset) ≡ true → q .offset < r .offset
+  behind q r uq ur tq tr l e = go (leb (end q) (r .offset)) refl e
+    where
+      sq : q .size ≡ bytesOf p
+      sq = st .sized (q .kind) (q .size) (q .align) uq tq
+
+      sr : r .size ≡ bytesOf p
+      sr = st .sized (r .kind) (r .size) (r .align) ur tr
+
+      go : (b : Bool) → leb (end q) (r .offset) ≡ b → b || leb (end r) (q .offset) ≡ true → q .offset < r .offset
+      go true t e = let h : end q ≤ r .offset = leb-true _ _ t in omega (arith, sq, st .some)
+      go false t e = let h : end r ≤ q .offset = leb-true _ _ e in omega (arith, sr, st .some)
+
+  by-address : (ps : List Piece) → every isUsual ps ≡ true → inOrder ps ≡ true → apart ps ≡ true → allOf p (map memberOf ps) ≡ true
+      → addressable (map memberOf ps) ≡ map memberOf ps
+  unfolding every inOrder apart allOf addressable insert
+  by-address [] u i a t = refl
+  by-address (q ∷ []) u i a t = refl
+  by-address (q ∷ r ∷ ps) u i a t =
+      let uq = and-true (isUsual q) (every isUsual (r ∷ ps)) u in
+      let ur = and-true (isUsual r) (every isUsual ps) (uq .1) in
+      let iq = and-true _ (inOrder (r ∷ ps)) i in
+      let ir = and-true (leb (q .offset) (r .offset)) _ (iq .0) in
+      let aq = and-true _ (apart (r ∷ ps)) a in
+      let ar = and-true (leb (end q) (r .offset) || leb (end r) (q .offset)) _ (aq .0) in
+      let tq = and-true (isOf p (typeOf (q .kind) (q .size))) (allOf p (map memberOf (r ∷ ps))) t in
+      let tr = and-true (isOf p (typeOf (r .kind) (r .size))) (allOf p (map memberOf ps)) (tq .1) in
+      let h : q .offset < r .offset = behind q r (usual q (uq .0)) (usual r (ur .0)) (tq .0) (tr .0) (leb-true _ _ (ir .0)) (ar .0) in
+      rw (by-address (r ∷ ps) (uq .1) (iq .1) (aq .1) (tq .1), lt-ltb (q .offset) (r .offset) h)
 
   -- a slot for each is a v register for each
   in-v : (n s : ℕ) (ps : List Piece) → allOf p (map memberOf ps) ≡ true → partsOf n s (floatsAt kind ps) ≡ memberParts s (map memberOf ps)
@@ -125,65 +157,74 @@ pub data Agreed (natural : ℕ) (shape : Shape) (ps : List Piece) : Type 0 where
   vectors : Vectors natural shape ps → Agreed natural shape ps
   others : Others natural shape ps → Agreed natural shape ps
 
--- both tests ask for members of one type and for no more than four; the rest holds of all such members
-one-test : (all few fills fills′ some : Bool) → (all ≡ true → fills ≡ true) → (all ≡ true → fills′ ≡ true) → some ≡ true
-    → true && few && all && fills ≡ all && (some && few) && fills′
-one-test true true fills fills′ some f g s = rw (f refl, g refl, s)
-one-test true false fills fills′ some f g s = rw s
-one-test false true fills fills′ some f g s = refl
-one-test false false fills fills′ some f g s = refl
+-- both tests ask for members of one type, and then for the same count and size
+one-test : (all few fills few′ fills′ : Bool) → (all ≡ true → few ≡ few′) → (all ≡ true → fills ≡ fills′)
+    → true && few && all && fills ≡ all && few′ && fills′
+one-test true true fills few′ fills′ f g = rw (← f refl, g refl)
+one-test true false fills few′ fills′ f g = rw (← f refl)
+one-test false true fills few′ fills′ f g = refl
+one-test false false fills few′ fills′ f g = refl
+
+same-size : (a b c : ℕ) → a ≡ c → eqb a b ≡ eqb b c
+same-size a b c e = go (eqb a b) refl
+  where
+    go : (t : Bool) → eqb a b ≡ t → eqb a b ≡ eqb b c
+    go true t = let h : a ≡ b = eqb-true _ _ t in t ∙ sym (eq-eqb b c (omega arith))
+    go false t = let h = eqb-false a b t in t ∙ sym (ne-eqb b c (λ k. h (e ∙ sym k)))
 
 module _ (natural : ℕ) (shape : Shape) where
-  module _ (kind : ℕ) (p : Precision) (st : Stands kind p) (o : ℕ) (ps : List Piece) (l : Laid o (first kind p st o ∷ ps) (shape .size)) (z : o ≡ 0) where
+  module _ (kind : ℕ) (p : Precision) (st : Stands kind p) (o : ℕ) (ps : List Piece) where
     abbrev whole : List Piece
     whole = first kind p st o ∷ ps
 
     abbrev c : Composite
     c = composite natural shape whole
 
-    tests : isHomogeneous 4 shape (first kind p st o) whole ≡ isHfaOf p c
-    unfolding isHomogeneous isHfaOf
-    tests =
-        rw (st .float, same-type kind p st o l, counted natural shape l)
-        (one-test (allOf p (map memberOf whole)) (leb (length whole) 4) _ _ (leb 1 (length whole))
-        (λ e. let f = filled kind p st l e in eq-eqb (bytesOf p * length whole) (shape .size) (omega arith))
-        (λ e. let f = filled kind p st l e in eq-eqb (shape .size) (length whole * bytesOf p) (omega (arith, mul-comm (bytesOf p) (length whole))))
-        (le-leb 1 (length whole) (omega arith)))
+    module _ (d : Enough shape whole) where
+      members : allOf p (c .members) ≡ true → addressable (c .members) ≡ c .members
+      members t = by-address kind p st whole (d .usual) (d .order) (d .no-overlap) t
 
-    agreed : isHfa c ≡ isHfaOf p c → Agreed natural shape whole
-    unfolding homogeneous foundIf isHfaOf
-    agreed e = go (isHomogeneous 4 shape (first kind p st o) whole) refl
-      where
-        go : (b : Bool) → isHomogeneous 4 shape (first kind p st o) whole ≡ b → Agreed natural shape whole
-        go true t =
-            let n : count c ≡ length whole = counted natural shape l in
-            let a = and-true (allOf p (c .members) && (leb 1 (count c) && leb (count c) 4)) (eqb (c .size) (count c * bytesOf p)) (sym tests ∙ t) in
-            let b = and-true (allOf p (c .members)) (leb 1 (count c) && leb (count c) 4) (a .0) in
-            let f = fields 4 shape (first kind p st o) whole t in
-            vectors (record {
-              slots = floatsAt kind whole;
-              finds = rw t;
-              test = e ∙ (sym tests ∙ t);
-              floats = rw n (floats-at kind whole (st .float));
-              all = rw n (length-at kind whole);
-              few = omega (arith, f .few);
-              parts = λ m s. rw (addressable-laid l) (in-v kind p st m s whole (b .0));
-            })
-        go false t = others (record { finds = rw t; test = e ∙ (sym tests ∙ t) })
+      counted : allOf p (c .members) ≡ true → count c ≡ length whole
+      unfolding count
+      counted t = ap length (members t) ∙ length-map whole memberOf
+
+      tests : isHomogeneous 4 shape (first kind p st o) whole ≡ isHfaOf p c
+      unfolding isHomogeneous isHfaOf
+      tests =
+          rw (st .float, same-type kind p st o whole (d .usual))
+          (one-test (allOf p (c .members)) (leb (length whole) 4) (eqb (bytesOf p * length whole) (shape .size)) (leb 1 (count c) && leb (count c) 4)
+          (eqb (shape .size) (count c * bytesOf p))
+          (λ t. rw (counted t, le-leb 1 (length whole) (omega arith)))
+          (λ t. rw (counted t) (same-size (bytesOf p * length whole) (shape .size) (length whole * bytesOf p) (mul-comm (bytesOf p) (length whole)))))
+
+      agreed : isHfa c ≡ isHfaOf p c → Agreed natural shape whole
+      unfolding homogeneous foundIf isHfaOf
+      agreed e = go (isHomogeneous 4 shape (first kind p st o) whole) refl
+        where
+          go : (b : Bool) → isHomogeneous 4 shape (first kind p st o) whole ≡ b → Agreed natural shape whole
+          go true t =
+              let x = and-true (allOf p (c .members) && (leb 1 (count c) && leb (count c) 4)) (eqb (c .size) (count c * bytesOf p)) (sym tests ∙ t) in
+              let y = and-true (allOf p (c .members)) (leb 1 (count c) && leb (count c) 4) (x .0) in
+              let z = and-true (leb 1 (count c)) (leb (count c) 4) (y .1) in
+              vectors (record {
+                slots = floatsAt kind whole;
+                finds = rw t;
+                test = e ∙ (sym tests ∙ t);
+                floats = rw (counted (y .0)) (floats-at kind whole (st .float));
+                all = rw (counted (y .0)) (length-at kind whole);
+                few = leb-true _ _ (z .1);
+                parts = λ n s. rw (members (y .0)) (in-v kind p st n s whole (y .0));
+              })
+          go false t = others (record { finds = rw t; test = e ∙ (sym tests ∙ t) })
 
   -- a first member of one type leaves the other types out
-  started : (k s a o : ℕ) (ps : List Piece) → Usual k s a → o ≡ 0
-      → Laid o (record { kind = k; size = s; align = a; offset = o } ∷ ps) (shape .size)
-      → Agreed natural shape (record { kind = k; size = s; align = a; offset = o } ∷ ps)
+  started : (k s a o : ℕ) (ps : List Piece) → Usual k s a → Enough shape (piece k s a o ∷ ps) → Agreed natural shape (piece k s a o ∷ ps)
   unfolding homogeneous isHomogeneous foundIf isHfa isHfaOf allOf
-  started k s a o ps int z l = others (record { finds = refl; test = refl })
-  started k s a o ps pieces.single z l = agreed 1 single single-stands o ps l z (or-false _ ∙ or-false _)
-  started k s a o ps pieces.double z l = agreed 2 double double-stands o ps l z (or-false _)
+  started k s a o ps int d = others (record { finds = refl; test = refl })
+  started k s a o ps singles d = agreed 1 single single-stands o ps d (or-false _ ∙ or-false _)
+  started k s a o ps doubles d = agreed 2 double double-stands o ps d (or-false _)
 
-  either : (o : ℕ) (ps : List Piece) → o ≡ 0 → Laid o ps (shape .size) → Agreed natural shape ps
-  unfolding homogeneous isHfa isHfaOf allOf count addressable
-  either o [] z l = others (record { finds = refl; test = refl })
-  either o (p ∷ ps) z (next u n l) = started (p .kind) (p .size) (p .align) (p .offset) ps u z (next u n l)
-
-  pub agreement : (ps : List Piece) → Laid 0 ps (shape .size) → Agreed natural shape ps
-  agreement ps l = either 0 ps refl l
+  pub agreement : (ps : List Piece) → Enough shape ps → Agreed natural shape ps
+  unfolding homogeneous isHfa isHfaOf allOf count addressable every
+  agreement [] d = others (record { finds = refl; test = refl })
+  agreement (p ∷ ps) d = started (p .kind) (p .size) (p .align) (p .offset) ps (usual p (and-true (isUsual p) (every isUsual ps) (d .usual) .0)) d

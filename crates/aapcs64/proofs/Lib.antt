@@ -1,4 +1,3 @@
-pub mod Laid
 pub mod Hfa
 pub mod Row
 pub mod Agrees
