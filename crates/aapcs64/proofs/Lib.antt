@@ -2,3 +2,5 @@ pub mod Hfa
 pub mod Row
 pub mod Agrees
 pub mod Answered
+pub mod Case
+pub mod Needed
