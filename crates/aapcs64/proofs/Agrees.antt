@@ -1,28 +1,29 @@
 -- Description 1 is AAPCS64 on the aggregates of the domain: an argument goes to the same registers, to the stack, or by the address of a copy, and
 -- leaves the same registers; a result comes back in the same registers or through x8. Assumes nothing.
-use Prim.Native.Nat.{ℕ, zero, suc, _+_, _-_, _*_, _/_, _≤_, _<_, min, max}
-use mathlib.Core.Path.{_≡_, refl, sym, ap, _∙_}
-use mathlib.Core.List.{List, [], _∷_, _++_}
-use mathlib.Core.Bool.{Bool, true, false, cond, _&&_}
+use Prim.Native.Nat.{ℕ, zero, suc, _+_, _-_, _/_, _≤_, _<_}
+use mathlib.Core.Path.{_≡_, refl, _∙_}
+use mathlib.Core.List.{List, [], _∷_}
+use mathlib.Core.Bool.{true, false}
 use mathlib.Core.Option.Option.{some}
 use native.Mathlib.Omega.{arith}
 use native.Mathlib.Decide.{decLe}
-use lib.Dec.{leb, ltb}
+use lib.Dec.{leb}
 use lib.ListN.{length}
 use borrow.Author.Tests.{leb-true, le-leb, lt-leb, lt-ltb, le-ltb}
 use Rattle.shape.specs.declared.Piece.{Piece}
 use Rattle.shape.specs.declared.Shape.{Shape}
 use Rattle.slots.specs.declared.Slot.{Slot}
 use Rattle.slots.specs.Search.{floatsIn}
-use Rattle.slots.specs.Cut.{upTo, ceilDiv, partOf, cut}
-use Rattle.slots.proofs.Cut.{length-upTo, length-cut}
+use Rattle.slots.specs.Cut.{upTo, partOf, cut}
+use Rattle.slots.proofs.Cut.{length-cut}
 use Rattle.abis.specs.Abis.{described, descriptions}
 use Rattle.classify.specs.declared.Arg.the-variants.{Aggregate}
 use Rattle.classify.specs.Pass.{reference}
 use Rattle.classify.specs.Classify.{passed, leaves, call, argument, returns}
-use Rattle.aapcs64.specs.Aapcs64.{Composite, addressable, count, doublewords, memberParts, wordParts, x, registers, stack, copy, copyOnStack, state, Passing, passing, parameter, stageC, stageA, isHfa, comes, throughX8, returning, result}
+use Rattle.aapcs64.specs.Aapcs64.{Composite, addressable, count, doublewords, memberParts, wordParts, x, registers, stack, copy, copyOnStack, state, passing, parameter, stageC, stageA, isHfa, result}
 use Rattle.aapcs64.specs.Told.{composite, mostAlign, mostNatural, stateOf, partsOf, told, toldPassed, toldResult, toldReturned}
-use Rattle.aapcs64.specs.Domain.{Domain, Enough, enough, every}
+use Rattle.aapcs64.specs.Domain.{Domain, every}
+use Rattle.aapcs64.proofs.Enough.{Enough, enough}
 use Rattle.aapcs64.proofs.Hfa.{Vectors, Others, Agreed, vectors, others, agreement}
 use Rattle.aapcs64.proofs.Row.{spent, argument-found, argument-small, argument-large, returns-found, returns-small, returns-large}
 use Rattle.find.proofs.Each.{and-true}

@@ -1,10 +1,9 @@
 -- The same of the answers that the methods promise: where a call on description 1 isn't refused, its way, its slots as they are written and the next
 -- call are the standard's. What isn't refused has no more than eight registers left of each bank and isn't integers-only. Assumes nothing.
 use Prim.Native.Nat.{ℕ, zero, suc, _/_, _≤_}
-use mathlib.Core.Path.{_≡_, refl, sym, ap, _∙_}
+use mathlib.Core.Path.{_≡_, refl, ap, _∙_}
 use mathlib.Core.List.{List}
-use mathlib.Core.Bool.{Bool, true, false, cond, _&&_, _||_}
-use mathlib.Core.Option.{Option}
+use mathlib.Core.Bool.{Bool, true, false, _&&_, _||_}
 use mathlib.Core.Option.Option.{some}
 use native.Mathlib.Omega.{arith}
 use lib.Dec.{ltb}
@@ -17,17 +16,16 @@ use Rattle.shape.proofs.Accepted.{refuse-none, else-none}
 use Rattle.slots.specs.declared.Slot.{Slot}
 use Rattle.slots.specs.Words.{slotSize, written}
 use Rattle.abis.specs.Abis.{described, descriptions}
-use Rattle.spend.specs.declared.Left.{Left}
 use Rattle.spend.specs.declared.Spent.{Spent}
 use Rattle.classify.specs.declared.Arg.{Arg}
 use Rattle.classify.specs.declared.Arg.the-variants.{Aggregate}
 use Rattle.classify.specs.declared.Call.{Call}
 use Rattle.classify.specs.declared.Answer.{Answer}
 use Rattle.classify.specs.Pass.{wayOf, slotsOf}
-use Rattle.classify.specs.Classify.{Passed, leaves, argument, returns}
-use Rattle.classify.specs.Answers.{leftOf, callOf, isBadCall, callRefusal, refusalOf, answered, orAnswer, inRoom, answerTo, writtenTo, argumentAnswer, argumentWritten, returnsAnswer, returnsWritten}
-use Rattle.aapcs64.specs.Aapcs64.{State, Composite, Passing, parameter, Returning, result}
-use Rattle.aapcs64.specs.Told.{composite, mostNatural, stateOf, told, toldPassed, toldResult, toldReturned}
+use Rattle.classify.specs.Classify.{Passed, argument, returns}
+use Rattle.classify.specs.Answers.{leftOf, callOf, isBadCall, callRefusal, refusalOf, answered, inRoom, answerTo, writtenTo, argumentAnswer, argumentWritten, returnsAnswer, returnsWritten}
+use Rattle.aapcs64.specs.Aapcs64.{parameter, result}
+use Rattle.aapcs64.specs.Told.{composite, mostNatural, stateOf, told, toldResult}
 use Rattle.aapcs64.specs.Domain.{Domain}
 use Rattle.aapcs64.proofs.Agrees.{argument-is-aapcs64, returns-is-aapcs64}
 

@@ -1,6 +1,6 @@
 -- The test for homogeneous pieces finds exactly the HFAs: pieces of one floating-point type have one kind, size and alignment, and in offset order
 -- and without overlap no two of them share an address. Assumes nothing.
-use Prim.Native.Nat.{ℕ, suc, _+_, _*_, _≤_, _<_}
+use Prim.Native.Nat.{ℕ, _+_, _*_, _≤_, _<_}
 use mathlib.Core.Path.{_≡_, refl, sym, ap, _∙_}
 use mathlib.Core.List.{List, [], _∷_, map}
 use mathlib.Core.Bool.{Bool, true, false, _&&_, _||_, or-false}
@@ -17,9 +17,10 @@ use Rattle.slots.specs.declared.Slot.{Slot}
 use Rattle.slots.specs.Search.{found, nothing, floatsIn}
 use Rattle.find.specs.Find.{foundIf, floatsAt, allSame, isHomogeneous, homogeneous}
 use Rattle.find.proofs.Each.{and-true, length-at, floats-at}
-use Rattle.aapcs64.specs.Aapcs64.{Precision, half, single, double, quad, bytesOf, Fundamental, integral, floating, sizeOf, Composite, isOf, allOf, insert, addressable, count, isHfaOf, isHfa, memberParts}
+use Rattle.aapcs64.specs.Aapcs64.{Precision, single, double, bytesOf, Fundamental, integral, floating, sizeOf, Composite, isOf, allOf, insert, addressable, count, isHfaOf, isHfa, memberParts}
 use Rattle.aapcs64.specs.Told.{typeOf, memberOf, composite, formatBytes, partsOf}
-use Rattle.aapcs64.specs.Domain.{every, isUsual, end, inOrder, apart, Enough}
+use Rattle.aapcs64.specs.Domain.{every, isUsual, end, inOrder, apart}
+use Rattle.aapcs64.proofs.Enough.{Enough}
 
 -- ---- the pieces' scalars
 

@@ -161,3 +161,38 @@ needed =
       order = record { only = refl; allowed = refl; row-is = refl; standard-is = refl; differ = refl };
       no-overlap = record { only = refl; allowed = refl; row-is = refl; standard-is = refl; differ = refl };
     }
+
+-- ---- the three clauses that aren't needed: a case that each alone leaves out, on which the answers are the same
+
+pub record Alike (clause : ℕ) (k : Case) (row : Passed) (standard : Passing) : Type 0 where
+  pub only : allBut clause (tests (k .shape) (k .pieces)) ≡ true
+  pub allowed : Allowed k
+  pub row-is : rowArgument k ≡ row
+  pub standard-is : standardArgument k ≡ standard
+  pub same : Same k
+
+-- nonzero sizes: an integer of no bytes before a Single is no member of its type
+abbrev pub no-bytes : Case
+no-bytes = on (shaped 4 4) (piece integer 0 1 0 ∷ piece single 4 4 0 ∷ []) 4 8 8
+
+-- holes: two Singles four bytes apart don't fill the size
+abbrev pub hole : Case
+hole = on (shaped 12 4) (piece single 4 4 0 ∷ piece single 4 4 8 ∷ []) 4 8 8
+
+-- the end: neither does a Single with four bytes behind it
+abbrev pub behind : Case
+behind = on (shaped 8 8) (piece single 4 4 0 ∷ []) 4 8 8
+
+pub record Unneeded : Type 0 where
+  pub sizes : Alike 4 no-bytes (passed (pieces (integerSlot 0 4 ∷ [])) (leaves 7 8 false)) (passing (registers (part (x 0) 0 4 ∷ [])) (state 1 0))
+  pub no-holes : Alike 7 hole (passed (pieces (integerSlot 0 8 ∷ integerSlot 8 4 ∷ [])) (leaves 6 8 false)) (passing (registers (part (x 0) 0 8 ∷ part (x 1) 8 4 ∷ [])) (state 2 0))
+  pub ends : Alike 8 behind (passed (pieces (integerSlot 0 8 ∷ [])) (leaves 7 8 false)) (passing (registers (part (x 0) 0 8 ∷ [])) (state 1 0))
+
+pub unneeded : Unneeded
+unfolding every any inOrder apart furthest below mostAlign argument described descriptions apply matches foundIf travel inRegisters shortOf homogeneous isHomogeneous allSame floatsAt cut upTo floatsIn parameter stageC isHfa isHfaOf allOf count addressable insert memberParts wordParts told partsOf
+unneeded =
+    record {
+      sizes = record { only = refl; allowed = refl; row-is = refl; standard-is = refl; same = refl };
+      no-holes = record { only = refl; allowed = refl; row-is = refl; standard-is = refl; same = refl };
+      ends = record { only = refl; allowed = refl; row-is = refl; standard-is = refl; same = refl };
+    }

@@ -72,23 +72,3 @@ pub record Domain (shape : Shape) (ps : List Piece) : Type 0 where
   pub no-holes : covered ps ≡ true
   -- ending at the size
   pub ends : furthest ps ≡ shape .size
-
--- the clauses among these that are enough: what the others leave out, the standard and the description judge alike
-pub record Enough (shape : Shape) (ps : List Piece) : Type 0 where
-  pub some : 0 < shape .size
-  pub shape-align : shape .align ≤ 8
-  pub aligns : every (λ (p : Piece). leb (p .align) 8) ps ≡ true
-  pub usual : every isUsual ps ≡ true
-  pub order : inOrder ps ≡ true
-  pub no-overlap : apart ps ≡ true
-
-pub enough : (shape : Shape) (ps : List Piece) → Domain shape ps → Enough shape ps
-enough shape ps d =
-    record {
-      some = d .some;
-      shape-align = d .shape-align;
-      aligns = d .aligns;
-      usual = d .usual;
-      order = d .order;
-      no-overlap = d .no-overlap;
-    }

@@ -1,11 +1,11 @@
 -- Shapes and answers of the descriptions in the standard's terms (REFERENCE 12): the composite that a shape and its pieces stand for, and what an
 -- answer's way, slots and counts left say of registers.
-use Prim.Native.Nat.{ℕ, zero, suc, _+_, _-_, max}
+use Prim.Native.Nat.{ℕ, _+_, _-_, max}
 use mathlib.Core.List.{List, [], _∷_, map}
-use mathlib.Core.Bool.{Bool, true, false, cond}
+use mathlib.Core.Bool.{cond}
 use mathlib.Core.Option.{Option}
 use mathlib.Core.Option.Option.{none, some}
-use lib.Dec.{ltb}
+use lib.Dec.{ltb, eqb}
 use lib.ListN.{getD}
 use Rattle.shape.specs.declared.Piece.{Piece}
 use Rattle.shape.specs.declared.Shape.{Shape}
@@ -18,7 +18,7 @@ use Rattle.spend.specs.declared.Way.{Way}
 use Rattle.spend.specs.declared.Way.the-variants.{Ignore, Direct, Pieces, Reference, Memory}
 use Rattle.classify.specs.Pass.{wayOf, slotsOf}
 use Rattle.classify.specs.Classify.{Passed}
-use Rattle.aapcs64.specs.Aapcs64.{Fundamental, integral, floating, Precision, half, single, double, quad, Member, Composite, Register, v, x, Part, part, Place, registers, stack, copy, copyOnStack, State, state, Passing, passing, Result, comes, throughX8, Returning, returning}
+use Rattle.aapcs64.specs.Aapcs64.{Fundamental, integral, floating, single, double, quad, Member, Composite, v, x, Part, part, Place, registers, stack, copy, copyOnStack, State, state, Passing, passing, Result, comes, throughX8, Returning, returning}
 
 -- ---- shapes
 
@@ -33,8 +33,8 @@ memberOf p = record { type = typeOf (p .kind) (p .size); offset = p .offset }
 abbrev pub composite : ℕ → Shape → List Piece → Composite
 composite natural shape ps = record { members = map memberOf ps; size = shape .size; natural = natural }
 
--- a shape and its pieces don't tell the natural alignment: where a composite holds another that was given an alignment, that counts, and the
--- shape's own doesn't, if it was given to the whole. It is no more than the largest of them all
+-- the natural alignment isn't told by a shape and its pieces: it counts what a composite inside was given, and not what the whole was given. It is
+-- no more than the largest alignment among them, and the theorem is of every number up to that
 unfoldable pub mostAlign : List Piece → ℕ
 mostAlign [] = 0
 mostAlign (p ∷ ps) = max (p .align) (mostAlign ps)
@@ -52,12 +52,12 @@ stateOf left = state (8 - left .integer) (8 - left .float)
 abbrev pub formatBytes : ℕ → ℕ
 formatBytes kind = getD (0 ∷ 4 ∷ 8 ∷ 10 ∷ 16 ∷ []) kind 0
 
--- slots go to the next registers of their bank, in order
+-- slots go to the next registers of their bank, in order. A float slot has size 0: one of another size would hold nothing
 unfoldable pub partsOf : ℕ → ℕ → List Slot → List Part
 partsOf n s [] = []
 partsOf n s (slot ∷ slots) =
     cond (isFloat (slot .kind))
-    (part (v s) (slot .offset) (formatBytes (slot .kind)) ∷ partsOf n (s + 1) slots)
+    (part (v s) (slot .offset) (cond (eqb (slot .size) 0) (formatBytes (slot .kind)) 0) ∷ partsOf n (s + 1) slots)
     (part (x n) (slot .offset) (slot .size) ∷ partsOf (n + 1) s slots)
 
 -- an address goes in the integer register that was given for it, and on the stack if none was
@@ -65,7 +65,8 @@ abbrev pub copyOf : Left → Left → Place
 copyOf before after =
     cond (ltb (after .integer) (before .integer)) (copy (x (8 - before .integer))) copyOnStack
 
--- the standard has no argument that is left out or that isn't looked into: these ways, and the integers-only mark, say nothing in its terms
+-- the standard leaves no aggregate out and passes none as a scalar: Ignore and Direct say nothing in its terms, nor does a call with the
+-- integers-only mark
 abbrev pub placeOf : Way → Left → List Slot → Left → Option Place
 placeOf Ignore before slots after = none
 placeOf Direct before slots after = none
