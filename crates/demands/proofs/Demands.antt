@@ -6,22 +6,34 @@
 -- `argumentWritten` and `dotsWritten` say: so what is said of these definitions here is said of the code. That no second answer meets those
 -- promises is in each crate's proofs/Unique.antt. Assumes nothing.
 use Prim.Native.Nat.{ℕ, _/_, _≤_, _<_}
-use mathlib.Core.Path.{_≡_, refl}
+use mathlib.Core.Path.{_≡_}
 use mathlib.Core.List.{List, [], map}
+use mathlib.Core.Option.Option.{some}
 use lib.ListN.{length, take}
+use Rattle.shape.specs.declared.Shape.{Shape}
 use Rattle.shape.specs.Numbers.{accepted}
 use Rattle.shape.specs.Words.{piecesOf}
-use Rattle.slots.specs.Words.{slotSize, written}
+use Rattle.slots.specs.declared.Slot.{Slot}
+use Rattle.slots.specs.Words.{slotSize}
 use Rattle.abis.specs.Abis.{described}
 use Rattle.classify.specs.declared.Arg.{Arg}
+use Rattle.classify.specs.declared.Arg.the-variants.{Aggregate}
 use Rattle.classify.specs.declared.Call.{Call}
-use Rattle.classify.specs.declared.Answer.{Answer}
-use Rattle.classify.specs.Pass.{wayOf, slotsOf}
+use Rattle.classify.specs.Pass.{slotsOf}
 use Rattle.classify.specs.Classify as rust
 use Rattle.classify.specs.Spending as rules
-use Rattle.classify.specs.Answers.{leftOf, callOf, refusalOf, freshAnswer, variadicAnswer, returnsAnswer, returnsWritten, argumentAnswer, argumentWritten, dotsAnswer, dotsWritten}
+use Rattle.classify.specs.Answers.{leftOf, refusalOf, variadicAnswer, returnsAnswer, returnsWritten, argumentAnswer, argumentWritten, dotsAnswer, dotsWritten}
 use Rattle.ledger.specs.Ledger.{Operation, history, Ledger}
 use Rattle.ledger.specs.Twelve.{twelve, answerTo, expected}
+use Rattle.psabi.specs.Domain as psabi
+use Rattle.psabi.specs.Psabi.{psabiArgument, psabiResult}
+use Rattle.psabi.specs.Reading.{freeAt, results}
+use Rattle.psabi.proofs.Answers as row-0
+use Rattle.psabi.proofs.Answers.{Says}
+use Rattle.aapcs64.specs.Domain as aapcs64
+use Rattle.aapcs64.specs.Aapcs64.{parameter, result}
+use Rattle.aapcs64.specs.Told.{mostNatural, stateOf, told, toldResult, composite}
+use Rattle.aapcs64.proofs.Answered as row-1
 use Rattle.ledger.proofs.Ledger.{ledger}
 use Rattle.ledger.proofs.Twelve as calls
 use Rattle.demands.specs.Refusals.{Refused}
@@ -69,6 +81,38 @@ pub dots-as-rust : (c : Call) (arg : Arg) (words out : List ℕ) → refusalOf c
     → AsRust c out (rust.variadicArgument (described (c .abi)) (leftOf c) arg (piecesOf words)) (rules.dotsChoice (described (c .abi)) (leftOf c) arg (piecesOf words))
     (dotsAnswer c arg words out) (dotsWritten c arg words out)
 dots-as-rust = answering.dots-as-rust
+
+-- description 0 equals the psABI on its domain: `Says` reads the answer and the buffer in the psABI's words, registers by name, and the call
+-- handed back as the registers that are free
+pub argument-is-psabi : (c : Call) (shape : Shape) (words out : List ℕ) → c .abi ≡ 0 → psabi.Domain shape (piecesOf words)
+    → argumentAnswer c (Aggregate shape) words out .outcome .refusal ≡ accepted
+    → Says (freeAt c) c (argumentAnswer c (Aggregate shape) words out) (argumentWritten c (Aggregate shape) words out)
+    (psabiArgument (freeAt c) (shape .size) (piecesOf words))
+argument-is-psabi c shape words out e d h = row-0.argument-says c shape words out e d h
+
+pub result-is-psabi : (c : Call) (shape : Shape) (words out : List ℕ) → c .abi ≡ 0 → psabi.Domain shape (piecesOf words)
+    → returnsAnswer c (Aggregate shape) words out .outcome .refusal ≡ accepted
+    → Says results c (returnsAnswer c (Aggregate shape) words out) (returnsWritten c (Aggregate shape) words out)
+    (psabiResult (freeAt c) (shape .size) (piecesOf words))
+result-is-psabi c shape words out e d h = row-0.result-says c shape words out e d h
+
+-- description 1 equals AAPCS64 on its domain, for every natural alignment that the shape's and its pieces' alignments allow: `told` reads the
+-- answer in the standard's words, x and v registers by number, and the counts left as NGRN and NSRN
+pub argument-is-aapcs64 : (c : Call) → c .abi ≡ 1 → (shape : Shape) (words out : List ℕ) → aapcs64.Domain shape (piecesOf words)
+    → (natural : ℕ) → natural ≤ mostNatural shape (piecesOf words) → argumentAnswer c (Aggregate shape) words out .outcome .refusal ≡ accepted
+    → row-1.Answers (argumentAnswer c (Aggregate shape) words out) out (argumentWritten c (Aggregate shape) words out)
+    (λ (slots : List Slot).
+    told (leftOf c) (argumentAnswer c (Aggregate shape) words out .outcome .way) slots (leftOf (argumentAnswer c (Aggregate shape) words out .next))
+    ≡ some (parameter (stateOf (leftOf c)) (composite natural shape (piecesOf words))))
+argument-is-aapcs64 c e shape words out d natural n h = row-1.argument-answered c e shape words out d natural n h
+
+pub result-is-aapcs64 : (c : Call) → c .abi ≡ 1 → (shape : Shape) (words out : List ℕ) → aapcs64.Domain shape (piecesOf words)
+    → (natural : ℕ) → natural ≤ mostNatural shape (piecesOf words) → returnsAnswer c (Aggregate shape) words out .outcome .refusal ≡ accepted
+    → row-1.Answers (returnsAnswer c (Aggregate shape) words out) out (returnsWritten c (Aggregate shape) words out)
+    (λ (slots : List Slot).
+    toldResult (described 1 .«return_pointer») (returnsAnswer c (Aggregate shape) words out .outcome .way) slots (leftOf (returnsAnswer c (Aggregate shape) words out .next))
+    ≡ some (result (stateOf (leftOf c)) (composite natural shape (piecesOf words))))
+result-is-aapcs64 c e shape words out d natural n h = row-1.returns-answered c e shape words out d natural n h
 
 -- ---- Demand 3: the ledger
 

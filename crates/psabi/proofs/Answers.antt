@@ -129,11 +129,10 @@ module _ (c : Call) (shape : Shape) (ws out : List ℕ) (e : c .abi ≡ 0) (d : 
   argument-says h =
       says (freeAt c) (argument (described (c .abi)) (leftOf c) (Aggregate shape) (piecesOf ws)) _ _ h
       (λ k.
-        rw (e, k .unmarked)
-        (
-          argument-is-psabi shape (piecesOf ws) d (c .integer) (c .float) (k .integer≤) (k .float≤),
-          argument-unmarked (c .integer) (c .float) shape (piecesOf ws) (above-0 d),
-        ))
+      rw (e, k .unmarked) (
+        argument-is-psabi shape (piecesOf ws) d (c .integer) (c .float) (k .integer≤) (k .float≤),
+        argument-unmarked (c .integer) (c .float) shape (piecesOf ws) (above-0 d),
+      ))
 
   pub result-says : returnsAnswer c (Aggregate shape) ws out .outcome .refusal ≡ 0
       → Says results c (returnsAnswer c (Aggregate shape) ws out) (returnsWritten c (Aggregate shape) ws out) (psabiResult (freeAt c) (shape .size) (piecesOf ws))
@@ -141,8 +140,7 @@ module _ (c : Call) (shape : Shape) (ws out : List ℕ) (e : c .abi ≡ 0) (d : 
   result-says h =
       says results (returns (described (c .abi)) (leftOf c) (Aggregate shape) (piecesOf ws)) _ _ h
       (λ k.
-        rw (e, k .unmarked)
-        (
-          result-is-psabi shape (piecesOf ws) d (c .integer) (c .float) (k .integer≤) (k .float≤),
-          result-unmarked (c .integer) (c .float) shape (piecesOf ws) (above-0 d),
-        ))
+      rw (e, k .unmarked) (
+        result-is-psabi shape (piecesOf ws) d (c .integer) (c .float) (k .integer≤) (k .float≤),
+        result-unmarked (c .integer) (c .float) shape (piecesOf ws) (above-0 d),
+      ))
