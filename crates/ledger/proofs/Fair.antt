@@ -1,7 +1,7 @@
 -- One operation on a call that passes its checks: in each bank what it passes over, is given and leaves adds up to what was left before, the call
 -- that it hands back passes the checks again, and a refused one does nothing. It holds because the Rust and the rules agree.
 use Prim.Native.Nat.{ℕ, zero, suc, _+_, _/_, _≤_, _<_}
-use mathlib.Core.Path.{_≡_, refl, sym, ap, subst, _∙_}
+use mathlib.Core.Path.{_≡_, refl, sym, subst}
 use mathlib.Core.List.{List}
 use mathlib.Core.Bool.{Bool, true, false, _&&_, _||_, not, cond}
 use native.Mathlib.Omega.{arith}
@@ -9,12 +9,10 @@ use borrow.Author.Tests.{leb-false, ltb-false, lt-leb, le-ltb}
 use lib.Dec.{T, leb, ltb}
 use lib.ListN.{length}
 use Rattle.shape.specs.Numbers.{accepted, no-room}
-use Rattle.shape.specs.Check.{refuse}
 use Rattle.shape.specs.Words.{piecesOf}
 use Rattle.shape.proofs.Accepted.{refuse-none}
 use Rattle.slots.specs.declared.Slot.{Slot}
 use Rattle.slots.specs.Words.{slotSize}
-use Rattle.describe.specs.declared.Variadic.{Variadic}
 use Rattle.describe.specs.declared.Variadic.the-variants.{UnnamedIntegers}
 use Rattle.abis.specs.Abis.{described}
 use Rattle.spend.specs.declared.Decision.{Decision}

@@ -8,16 +8,16 @@ use mathlib.Core.Option.Option.{some}
 use native.Mathlib.Omega.{arith}
 use borrow.Author.Tests.{ltb-true, ltb-false, lt-leb}
 use lib.Dec.{T, ltb}
-use lib.ListN.{length, take, getElem?}
+use lib.ListN.{take, getElem?}
 use Rattle.shape.specs.Numbers.{accepted}
 use Rattle.abis.specs.Abis.{described}
 use Rattle.classify.specs.declared.Call.{Call}
 use Rattle.classify.specs.declared.Answer.{Answer}
-use Rattle.classify.specs.Classify.{call, isIntegersOnly}
+use Rattle.classify.specs.Classify.{call}
 use Rattle.classify.specs.Answers.{descriptions, callOf, callRefusal, freshAnswer}
-use Rattle.ledger.specs.Ledger.{Operation, answerOf, answersFrom, freshCall, history, callAfter, isRefused, Bank, integers, floats, startOf, leftIn, passedOver, given, runsFrom, runAt, endOf, InRun, InPassedOver, InGiven, Holder, passed-over-by, given-to, left, holds, Has, Ledger}
-use Rattle.ledger.proofs.Fair.{Acceptable, accepted-call, call-accepted, Fair, fair}
-use Rattle.ledger.proofs.Registers.{AllFair, totals, abut, ends, last-ends, runFrom, passed-over-holds, given-holds, left-holds, HasFrom, holder-has}
+use Rattle.ledger.specs.Ledger.{Operation, answerOf, answersFrom, freshCall, history, callAfter, Bank, integers, floats, startOf, leftIn, runAt, InRun, InPassedOver, InGiven, Holder, passed-over-by, given-to, left, holds, Has, Ledger}
+use Rattle.ledger.proofs.Fair.{accepted-call, call-accepted, Fair, fair}
+use Rattle.ledger.proofs.Registers.{AllFair, totals, abut, ends, last-ends, run-counts, first-run, passed-over-holds, given-holds, left-holds, HasFrom, holder-has}
 
 -- ---- the fresh call
 
@@ -55,6 +55,19 @@ unfolding answersFrom
 prefix zero c ops = refl
 prefix (suc n) c [] = refl
 prefix (suc n) c (op ∷ ops) = ap (λ (past : List Answer). answerOf op c ∷ past) (prefix n (answerOf op c .next) ops)
+
+-- the call after fair answers passes the checks, on the same description
+last-accepted : (d : ℕ) (c : Call) (past : List Answer) → c .abi ≡ d → callRefusal c ≡ accepted → AllFair d c past
+    → (callAfter c past .abi ≡ d) × (callRefusal (callAfter c past) ≡ accepted)
+unfolding callAfter
+last-accepted d c [] e good f = (e, good)
+last-accepted d c (a ∷ past) e good f = last-accepted d (a .next) past (f .0 .same-row) (f .0 .acceptable) (f .1)
+
+fair-at : (d : ℕ) (c : Call) (past : List Answer) (k : ℕ) (a : Answer) → AllFair d c past → getElem? past k ≡ some a → Fair d (callAfter c (take k past)) a
+unfolding callAfter
+fair-at d c [] k a f e = absurd (let z : _≡_ {A = ℕ} 0 1 = cc in omega arith)
+fair-at d c (x ∷ past) zero a f e = let q : x ≡ a = cc in rw (← q) (f .0)
+fair-at d c (x ∷ past) (suc k) a f e = fair-at d (x .next) past k a (f .1) e
 
 -- ---- the ledger of fair answers
 
@@ -108,39 +121,12 @@ module _ (d : ℕ) (known : d < descriptions) (past : List Answer) (f : AllFair 
   unfolding isPassedOver
   apart b j k r i g = subst (λ (h : Holder). T (isPassedOver h)) (no-other b r (passed-over-by j) i ∙ sym (no-other b r (given-to k) g)) tt
 
-  last-good : (c : Call) (past′ : List Answer) → c .abi ≡ d → callRefusal c ≡ accepted → AllFair d c past′
-      → (callAfter c past′ .abi ≡ d) × (callRefusal (callAfter c past′) ≡ accepted)
-  unfolding callAfter
-  last-good c [] e good g = (e, good)
-  last-good c (a ∷ past′) e good g = last-good (a .next) past′ (g .0 .same-row) (g .0 .acceptable) (g .1)
-
-  fair-at : (c : Call) (past′ : List Answer) (k : ℕ) (a : Answer) → AllFair d c past′ → getElem? past′ k ≡ some a → Fair d (callAfter c (take k past′)) a
-  unfolding callAfter
-  fair-at c [] k a g e = absurd (let z : _≡_ {A = ℕ} 0 1 = cc in omega arith)
-  fair-at c (x ∷ past′) zero a g e = let q : x ≡ a = cc in rw (← q) (g .0)
-  fair-at c (x ∷ past′) (suc k) a g e = fair-at (x .next) past′ k a (g .1) e
-
-  run-counts : (b : Bank) (c : Call) (past′ : List Answer) (k : ℕ) (a : Answer) → getElem? past′ k ≡ some a
-      → (runFrom b d c past′ k .passes ≡ passedOver b a) × (runFrom b d c past′ k .gives ≡ given b a)
-  unfolding runsFrom
-  run-counts b c [] k a e = absurd (let z : _≡_ {A = ℕ} 0 1 = cc in omega arith)
-  run-counts b c (x ∷ past′) zero a e = let q : x ≡ a = cc in (rw q, rw q)
-  run-counts b c (x ∷ past′) (suc k) a e = run-counts b (x .next) past′ k a e
-
-  first-run : (b : Bank) (c : Call) (past′ : List Answer) → 0 < length past′ → runFrom b d c past′ 0 .first ≡ startOf b d - leftIn b c
-  unfolding runsFrom
-  first-run b c [] l = absurd (omega arith)
-  first-run b c (a ∷ past′) l = refl
-
-  last-acceptable : Acceptable (callAfter (freshCall d) past)
-  last-acceptable = accepted-call _ (last-good (freshCall d) past (fresh-row d known) (fresh-accepted d known) f .1)
-
   ledger-of-fair : Ledger d past
   ledger-of-fair =
-      let good = last-good (freshCall d) past (fresh-row d known) (fresh-accepted d known) f in
+      let last = last-accepted d (freshCall d) past (fresh-row d known) (fresh-accepted d known) f in
       record {
         adds-up = λ b. totals b d (freshCall d) past f ∙ fresh-left d known b;
-        begins-at-zero = λ b l. first-run b (freshCall d) past l ∙ sym (from-zero b);
+        begins-at-zero = λ b l. first-run b d (freshCall d) past l ∙ sym (from-zero b);
         begins-where-ended = λ b k l. abut b d (freshCall d) past k f (starts b) l;
         ends-within = λ b k. omega (arith, ends b d (freshCall d) past k f (starts b));
         left-from-end = λ b k l. last-ends b d (freshCall d) past k f (starts b) l;
@@ -151,13 +137,13 @@ module _ (d : ℕ) (known : d < descriptions) (past : List Answer) (f : AllFair 
         has-holder = λ b r l. has b r;
         has-no-other = λ b r l h m. no-other b r h m;
         refused-is-empty = λ k a e x b.
-            let n = run-counts b (freshCall d) past k a e in
-            let z = fair-at (freshCall d) past k a f e .refused-is-empty x b in
+            let n = run-counts b d (freshCall d) past k a e in
+            let z = fair-at d (freshCall d) past k a f e .refused-is-empty x b in
             (n .0 ∙ z .0, n .1 ∙ z .1);
-        refused-keeps-call = λ k a e x. fair-at (freshCall d) past k a f e .refused-keeps-call x;
-        acceptable = good .1;
+        refused-keeps-call = λ k a e x. fair-at d (freshCall d) past k a f e .refused-keeps-call x;
+        acceptable = last .1;
         never-above = λ b. omega (arith, totals b d (freshCall d) past f, fresh-left d known b);
-        marked-where-used = used _ _ (rw (good .0) at (last-acceptable .marked-where-used));
+        marked-where-used = used _ _ (rw (last .0) at (accepted-call _ (last .1) .marked-where-used));
       }
 
 -- ---- the theorem: after every prefix of every list of operations, on every description

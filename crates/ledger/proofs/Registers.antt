@@ -1,16 +1,17 @@
 -- The registers of one bank over a list of fair answers: the runs lie end to end from the first register that is free, and each register above
 -- has the holder that the counts say. By induction on the answers: what one operation leaves is where the next begins.
 use Prim.Native.Nat.{ℕ, zero, suc, _+_, _-_, _≤_, _<_}
-use mathlib.Core.Path.{_≡_, refl, sym, ap, subst, _∙_}
+use mathlib.Core.Path.{_≡_, refl, ap, _∙_}
 use mathlib.Core.List.{List, [], _∷_}
 use mathlib.Core.Bool.{Bool, true, false, cond}
+use mathlib.Core.Option.Option.{some}
 use native.Mathlib.Omega.{arith}
 use borrow.Author.Tests.{ltb-true, ltb-false, lt-ltb, le-ltb}
-use lib.Dec.{T, ltb}
-use lib.ListN.{length, getD}
+use lib.Dec.{ltb}
+use lib.ListN.{length, getD, getElem?}
 use Rattle.classify.specs.declared.Call.{Call}
 use Rattle.classify.specs.declared.Answer.{Answer}
-use Rattle.ledger.specs.Ledger.{callAfter, Bank, startOf, leftIn, passedOver, given, total, Run, endOf, runOf, runsFrom, noRun, InRun, InPassedOver, InGiven, Holder, passed-over-by, given-to, left, holderFrom}
+use Rattle.ledger.specs.Ledger.{callAfter, Bank, startOf, leftIn, passedOver, given, total, Run, endOf, runsFrom, noRun, InRun, InPassedOver, InGiven, Holder, passed-over-by, given-to, left, nextAfter, holderFrom}
 use Rattle.ledger.proofs.Fair.{Fair}
 
 -- each answer is fair on the call that the one before handed back
@@ -33,6 +34,18 @@ module _ (b : Bank) (d : ℕ) where
   totals c (a ∷ past) f = omega (arith, f .0 .adds-up b, totals (a .next) past (f .1))
 
   -- ---- the runs
+
+  pub run-counts : (c : Call) (past : List Answer) (k : ℕ) (a : Answer) → getElem? past k ≡ some a
+      → (runFrom c past k .passes ≡ passedOver b a) × (runFrom c past k .gives ≡ given b a)
+  unfolding runsFrom
+  run-counts c [] k a e = absurd (let z : _≡_ {A = ℕ} 0 1 = cc in omega arith)
+  run-counts c (x ∷ past) zero a e = let q : x ≡ a = cc in (rw q, rw q)
+  run-counts c (x ∷ past) (suc k) a e = run-counts (x .next) past k a e
+
+  pub first-run : (c : Call) (past : List Answer) → 0 < length past → runFrom c past 0 .first ≡ free c
+  unfolding runsFrom
+  first-run c [] l = absurd (omega arith)
+  first-run c (a ∷ past) l = refl
 
   pub abut : (c : Call) (past : List Answer) (k : ℕ) → AllFair d c past → leftIn b c ≤ startOf b d → suc k < length past
       → runFrom c past (suc k) .first ≡ endOf (runFrom c past k)
@@ -69,7 +82,7 @@ module _ (b : Bank) (d : ℕ) where
   -- ---- the holders
 
   module _ (k next : ℕ) (a : Answer) (past : List Answer) (r : ℕ) where
-    beyond : next + passedOver b a + given b a ≤ r → holderFrom b k next (a ∷ past) r ≡ holderFrom b (suc k) (next + passedOver b a + given b a) past r
+    beyond : next + passedOver b a + given b a ≤ r → holderFrom b k next (a ∷ past) r ≡ holderFrom b (suc k) (nextAfter b next a) past r
     unfolding holderFrom
     beyond h = rw (le-ltb r (next + passedOver b a) (omega arith), le-ltb r (next + passedOver b a + given b a) h)
 
@@ -129,7 +142,7 @@ module _ (b : Bank) (d : ℕ) where
       (λ n. one-earlier c a past k r rest (holder-has (a .next) past (suc k) _ r (f .1) (omega arith) (omega arith) n))
     where
       rest : Holder
-      rest = holderFrom b (suc k) (next + passedOver b a + given b a) past r
+      rest = holderFrom b (suc k) (nextAfter b next a) past r
 
       go : (x y : Bool) → ltb r (next + passedOver b a) ≡ x → ltb r (next + passedOver b a + given b a) ≡ y
           → (next + passedOver b a + given b a ≤ r → HasFrom c (a ∷ past) k r rest)

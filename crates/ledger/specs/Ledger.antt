@@ -1,9 +1,9 @@
 -- The ledger of a call's registers (REFERENCE 10): every register of a bank is passed over by one operation, given to one, or left. What is
 -- passed over and given is by the spending rules, and what is left is as the Rust counts it: the ledger is where the two meet.
-use Prim.Native.Nat.{ℕ, zero, suc, _+_, _-_, _≤_, _<_}
+use Prim.Native.Nat.{ℕ, suc, _+_, _-_, _≤_, _<_}
 use mathlib.Core.Path.{_≡_}
 use mathlib.Core.List.{List, [], _∷_}
-use mathlib.Core.Bool.{Bool, true, false, cond}
+use mathlib.Core.Bool.{Bool, true, cond}
 use mathlib.Core.Option.Option.{some}
 use lib.Dec.{ltb}
 use lib.ListN.{length, take, getD, getElem?}
@@ -123,13 +123,16 @@ pub data Holder : Type 0 where
   given-to : ℕ → Holder
   left : Holder
 
+-- where the operation after one begins
+abbrev pub nextAfter : Bank → ℕ → Answer → ℕ
+nextAfter b next a = next + passedOver b a + given b a
+
 -- by the operations' counts alone, from operation k on, whose run begins at the register `next`
 unfoldable pub holderFrom : Bank → ℕ → ℕ → List Answer → ℕ → Holder
 holderFrom b k next [] r = left
 holderFrom b k next (a ∷ past) r =
     cond (ltb r (next + passedOver b a)) (passed-over-by k)
-    (cond (ltb r (next + passedOver b a + given b a)) (given-to k)
-    (holderFrom b (suc k) (next + passedOver b a + given b a) past r))
+    (cond (ltb r (next + passedOver b a + given b a)) (given-to k) (holderFrom b (suc k) (nextAfter b next a) past r))
 
 abbrev pub holds : List Answer → Bank → ℕ → Holder
 holds past b r = holderFrom b 0 0 past r

@@ -2,7 +2,7 @@
 -- A call that names several cases has an entry for each.
 use Prim.Native.Nat.{ℕ, _-_}
 use mathlib.Core.List.{List, [], _∷_, _++_}
-use mathlib.Core.Bool.{Bool, false}
+use mathlib.Core.Bool.{false}
 use mathlib.Core.Option.{Option}
 use mathlib.Core.Option.Option.{none, some}
 use lib.ListN.{length, replicate}
@@ -19,7 +19,7 @@ use Rattle.classify.specs.declared.Call.{Call}
 use Rattle.classify.specs.declared.Answer.{Answer}
 use Rattle.classify.specs.Classify.{leaves}
 use Rattle.classify.specs.Answers.{callOf, answered, returnsWritten, argumentWritten, dotsWritten}
-use Rattle.ledger.specs.Ledger.{Operation, mark, return, argument, after-dots, answerOf, Bank, integers, floats, startOf}
+use Rattle.ledger.specs.Ledger.{Operation, mark, return, argument, after-dots, answerOf, integers, floats, startOf}
 
 -- ---- what is asked
 
