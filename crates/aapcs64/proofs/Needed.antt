@@ -11,7 +11,7 @@ use lib.Dec.{leb, ltb, eqb}
 use borrow.Author.Tests.{ltb-true, leb-true, eqb-true, eqb-false}
 use Rattle.shape.specs.declared.Piece.{Piece}
 use Rattle.shape.specs.declared.Shape.{Shape}
-use Rattle.shape.specs.Numbers.{integer, single, x87-extended}
+use Rattle.shape.specs.Numbers.{integer, single, x87-extended, quad}
 use Rattle.shape.specs.Words.{piece}
 use Rattle.slots.specs.Words.{integerSlot, floatSlot}
 use Rattle.slots.specs.Search.{floatsIn}
@@ -108,7 +108,7 @@ breaks {k = k} {row = row} {standard = standard} d e =
 
 -- size 0: the description leaves it out. The standard leaves nothing out: it goes in no register
 abbrev pub empty : Case
-empty = on (shaped 0 1) ([]) 1 8 8
+empty = on (shaped 0 1) [] 1 8 8
 
 -- the shape's alignment: a composite whose member is a composite of two 8-byte integers, aligned to 16, starts at an even register
 abbrev pub even : Case
@@ -126,7 +126,7 @@ aligned-to-1 = on (shaped 8 4) (piece single 4 4 0 ∷ piece single 4 1 4 ∷ []
 abbrev pub short-single : Case
 short-single = on (shaped 1 1) (piece single 1 1 0 ∷ []) 1 8 8
 
--- other formats: the standard has no x87 type, so this is no HFA. (A Quad of 16 bytes aligned to 8 would be one on both sides)
+-- other formats: the standard has no x87 type, so this is no HFA
 abbrev pub x87 : Case
 x87 = on (shaped 16 8) (piece x87-extended 16 8 0 ∷ []) 8 8 8
 
@@ -162,7 +162,7 @@ needed =
       no-overlap = record { only = refl; allowed = refl; row-is = refl; standard-is = refl; differ = refl };
     }
 
--- ---- the three clauses that aren't needed: a case that each alone leaves out, on which the answers are the same
+-- ---- the three clauses that aren't needed, and the one part of another: a case that each alone leaves out, on which the answers are the same
 
 pub record Alike (clause : ℕ) (k : Case) (row : Passed) (standard : Passing) : Type 0 where
   pub only : allBut clause (tests (k .shape) (k .pieces)) ≡ true
@@ -183,10 +183,15 @@ hole = on (shaped 12 4) (piece single 4 4 0 ∷ piece single 4 4 8 ∷ []) 4 8 8
 abbrev pub behind : Case
 behind = on (shaped 8 8) (piece single 4 4 0 ∷ []) 4 8 8
 
+-- floats but Single and Double: a Quad that isn't aligned to 16 is an HFA of one member on both sides
+abbrev pub quads : Case
+quads = on (shaped 16 8) (piece quad 16 8 0 ∷ []) 8 8 8
+
 pub record Unneeded : Type 0 where
   pub sizes : Alike 4 no-bytes (passed (pieces (integerSlot 0 4 ∷ [])) (leaves 7 8 false)) (passing (registers (part (x 0) 0 4 ∷ [])) (state 1 0))
   pub no-holes : Alike 7 hole (passed (pieces (integerSlot 0 8 ∷ integerSlot 8 4 ∷ [])) (leaves 6 8 false)) (passing (registers (part (x 0) 0 8 ∷ part (x 1) 8 4 ∷ [])) (state 2 0))
   pub ends : Alike 8 behind (passed (pieces (integerSlot 0 8 ∷ [])) (leaves 7 8 false)) (passing (registers (part (x 0) 0 8 ∷ [])) (state 1 0))
+  pub format : Alike 3 quads (passed (pieces (floatSlot quad 0 ∷ [])) (leaves 8 7 false)) (passing (registers (part (v 0) 0 16 ∷ [])) (state 0 1))
 
 pub unneeded : Unneeded
 unfolding every any inOrder apart furthest below mostAlign argument described descriptions apply matches foundIf travel inRegisters shortOf homogeneous isHomogeneous allSame floatsAt cut upTo floatsIn parameter stageC isHfa isHfaOf allOf count addressable insert memberParts wordParts told partsOf
@@ -195,4 +200,5 @@ unneeded =
       sizes = record { only = refl; allowed = refl; row-is = refl; standard-is = refl; same = refl };
       no-holes = record { only = refl; allowed = refl; row-is = refl; standard-is = refl; same = refl };
       ends = record { only = refl; allowed = refl; row-is = refl; standard-is = refl; same = refl };
+      format = record { only = refl; allowed = refl; row-is = refl; standard-is = refl; same = refl };
     }
