@@ -6,3 +6,4 @@ pub mod Answered
 pub mod Case
 pub mod Needed
 pub mod Examples
+pub mod Back

@@ -1,0 +1,102 @@
+-- What an answer says in the standard's terms is all that it says: the way, the slots and what is left are read back from it. Assumes nothing.
+use Prim.Native.Nat.{ℕ, _+_, _-_, _≤_}
+use mathlib.Core.Path.{_≡_, refl}
+use mathlib.Core.List.{List, [], _∷_, map}
+use mathlib.Core.Bool.{Bool, true, false, cond}
+use mathlib.Core.Option.Option.{some}
+use native.Mathlib.Omega.{arith}
+use lib.Dec.{eqb, ltb}
+use Rattle.slots.specs.declared.Slot.{Slot}
+use Rattle.slots.specs.Words.{slot, integerSlot, floatSlot}
+use Rattle.spend.specs.declared.Left.{Left}
+use Rattle.classify.specs.Pass.{Pass, ignore, direct, pieces, reference, memory, slotsOf}
+use Rattle.classify.specs.Classify.{Passed, passed, leaves}
+use Rattle.aapcs64.specs.Aapcs64.{Register, v, x, Part, Place, registers, stack, copy, copyOnStack, State, Passing, passing}
+use Rattle.aapcs64.specs.Told.{stateOf, partsOf, copyOf, told, toldPassed}
+
+-- ---- reading back
+
+abbrev pub formatOf : ℕ → ℕ
+formatOf bytes = cond (eqb bytes 4) 1 (cond (eqb bytes 8) 2 (cond (eqb bytes 10) 3 4))
+
+abbrev pub slotIn : Register → ℕ → ℕ → Slot
+slotIn (v n) offset bytes = floatSlot (formatOf bytes) offset
+slotIn (x n) offset bytes = integerSlot offset bytes
+
+abbrev pub slotFor : Part → Slot
+slotFor p = slotIn (p .register) (p .offset) (p .bytes)
+
+abbrev pub passFor : Place → Pass
+passFor (registers parts) = pieces (map slotFor parts)
+passFor stack = memory
+passFor (copy r) = reference
+passFor copyOnStack = reference
+
+abbrev pub leftFor : State → Left
+leftFor s = leaves (8 - s .NGRN) (8 - s .NSRN) false
+
+abbrev pub passedFor : Passing → Passed
+passedFor p = passed (passFor (p .place)) (leftFor (p .next))
+
+-- ---- slots
+
+-- an integer of any size, or a float in one of the four formats, whose size is 0
+pub data Kept : ℕ → ℕ → Type 0 where
+  integers : {n : ℕ} → Kept 0 n
+  singles : Kept 1 0
+  doubles : Kept 2 0
+  x87s : Kept 3 0
+  quads : Kept 4 0
+
+pub data AllKept : List Slot → Type 0 where
+  end : AllKept []
+  then : {k o n : ℕ} {ss : List Slot} → Kept k n → AllKept ss → AllKept (slot k o n ∷ ss)
+
+slot-back : (k o n : ℕ) (ss : List Slot) → Kept k n → ((N S : ℕ) → map slotFor (partsOf N S ss) ≡ ss) → (N S : ℕ)
+    → map slotFor (partsOf N S (slot k o n ∷ ss)) ≡ slot k o n ∷ ss
+unfolding partsOf
+slot-back k o n ss integers back N S = rw (back (N + 1) S)
+slot-back k o n ss singles back N S = rw (back N (S + 1))
+slot-back k o n ss doubles back N S = rw (back N (S + 1))
+slot-back k o n ss x87s back N S = rw (back N (S + 1))
+slot-back k o n ss quads back N S = rw (back N (S + 1))
+
+parts-back : {ss : List Slot} → AllKept ss → (N S : ℕ) → map slotFor (partsOf N S ss) ≡ ss
+unfolding partsOf
+parts-back end N S = refl
+parts-back (then {k} {o} {n} {ss} h rest) N S = slot-back k o n ss h (λ n s. parts-back rest n s) N S
+
+-- ---- answers
+
+left-back : (i f : ℕ) → i ≤ 8 → f ≤ 8 → leftFor (stateOf (leaves i f false)) ≡ leaves i f false
+left-back i f hi hf =
+    let a : 8 - (8 - i) ≡ i = omega arith in
+    let b : 8 - (8 - f) ≡ f = omega arith in
+    rw (a, b)
+
+module _ (before : Left) (i f : ℕ) (hi : i ≤ 8) (hf : f ≤ 8) (q : Passing) where
+  back : (pass : Pass) (marked : Bool) → AllKept (slotsOf pass) → toldPassed before (passed pass (leaves i f marked)) ≡ some q
+      → passedFor q ≡ passed pass (leaves i f marked)
+  unfolding told
+  back ignore marked h e = absurd (let z : _≡_ {A = ℕ} 0 1 = cc in omega arith)
+  back direct marked h e = absurd (let z : _≡_ {A = ℕ} 0 1 = cc in omega arith)
+  back (pieces ss) true h e = absurd (let z : _≡_ {A = ℕ} 0 1 = cc in omega arith)
+  back reference true h e = absurd (let z : _≡_ {A = ℕ} 0 1 = cc in omega arith)
+  back memory true h e = absurd (let z : _≡_ {A = ℕ} 0 1 = cc in omega arith)
+  back (pieces ss) false h e =
+      let z : q ≡ passing (registers (partsOf (8 - before .integer) (8 - before .float) ss)) (stateOf (leaves i f false)) = cc in
+      rw (z, parts-back h (8 - before .integer) (8 - before .float), left-back i f hi hf)
+  back reference false h e =
+      let z : q ≡ passing (copyOf before (leaves i f false)) (stateOf (leaves i f false)) = cc in
+      rw (z, left-back i f hi hf) (go (ltb i (before .integer)))
+    where
+      go : (b : Bool) → passed (passFor (cond b (copy (x (8 - before .integer))) copyOnStack)) (leaves i f false) ≡ passed reference (leaves i f false)
+      go true = refl
+      go false = refl
+  back memory false h e =
+      let z : q ≡ passing stack (stateOf (leaves i f false)) = cc in
+      rw (z, left-back i f hi hf)
+
+pub told-back : (before : Left) (p : Passed) → AllKept (slotsOf (p .pass)) → p .left .integer ≤ 8 → p .left .float ≤ 8 → (q : Passing)
+    → toldPassed before p ≡ some q → passedFor q ≡ p
+told-back before p h hi hf q e = back before (p .left .integer) (p .left .float) hi hf q (p .pass) (p .left .«integers_only») h e
