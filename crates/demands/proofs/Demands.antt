@@ -19,11 +19,13 @@ use Rattle.abis.specs.Abis.{described}
 use Rattle.classify.specs.declared.Arg.{Arg}
 use Rattle.classify.specs.declared.Arg.the-variants.{Aggregate}
 use Rattle.classify.specs.declared.Call.{Call}
+use Rattle.classify.specs.declared.Answer.{Answer}
 use Rattle.classify.specs.Pass.{slotsOf}
 use Rattle.classify.specs.Classify as rust
 use Rattle.classify.specs.Spending as rules
 use Rattle.classify.specs.Answers.{leftOf, refusalOf, variadicAnswer, returnsAnswer, returnsWritten, argumentAnswer, argumentWritten, dotsAnswer, dotsWritten}
 use Rattle.ledger.specs.Ledger.{Operation, history, Ledger}
+use Rattle.ledger.specs.Performed.{Started, AllPerformed}
 use Rattle.ledger.specs.Twelve.{twelve, answerTo, expected}
 use Rattle.psabi.specs.Domain as psabi
 use Rattle.psabi.specs.Psabi.{psabiArgument, psabiResult}
@@ -35,6 +37,7 @@ use Rattle.aapcs64.specs.Aapcs64.{parameter, result}
 use Rattle.aapcs64.specs.Told.{mostNatural, stateOf, told, toldResult, composite}
 use Rattle.aapcs64.proofs.Answered as row-1
 use Rattle.ledger.proofs.Ledger.{ledger}
+use Rattle.ledger.proofs.Performed.{ledger-performed}
 use Rattle.ledger.proofs.Twelve as calls
 use Rattle.demands.specs.Refusals.{Refused}
 use Rattle.demands.specs.Rust.{AsRust}
@@ -120,6 +123,12 @@ result-is-aapcs64 c e shape words out d natural n h = row-1.returns-answered c e
 -- REFERENCE 10
 pub every-register-once : (d : ℕ) → d < 30 → (ops : List Operation) (n : ℕ) → Ledger d (take n (history d ops))
 every-register-once = ledger
+
+-- the same of the methods themselves: `Started` and `AllPerformed` say that the answers meet the contracts of `fresh` and of each operation's
+-- method, as the checker reads them
+pub every-register-once-performed : (d : ℕ) → d < 30 → (first : Answer) → Started d first → (ops : List Operation) (past : List Answer)
+    → AllPerformed (first .next) ops past → (n : ℕ) → Ledger d (take n past)
+every-register-once-performed = ledger-performed
 
 -- ---- The table of twelve calls
 
