@@ -117,6 +117,9 @@ pub result-is-aapcs64 : (c : Call) → c .abi ≡ 1 → (shape : Shape) (words o
     ≡ some (result (stateOf (leftOf c)) (composite natural shape (piecesOf words))))
 result-is-aapcs64 c e shape words out d natural n h = row-1.returns-answered c e shape words out d natural n h
 
+-- Methods.antt beside this file says these four of the methods themselves: `argument-method-is-psabi`, `result-method-is-psabi`,
+-- `argument-method-is-aapcs64`, `result-method-is-aapcs64`
+
 -- ---- Demand 3: the ledger
 
 -- any description, any operations in any order, refused ones among them, after any number of them: `Ledger` has one clause for each sentence of

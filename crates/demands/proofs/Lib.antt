@@ -1,3 +1,4 @@
 pub mod Demands
+pub mod Methods
 mod Refusing
 mod Answering
