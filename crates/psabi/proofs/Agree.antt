@@ -1,8 +1,8 @@
 -- The class of each eightbyte that no X87 piece lies in: what the pieces leave there, one after the other, is the psABI's class, since the two
 -- merges differ only where an X87 class meets another. Assumes nothing.
-use Prim.Native.Nat.{ℕ, zero, suc, _+_, _*_, _/_, _%_, _≤_, _<_}
+use Prim.Native.Nat.{ℕ, zero, suc, _+_, _*_, _%_, _≤_, _<_}
 use mathlib.Core.Path.{_≡_, refl, sym, ap, subst, _∙_}
-use mathlib.Core.Bool.{Bool, true, false, cond, not, _&&_, _||_, true≢false}
+use mathlib.Core.Bool.{Bool, true, false, cond, _&&_, true≢false}
 use mathlib.Core.List.{List, [], _∷_, map}
 use native.Mathlib.Omega.{arith}
 use native.Mathlib.Decide.{decLe}
@@ -14,7 +14,7 @@ use Rattle.shape.specs.declared.Piece.{Piece}
 use Rattle.find.proofs.Each.{and-true}
 use Rattle.eightbytes.specs.Class as ours
 use Rattle.eightbytes.specs.Class.{None}
-use Rattle.eightbytes.specs.Eightbytes.{firstOf, lastOf, kindClass, later, mark}
+use Rattle.eightbytes.specs.Eightbytes.{firstOf, kindClass, later, mark}
 use Rattle.eightbytes.proofs.Marks.{mark-length}
 use Rattle.eightbytes.proofs.At.{mark-below, mark-past, mark-first, mark-later, markAll}
 use Rattle.psabi.specs.Psabi.{Class, INTEGER, SSE, SSEUP, X87, X87UP, COMPLEX-X87, NO-CLASS, MEMORY, lowOf, highOf, merge, liesIn, fieldClass, mergedIn, classesFrom}

@@ -1,17 +1,15 @@
 -- The operations themselves: an accepted argument or return on description 0 whose shape is of the domain hands back the psABI's answer, read off
 -- its way, its next call and the words of the buffer. The words give back the slots, and an accepted call keeps within its banks. Assumes nothing.
-use Prim.Native.Nat.{ℕ, zero, suc, _+_, _-_, _*_, _/_, _≤_, _<_}
-use mathlib.Core.Path.{_≡_, refl, sym, ap, ap₂, subst, _∙_}
-use mathlib.Core.Bool.{Bool, true, false, cond, not, _&&_, _||_}
+use Prim.Native.Nat.{ℕ, zero, suc, _*_, _/_, _≤_}
+use mathlib.Core.Path.{_≡_, refl, ap, subst, _∙_}
+use mathlib.Core.Bool.{Bool, true, false, cond, _&&_, _||_}
 use mathlib.Core.List.{List, [], _∷_, _++_}
-use mathlib.Core.Option.{Option}
-use mathlib.Core.Option.Option.{none, some}
+use mathlib.Core.Option.Option.{some}
 use native.Mathlib.Omega.{arith}
 use borrow.Author.Tests.{ltb-false}
 use lib.Dec.{ltb, leb}
 use lib.Seq.{take-append-seam}
-use lib.ListN.{length, take, drop}
-use Rattle.shape.specs.declared.Piece.{Piece}
+use lib.ListN.{length, take}
 use Rattle.shape.specs.declared.Shape.{Shape}
 use Rattle.shape.specs.Numbers.{no-room}
 use Rattle.shape.specs.Words.{piecesOf}
@@ -20,20 +18,19 @@ use Rattle.slots.specs.declared.Slot.{Slot}
 use Rattle.slots.specs.Words.{slotSize, wordsOf, written}
 use Rattle.slots.proofs.Words.{put-fits, length-words}
 use Rattle.abis.specs.Abis.{described, descriptions}
-use Rattle.spend.specs.declared.Left.{Left}
 use Rattle.spend.specs.declared.Spent.{Spent}
 use Rattle.classify.specs.declared.Arg.{Arg}
 use Rattle.classify.specs.declared.Arg.the-variants.{Aggregate}
 use Rattle.classify.specs.declared.Call.{Call}
 use Rattle.classify.specs.declared.Answer.{Answer}
 use Rattle.classify.specs.Pass.{Pass, ignore, direct, pieces, reference, memory, wayOf, slotsOf}
-use Rattle.classify.specs.Classify.{Passed, leaves, argument, returns}
+use Rattle.classify.specs.Classify.{Passed, argument, returns}
 use Rattle.classify.specs.Answers.{leftOf, callOf, isBadCall, callRefusal, refusalOf, answered, refused, orAnswer, inRoom, answerTo, writtenTo, argumentAnswer, argumentWritten, returnsAnswer, returnsWritten}
 use Rattle.psabi.specs.Psabi.{Free, Travels, psabiArgument, psabiResult}
 use Rattle.psabi.specs.Domain.{Domain}
 use Rattle.psabi.specs.Reading.{standing, results, slotsRead, passFrom, freeAt, readPass, readIn, readAnswer}
 use Rattle.psabi.proofs.Clauses.{or-left, or-right, above-0}
-use Rattle.psabi.proofs.RowZero.{argument-is-psabi, result-is-psabi, argument-unmarked, result-unmarked}
+use Rattle.psabi.proofs.RowZero.{argument-is-psabi, result-is-psabi, argument-stays, result-stays}
 
 -- ---- slots, read back from the words
 
@@ -131,7 +128,7 @@ module _ (c : Call) (shape : Shape) (ws out : List ℕ) (e : c .abi ≡ 0) (d : 
       (λ k.
       rw (e, k .unmarked) (
         argument-is-psabi shape (piecesOf ws) d (c .integer) (c .float) (k .integer≤) (k .float≤),
-        argument-unmarked (c .integer) (c .float) shape (piecesOf ws) (above-0 d),
+        argument-stays (c .integer) (c .float) shape (piecesOf ws) (above-0 d) .unmarked,
       ))
 
   pub result-says : returnsAnswer c (Aggregate shape) ws out .outcome .refusal ≡ 0
@@ -142,5 +139,5 @@ module _ (c : Call) (shape : Shape) (ws out : List ℕ) (e : c .abi ≡ 0) (d : 
       (λ k.
       rw (e, k .unmarked) (
         result-is-psabi shape (piecesOf ws) d (c .integer) (c .float) (k .integer≤) (k .float≤),
-        result-unmarked (c .integer) (c .float) shape (piecesOf ws) (above-0 d),
+        result-stays (c .integer) (c .float) shape (piecesOf ws) (above-0 d) .unmarked,
       ))

@@ -6,4 +6,5 @@ pub mod Sides
 pub mod Ways
 pub mod RowZero
 pub mod Answers
+pub mod Calls
 pub mod Needed

@@ -1,21 +1,20 @@
 -- Row 0 is the psABI: on the shapes of the domain, with any counts left, what the classifier's definitions answer for an aggregate on description 0
 -- is what section 3.2.3 says. Both walk at most two eightbytes, or end in memory. Assumes nothing.
-use Prim.Native.Nat.{ℕ, zero, suc, _+_, _-_, _*_, _/_, _≤_, _<_}
-use mathlib.Core.Path.{_≡_, refl, sym, ap, ap₂, subst, subst₂, _∙_}
-use mathlib.Core.Bool.{Bool, true, false, cond, not, _&&_, _||_}
+use Prim.Native.Nat.{ℕ, _-_, _≤_, _<_}
+use mathlib.Core.Path.{_≡_, refl, sym, ap, subst, _∙_}
+use mathlib.Core.Bool.{Bool, true, false, cond, not, _&&_}
 use mathlib.Core.List.{List, [], _∷_, map}
 use mathlib.Core.Option.{Option}
 use mathlib.Core.Option.Option.{none, some}
 use native.Mathlib.Omega.{arith}
 use native.Mathlib.Decide.{decLe}
 use borrow.Author.Tests.{ne-eqb, lt-ltb, le-ltb}
-use lib.Dec.{eqb, leb, ltb}
-use lib.ListN.{length, getD, replicate, length-replicate}
+use lib.Dec.{leb}
+use lib.ListN.{length, replicate, length-replicate}
 use Rattle.shape.specs.declared.Piece.{Piece}
 use Rattle.shape.specs.declared.Shape.{Shape}
 use Rattle.shape.specs.Words.{piece}
 use Rattle.shape.specs.Questions.{allOf, isAllOf}
-use Rattle.slots.specs.declared.Slot.{Slot}
 use Rattle.slots.specs.Search.{Search, found, nothing, floatsIn}
 use Rattle.find.specs.Find.{foundIf, floatsAt, x87Stack}
 use Rattle.eightbytes.specs.Class as ours
@@ -27,6 +26,7 @@ use Rattle.describe.specs.declared.Travel.the-variants.{AsFound}
 use Rattle.describe.specs.declared.Short.the-variants.{Memory}
 use Rattle.describe.specs.Description.{rule, ruleShort}
 use Rattle.abis.specs.Abis.{described, descriptions}
+use Rattle.spend.specs.declared.Left.{Left}
 use Rattle.classify.specs.declared.Arg.the-variants.{Aggregate}
 use Rattle.classify.specs.Pass.{matches, pieces, reference, memory}
 use Rattle.classify.specs.Classify.{Passed, leaves, passed, shortOf, inRegisters, travel, lessBoth, orElse, tried, apply, argument, returns}
@@ -36,7 +36,7 @@ use Rattle.psabi.specs.Domain.{any, isX87Piece, Domain}
 use Rattle.psabi.specs.Reading.{standing, placesOf, readArgument, readResult}
 use Rattle.psabi.proofs.Clauses.{Regular, Each, above-0, regular, touched}
 use Rattle.psabi.proofs.Agree.{rep, Ready, Plain, plain-at, classes-agree}
-use Rattle.psabi.proofs.Lone.{Lone, Kinds, x87-value, no-x87, kinds, no-stack}
+use Rattle.psabi.proofs.Lone.{Kinds, x87-value, no-x87, kinds, no-stack}
 use Rattle.psabi.proofs.Sides.{all-fit, ready, unaligned, small, large, has-class}
 use Rattle.psabi.proofs.Ways.{spend, give, in-memory, argument-one, argument-two, result-one, result-two}
 
@@ -191,36 +191,40 @@ module _ (shape : Shape) (ps : List Piece) (d : Domain shape ps) (i f : ℕ) (hi
           (λ c. result-one i f (shape .size) hi hf) (λ c e. result-two i f (shape .size) hi hf) x
       go (x87-value l) = rw (l .only) (x87-result i f shape (l .whole))
 
--- ---- the integers-only mark stays away
+-- ---- what is left afterwards: no more than before, and no mark
+
+pub record Stays (i f : ℕ) (left : Left) : Type 0 where
+  pub integer≤ : left .integer ≤ i
+  pub float≤ : left .float ≤ f
+  pub unmarked : left .«integers_only» ≡ false
 
 module _ (i f : ℕ) (shape : Shape) (ps : List Piece) (h : 0 < shape .size) where
-  pub argument-unmarked : argument (described 0) (leaves i f false) (Aggregate shape) ps .left .«integers_only» ≡ false
+  pub argument-stays : Stays i f (argument (described 0) (leaves i f false) (Aggregate shape) ps .left)
   unfolding spend
-  argument-unmarked = rw (argument-walk i f shape ps h) (go (eightbytes 16 shape ps))
+  argument-stays = rw (argument-walk i f shape ps h) (go (eightbytes 16 shape ps))
     where
-      by-cost : (b : Bool) (p q : Passed) → p .left .«integers_only» ≡ false → q .left .«integers_only» ≡ false → cond b p q .left .«integers_only» ≡ false
+      by-cost : (b : Bool) (p q : Passed) → Stays i f (p .left) → Stays i f (q .left) → Stays i f (cond b p q .left)
       by-cost true p q x y = x
       by-cost false p q x y = y
 
-      go : (s : Search) → spend i f s .left .«integers_only» ≡ false
-      go nothing = refl
+      go : (s : Search) → Stays i f (spend i f s .left)
+      go nothing = record { integer≤ = omega arith; float≤ = omega arith; unmarked = refl }
       go (found ss) =
           by-cost (leb (length ss - floatsIn ss) i && leb (floatsIn ss) f)
           (passed (pieces ss) (leaves (i - (length ss - floatsIn ss)) (f - floatsIn ss) false))
           (passed memory (leaves i f false))
-          refl
-          refl
+          (record { integer≤ = omega arith; float≤ = omega arith; unmarked = refl })
+          (record { integer≤ = omega arith; float≤ = omega arith; unmarked = refl })
 
-  pub result-unmarked : returns (described 0) (leaves i f false) (Aggregate shape) ps .left .«integers_only» ≡ false
+  pub result-stays : Stays i f (returns (described 0) (leaves i f false) (Aggregate shape) ps .left)
   unfolding returns apply matches described descriptions foundIf travel inRegisters
-  result-unmarked = rw (ne-eqb (shape .size) 0 (omega arith)) (go (x87Stack shape ps) (eightbytes 16 shape ps))
+  result-stays = rw (ne-eqb (shape .size) 0 (omega arith)) (go (x87Stack shape ps) (eightbytes 16 shape ps))
     where
       go : (s t : Search)
-          → tried s (described 0) (leaves i f false) (rule X87Stack AsFound) shape true
+          → Stays i f
+          (tried s (described 0) (leaves i f false) (rule X87Stack AsFound) shape true
           (tried t (described 0) (leaves i f false) (rule (Eightbytes 16) AsFound) shape true (passed reference (leaves (i - 1) f false)))
-          .left
-          .«integers_only»
-          ≡ false
-      go (found ss) t = refl
-      go nothing (found ss) = refl
-      go nothing nothing = refl
+          .left)
+      go (found ss) t = record { integer≤ = omega arith; float≤ = omega arith; unmarked = refl }
+      go nothing (found ss) = record { integer≤ = omega arith; float≤ = omega arith; unmarked = refl }
+      go nothing nothing = record { integer≤ = omega arith; float≤ = omega arith; unmarked = refl }

@@ -1,11 +1,11 @@
 -- The tests of the two sides agree: alignment, that more than two eightbytes are MEMORY (no piece of the domain reaches past two, so clean-up (c)
 -- applies), and that a touched eightbyte has a class. Assumes nothing.
-use Prim.Native.Nat.{ℕ, zero, suc, _+_, _-_, _*_, _/_, _%_, _≤_, _<_}
-use mathlib.Core.Path.{_≡_, refl, sym, ap, ap₂, subst, _∙_}
-use mathlib.Core.Bool.{Bool, true, false, cond, not, _&&_, _||_, and-true as and-end, or-true, true≢false, false≢true}
+use Prim.Native.Nat.{ℕ, suc, _+_, _-_, _*_, _%_, _≤_, _<_}
+use mathlib.Core.Path.{_≡_, refl, sym, ap₂, subst, _∙_}
+use mathlib.Core.Bool.{Bool, true, false, cond, not, _&&_, _||_, and-true as and-end, or-true, false≢true}
 use mathlib.Core.List.{List, [], _∷_}
 use mathlib.Core.Option.{Option}
-use mathlib.Core.Option.Option.{none, some}
+use mathlib.Core.Option.Option.{none}
 use native.Mathlib.Omega.{arith}
 use borrow.Author.Tests.{ltb-true, lt-ltb, le-ltb, eqb-true, eq-eqb, not-false}
 use lib.Dec.{eqb, leb, ltb}
@@ -15,7 +15,7 @@ use Rattle.shape.specs.Numbers.{integer, x87-extended, quad}
 use Rattle.find.proofs.Each.{and-true}
 use Rattle.eightbytes.specs.Eightbytes.{lastOf, aligned, fits}
 use Rattle.eightbytes.proofs.At.{allFit}
-use Rattle.psabi.specs.Psabi.{Class, INTEGER, SSE, SSEUP, X87, X87UP, COMPLEX-X87, NO-CLASS, MEMORY, is, either, isX87, lowOf, highOf, merge, liesIn, fieldClass, mergedIn, classesFrom, anyUnaligned, allUp, isOneVector, anyMemory, loneX87Up, converted, cleaned, eightbytesIn, classified}
+use Rattle.psabi.specs.Psabi.{Class, INTEGER, SSE, SSEUP, X87, X87UP, COMPLEX-X87, NO-CLASS, MEMORY, is, either, isX87, lowOf, highOf, merge, liesIn, fieldClass, mergedIn, classesFrom, anyUnaligned, allUp, isOneVector, anyMemory, loneX87Up, cleaned, eightbytesIn, classified}
 use Rattle.psabi.specs.Domain.{any}
 use Rattle.psabi.proofs.Clauses.{or-left, or-right, Usual, int1, int2, int4, int8, int16, single4, double8, x87-16, quad16, Regular, Each, done, more}
 use Rattle.psabi.proofs.Agree.{Ready, usual-pos, cond-in, classes-length}

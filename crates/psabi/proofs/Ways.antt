@@ -1,9 +1,8 @@
 -- What row 0 and the psABI answer for one eightbyte and for two, by their classes and by how many registers are left. Assumes nothing.
-use Prim.Native.Nat.{ℕ, zero, suc, _+_, _-_, _≤_, _<_, min}
-use mathlib.Core.Path.{_≡_, refl, sym, ap, _∙_}
-use mathlib.Core.Bool.{Bool, true, false, cond, not, _&&_, _||_, true≢false}
+use Prim.Native.Nat.{ℕ, zero, suc, _-_, _≤_, _<_, min}
+use mathlib.Core.Path.{_≡_, refl, ap, _∙_}
+use mathlib.Core.Bool.{Bool, true, false, cond, _&&_, true≢false}
 use mathlib.Core.List.{List, [], _∷_, map}
-use mathlib.Core.Option.{Option}
 use mathlib.Core.Option.Option.{none, some}
 use native.Mathlib.Omega.{arith}
 use borrow.Author.Tests.{le-leb, lt-leb}
@@ -11,7 +10,7 @@ use lib.Dec.{eqb, leb}
 use lib.Seq.{drop-cons, drop-length}
 use lib.ListN.{length, drop, getD}
 use Rattle.slots.specs.declared.Slot.{Slot}
-use Rattle.slots.specs.Words.{slot, integerSlot, floatSlot}
+use Rattle.slots.specs.Words.{slot, floatSlot}
 use Rattle.slots.specs.Search.{Search, found, nothing, floatsIn}
 use Rattle.find.proofs.Each.{and-false}
 use Rattle.eightbytes.specs.Class.{same, code}
@@ -19,7 +18,7 @@ use Rattle.eightbytes.specs.Eightbytes.{spoiled, mend, settled, slotsFrom, slot
 use Rattle.classify.specs.Pass.{pieces, reference, memory}
 use Rattle.classify.specs.Classify.{Passed, leaves, passed}
 use Rattle.psabi.specs.Psabi as psabi
-use Rattle.psabi.specs.Psabi.{Class, INTEGER, SSE, SSEUP, X87, X87UP, COMPLEX-X87, NO-CLASS, MEMORY, Register, rdi, argumentGenerals, argumentVectors, is, anyMemory, loneX87Up, converted, cleaned, onStack, passing, returning}
+use Rattle.psabi.specs.Psabi.{Class, INTEGER, SSE, SSEUP, NO-CLASS, Register, rdi, argumentGenerals, argumentVectors, is, anyMemory, loneX87Up, converted, cleaned, passing, returning}
 use Rattle.psabi.specs.Reading.{lastOf, standing, placesOf, readArgument, readResult}
 use Rattle.psabi.proofs.Agree.{rep, Plain, blank, int, vec, up}
 

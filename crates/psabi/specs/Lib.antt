@@ -1,3 +1,4 @@
 pub mod Psabi
 pub mod Domain
 pub mod Reading
+pub mod Calls

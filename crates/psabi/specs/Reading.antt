@@ -1,7 +1,7 @@
 -- The classifier's answers on row 0, read in the psABI's words: a count left is the last so many argument registers, and each slot takes the next
 -- free register of its bank, in order.
 use Prim.Native.Nat.{ℕ, _+_, _-_}
-use mathlib.Core.Bool.{Bool, true, false, cond}
+use mathlib.Core.Bool.{cond}
 use mathlib.Core.List.{List, [], _∷_, _++_}
 use mathlib.Core.Option.{Option}
 use mathlib.Core.Option.Option.{none, some}
