@@ -1,0 +1,12 @@
+pub mod RecordLaws
+pub mod ReadingLaws
+pub mod PerformingLaws
+pub mod RoomLaws
+pub mod TextLaws
+pub mod PrintingLaws
+pub mod SlotLaws
+pub mod BoundLaws
+pub mod StepLaws
+pub mod StepsLaws
+pub mod ChunkLaws
+mod Unique

@@ -1,0 +1,54 @@
+-- `read_value` tells void, scalars and aggregates apart, and stops at what is unknown. Assumes nothing.
+use Rattle.sheet.proofs.ReadingLaws.{value-void, value-scalar, value-unknown, value-aggregate}
+use borrow.Author.Needs.{needs}
+use Rattle.sheet.proofs.reading.read_value.Statement.{statement}
+use Rattle.sheet.proofs.reading.read_value.Tie as tie
+
+operation-of-requires : tie.Need-operation-of-requires
+operation-of-requires c κs = search needs
+
+ready-requires : tie.Need-ready-requires
+ready-requires c κs = search needs
+
+returns : tie.Need-returns
+returns c = search (value-void)
+
+operation-of-requires-2 : tie.Need-operation-of-requires-2
+operation-of-requires-2 c κs = search needs
+
+ready-requires-2 : tie.Need-ready-requires-2
+ready-requires-2 c κs = search needs
+
+returns-2 : tie.Need-returns-2
+returns-2 c = search (value-scalar)
+
+stopped-requires : tie.Need-stopped-requires
+stopped-requires c κs = search needs
+
+came-requires : tie.Need-came-requires
+came-requires c κs = search needs
+
+returns-3 : tie.Need-returns-3
+returns-3 c = search (value-unknown)
+
+read-aggregate-requires : tie.Need-read-aggregate-requires
+read-aggregate-requires c κs = search needs
+
+returns-4 : tie.Need-returns-4
+returns-4 c = search (value-aggregate)
+
+pub read-value-spec : {M : Type 1} → statement M
+read-value-spec =
+    tie.close
+    (tie.spec
+    operation-of-requires
+    ready-requires
+    returns
+    operation-of-requires-2
+    ready-requires-2
+    returns-2
+    stopped-requires
+    came-requires
+    returns-3
+    read-aggregate-requires
+    returns-4)
