@@ -8,7 +8,7 @@ use borrow.Author.Tests.{eq-eqb, ne-eqb}
 use lib.ListN.{length, take, drop, getD}
 use lib.Seq.{drop-cons, drop-length, getD-take, length-take-le}
 use Rattle.slots.specs.Words.{slotSize}
-use Rattle.abis.specs.Text.{bytes}
+use Rattle.text.specs.Text.{bytes}
 use Rattle.spend.specs.declared.Way as ways
 use Rattle.classify.specs.declared.Arg.{Arg}
 use Rattle.classify.specs.declared.Outcome.{Outcome}

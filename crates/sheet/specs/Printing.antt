@@ -6,7 +6,7 @@ use mathlib.Core.Bool.{cond}
 use lib.Dec.{eqb}
 use lib.ListN.{take}
 use Rattle.slots.specs.Words.{slotSize}
-use Rattle.abis.specs.Text.{bytes}
+use Rattle.text.specs.Text.{bytes}
 use Rattle.spend.specs.declared.Way as ways
 use Rattle.classify.specs.declared.Outcome.{Outcome}
 use Rattle.classify.specs.declared.Answer.{Answer}

@@ -6,7 +6,7 @@ use mathlib.Core.Bool.{Bool, false, _||_, cond}
 use lib.Dec.{leb, eqb}
 use lib.ListN.{length, take, drop, replicate}
 use Rattle.slots.specs.Words.{putAt}
-use Rattle.abis.specs.Text.{bytes}
+use Rattle.text.specs.Text.{bytes}
 use Rattle.classify.specs.Answers.{callOf}
 use Rattle.classify.specs.Classify.{leaves}
 use Rattle.sheet.specs.declared.State.{State}

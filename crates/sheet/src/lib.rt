@@ -5,7 +5,7 @@ mod performing;
 mod printing;
 mod reading;
 mod records;
-mod text;
+mod writing;
 
 use classify::Call;
 use performing::perform;
@@ -15,7 +15,7 @@ use reading::Operation;
 use reading::read;
 use records::RECORD;
 use shape::Shape;
-use text::put_text;
+use writing::put_text;
 ghost use mathlib.Core.Path.{_≡_};
 ghost use Prim.Native.Nat.{_+_, _≤_};
 ghost use mathlib.Core.Bool.{_&&_};

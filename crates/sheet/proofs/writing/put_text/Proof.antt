@@ -6,8 +6,8 @@ use lib.ListN.{length, length-set}
 use lib.Seq.{paste, paste-zero}
 use Rattle.sheet.proofs.TextLaws.{copy-next, copy-done}
 use borrow.Author.Needs.{needs}
-use Rattle.sheet.proofs.text.put_text.Statement.{statement}
-use Rattle.sheet.proofs.text.put_text.Tie as tie
+use Rattle.sheet.proofs.writing.put_text.Statement.{statement}
+use Rattle.sheet.proofs.writing.put_text.Tie as tie
 
 abbrev Inv-loop : tie.InvT-loop
 Inv-loop out₀ at text i₀ out i = (i ≤ length text) × (length out ≡ length out₀) × (out ≡ paste out₀ at text i)

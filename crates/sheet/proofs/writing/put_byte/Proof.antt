@@ -2,8 +2,8 @@
 use Rattle.sheet.proofs.TextLaws.{put-one}
 use native.Mathlib.Omega.{arith}
 use borrow.Author.Needs.{needs}
-use Rattle.sheet.proofs.text.put_byte.Statement.{statement}
-use Rattle.sheet.proofs.text.put_byte.Tie as tie
+use Rattle.sheet.proofs.writing.put_byte.Statement.{statement}
+use Rattle.sheet.proofs.writing.put_byte.Tie as tie
 
 slice-write-out : tie.Need-slice-write-out
 slice-write-out c = search needs

@@ -5,13 +5,13 @@ use borrow.Author.Needs.{needs}
 use Prim.Native.Nat.{ℕ, _<_}
 use borrow.Fn.Kinds.{In}
 use borrow.Fn.PlainCycle.{Measures, is, falls, and}
-use Rattle.sheet.proofs.text.put_digits.Reads as put-digits
-use Rattle.sheet.proofs.text.put_digits.Kinds as put-digits-kinds
-use Rattle.sheet.proofs.text.+put_digits.Lts-put_digits as put-digits-lts
-use Rattle.sheet.proofs.text.digit.Reads as digit-reads
-use Rattle.sheet.proofs.text.put_byte.Reads as put-byte-reads
-use Rattle.sheet.proofs.text.+put_digits.{statement}
-use Rattle.sheet.proofs.text.+put_digits.Tie.{close}
+use Rattle.sheet.proofs.writing.put_digits.Reads as put-digits
+use Rattle.sheet.proofs.writing.put_digits.Kinds as put-digits-kinds
+use Rattle.sheet.proofs.writing.+put_digits.Lts-put_digits as put-digits-lts
+use Rattle.sheet.proofs.writing.digit.Reads as digit-reads
+use Rattle.sheet.proofs.writing.put_byte.Reads as put-byte-reads
+use Rattle.sheet.proofs.writing.+put_digits.{statement}
+use Rattle.sheet.proofs.writing.+put_digits.Tie.{close}
 
 abbrev μ-put-digits : Measures 1 put-digits-kinds.ps ℕ
 μ-put-digits κs a = a .1 .1 .1 .0
