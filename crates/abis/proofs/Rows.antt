@@ -4,12 +4,16 @@ use mathlib.Core.Path.{_≡_, refl, sym, ap, _∙_}
 use mathlib.Core.List.{List, [], _∷_, map}
 use Prim.Native.Nat.{ℕ, zero, suc, _<_, _≤_}
 use native.Mathlib.Nat.{le-of-suc-le-suc, not-suc-le-zero}
-use lib.Dec.{T}
+use mathlib.Core.Bool.{_&&_}
+use lib.Dec.{T, leb}
 use lib.ListN.{length, getD, List·getD-map, List·getD-eq-default}
 use Rattle.describe.specs.declared.Others.{Others}
 use Rattle.describe.specs.Description.{Description, past, others}
-use Rattle.describe.specs.Row.{encode, decode, held, returnRule, argumentRule, banksOf, scalarsOf, othersOf, returnPointerOf, variadicOf}
+use Rattle.describe.specs.declared.Rules.{Rules}
+use Rattle.describe.specs.Row.{encode, decode, held, heldBanks, heldFormats, heldRules, heldTests, listOf, packed, returnRule, argumentRule, banksOf, scalarsOf, othersOf, returnPointerOf, variadicOf}
 use Rattle.describe.proofs.Inverse.{return-rule-back, argument-rule-back, banks-back, scalars-back, others-back, decode-back}
+use Rattle.describe.proofs.Packed.{returns-packed, arguments-packed}
+use Rattle.describe.proofs.Numbers.{and-left, and-right}
 use Rattle.abis.specs.Abis.{described, descriptions, blank, description-count}
 use Rattle.abis.proofs.Every.{anywhere}
 
@@ -62,3 +66,31 @@ unfolding described descriptions
 indexed {A} f table other e d h =
     ap (λ (entries : List A). getD entries d other) e
     ∙ (inside (map f descriptions) other (f blank) d h ∙ List·getD-map f descriptions d blank)
+
+-- The lists of rules that a walk takes, where a `match` found them.
+record Held (D : Description) : Type 0 where
+  returns : T (heldRules (D .returns))
+  arguments : T (heldRules (D .arguments))
+
+lists-held : (d : ℕ) → Held (described d)
+unfolding held
+lists-held d =
+    let D = described d in
+    let rest = and-right (heldBanks (D .banks)) (heldFormats (D .scalars) && (heldRules (D .returns) && heldRules (D .arguments))) (fits d) in
+    let rules = and-right (heldFormats (D .scalars)) (heldRules (D .returns) && heldRules (D .arguments)) rest in
+    record {
+      returns = and-left (heldRules (D .returns)) (heldRules (D .arguments)) rules;
+      arguments = and-right (heldRules (D .returns)) (heldRules (D .arguments)) rules;
+    }
+
+pub returns-held : (d : ℕ) → T (heldTests (described d .returns))
+returns-held d = and-right (leb (length (described d .returns)) 4) (heldTests (described d .returns)) (lists-held d .returns)
+
+pub arguments-held : (d : ℕ) → T (heldTests (described d .arguments))
+arguments-held d = and-right (leb (length (described d .arguments)) 4) (heldTests (described d .arguments)) (lists-held d .arguments)
+
+pub returns-here : (d : ℕ) {row : List ℕ} {R : Rules} → row ≡ encode (described d) → R ≡ listOf row 8 → R ≡ packed (described d .returns)
+returns-here d e l = l ∙ (ap (λ (row : List ℕ). listOf row 8) e ∙ returns-packed (described d) (lists-held d .returns))
+
+pub arguments-here : (d : ℕ) {row : List ℕ} {R : Rules} → row ≡ encode (described d) → R ≡ listOf row 20 → R ≡ packed (described d .arguments)
+arguments-here d e l = l ∙ (ap (λ (row : List ℕ). listOf row 20) e ∙ arguments-packed (described d) (lists-held d .arguments))

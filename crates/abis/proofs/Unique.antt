@@ -13,6 +13,8 @@ use Rattle.abis.proofs.scalar_is_by_reference.Reads as scalar-is-by-ref
 use Rattle.abis.proofs.scalar_returns_by_reference.Reads as scalar-returns-by-reference
 use Rattle.abis.proofs.wide_integer_returns_in.Reads as wide-integer-returns-in
 use Rattle.abis.proofs.naming.name.Reads as name
+use Rattle.abis.proofs.return_rules.Reads as return-rules
+use Rattle.abis.proofs.argument_rules.Reads as argument-rules
 
 row-decides : (κs : Lfts 0) → OneAnswer (row.Post κs)
 row-decides κs a r q s t p p′ = p ∙ sym p′
@@ -46,3 +48,9 @@ name-decides κs a r q s t p p′ = p .0 ∙ sym (p′ .0)
 
 name-bytes : (κs : Lfts 1) → OneExit (name.Post κs) (λ s. now (s .1 .0))
 name-bytes κs a r q s t p p′ = p .1 ∙ sym (p′ .1)
+
+return-rules-decides : (κs : Lfts 0) → OneAnswer (return-rules.Post κs)
+return-rules-decides κs a r q s t p p′ = p ∙ sym p′
+
+argument-rules-decides : (κs : Lfts 0) → OneAnswer (argument-rules.Post κs)
+argument-rules-decides κs a r q s t p p′ = p ∙ sym p′

@@ -24,9 +24,10 @@ use Rattle.slots.proofs.Words.{put-none}
 use Rattle.describe.specs.declared.Banks.{Banks}
 use Rattle.describe.specs.declared.Test.{Test}
 use Rattle.describe.specs.declared.Test.the-variants.{Anything, Empty, SizeOneOf, SizeAtMost, Homogeneous, FloatPair, X87Stack, LoneFloat, FloatingMode, ComplexFloat, Eightbytes}
-use Rattle.describe.specs.declared.Rule.{Rule}
+use Rattle.describe.specs.declared.Rules.{Rules}
 use Rattle.describe.specs.declared.Variadic.{Variadic}
-use Rattle.describe.specs.Row.{returnRule, argumentRule}
+use Rattle.describe.specs.Description.{Description}
+use Rattle.describe.specs.Row.{packed}
 use Rattle.find.specs.Find.{foundIf, homogeneous, floatPair, x87Stack, loneFloat, floatingMode, complexFloat, eachPiece}
 use Rattle.eightbytes.specs.declared.Classified.{Classified}
 use Rattle.eightbytes.specs.Eightbytes as eight
@@ -180,12 +181,12 @@ module _ (B : Banks) (test : Test) (shape : Shape) (ps : List Piece) (r : Search
 
 -- ---- rules
 
-module _ (row : List ℕ) (returning : Bool) (i : ℕ) (r : Rule) where
-  pub rule-back : returning ≡ true → r ≡ returnRule row i → r ≡ parts.ruleIn row returning i
-  rule-back h er = rw (er, h)
+module _ (D : Description) (returning : Bool) (r : Rules) where
+  pub rules-back : returning ≡ true → r ≡ packed (D .returns) → r ≡ packed (parts.rulesOf D returning)
+  rules-back h er = rw (er, h)
 
-  pub rule-out : returning ≡ false → r ≡ argumentRule row i → r ≡ parts.ruleIn row returning i
-  rule-out h er = rw (er, h)
+  pub rules-out : returning ≡ false → r ≡ packed (D .arguments) → r ≡ packed (parts.rulesOf D returning)
+  rules-out h er = rw (er, h)
 
 -- ---- the writing and the answer
 

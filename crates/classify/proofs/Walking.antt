@@ -1,14 +1,12 @@
--- The laws of the rule walk: what one rule's search and step decide of the list from there on, and that the walk never leaves the list. Assumes
--- nothing.
-use Prim.Native.Nat.{ℕ, suc, _+_, _<_, _≤_}
+-- The laws of the rule walk: what one rule's search and step decide of the list from there on, and that a rule that doesn't decide leaves
+-- others behind it. Assumes nothing.
+use Prim.Native.Nat.{ℕ, _<_}
 use mathlib.Core.Path.{_≡_, refl, ap, sym, _∙_}
 use mathlib.Core.List.{List, [], _∷_}
 use mathlib.Core.Bool.{Bool, true, false, _&&_, not, cond}
 use native.Mathlib.Omega.{arith}
-use native.Mathlib.Numerals.{add-one}
-use lib.Dec.{ltb}
-use lib.ListN.{length, getD, drop}
-use lib.Seq.{drop-cons}
+use lib.Dec.{T, ltb}
+use lib.ListN.{length}
 use Rattle.shape.specs.declared.Shape.{Shape}
 use Rattle.shape.specs.declared.Piece.{Piece}
 use Rattle.slots.specs.declared.Slot.{Slot}
@@ -17,11 +15,13 @@ use Rattle.slots.specs.Search.{Search, found, nothing, foundOf, floatsIn}
 use Rattle.describe.specs.declared.Banks.{Banks}
 use Rattle.describe.specs.declared.Rule.{Rule}
 use Rattle.describe.specs.declared.ReturnPointer.{ReturnPointer}
-use Rattle.describe.specs.Description.{Description, Decides, past}
-use Rattle.describe.specs.Row.{encode, banksOf, returnPointerOf}
+use Rattle.describe.specs.declared.Rules.{Rules}
+use Rattle.describe.specs.Description.{Description, Decides, Ends}
+use Rattle.describe.specs.Row.{packed, firstRule, laterRules, heldTests}
+use Rattle.describe.proofs.Packed.{first-back, later-back, later-less, held-later, ends-later}
 use Rattle.abis.specs.Abis.{described}
-use Rattle.abis.proofs.Rows.{return-rule, argument-rule, row-banks, row-return-pointer}
-use Rattle.abis.proofs.Lists.{returns-end, arguments-end, returns-go-on, arguments-go-on, returns-few, arguments-few}
+use Rattle.abis.proofs.Rows.{returns-held, arguments-held}
+use Rattle.abis.proofs.Lists.{returns-end, arguments-end}
 use Rattle.spend.specs.declared.Left.{Left}
 use Rattle.spend.specs.declared.Decision.{Decision}
 use Rattle.spend.specs.declared.Step as steps
@@ -31,7 +31,7 @@ use Rattle.classify.specs.declared.Searched.{Searched}
 use Rattle.classify.specs.Pass.{matches}
 use Rattle.classify.specs.Spending.{sourceOf, slotsOf, aggregate}
 use Rattle.classify.specs.Answers.{descriptions}
-use Rattle.classify.specs.Parts.{classesBy, searchedBy, rulesOf, ruleIn, decided, walked}
+use Rattle.classify.specs.Parts.{classesBy, searchedBy, rulesOf, decided, walked}
 use Rattle.classify.proofs.Ends.{decides-found, decides-step}
 
 -- ---- what a search's counts say of its slots
@@ -88,39 +88,70 @@ module _ (D : Description) (returning : Bool) (left : Left) (shape : Shape) (ps 
 
 -- ---- the loop of `walk`, with what the code knows as premises
 
-rule-there : (abi : ℕ) (returning : Bool) (i : ℕ) → ruleIn (encode (described abi)) returning i ≡ getD (rulesOf (described abi) returning) i past
-rule-there abi true i = return-rule abi i
-rule-there abi false i = argument-rule abi i
+-- the rules that are left: those that the two numbers stand for; they end with one that decides, and decide what the whole list decides
+pub record Remaining (D : Description) (returning : Bool) (left : Left) (shape : Shape) (ps : List Piece) (R : Rules) : Type 0 where
+  pub rules : List Rule
+  pub are : R ≡ packed rules
+  pub ends : Ends rules
+  pub hold : T (heldTests rules)
+  pub decide : walked D returning left (rulesOf D returning) shape ps ≡ walked D returning left rules shape ps
 
-go-on : (abi : ℕ) → abi < descriptions → (returning : Bool) (i : ℕ) → i < length (rulesOf (described abi) returning)
-    → (Decides (getD (rulesOf (described abi) returning) i past) → ⊥) → i + 1 < length (rulesOf (described abi) returning)
-go-on abi h true i w n = returns-go-on abi h i w n
-go-on abi h false i w n = arguments-go-on abi h i w n
+starts : (abi : ℕ) → abi < descriptions → (returning : Bool) → Ends (rulesOf (described abi) returning)
+starts abi h true = returns-end abi h
+starts abi h false = arguments-end abi h
 
-pub starts-inside : (abi : ℕ) → abi < descriptions → (returning : Bool) → 0 < length (rulesOf (described abi) returning)
-starts-inside abi h true = returns-end abi h .some
-starts-inside abi h false = arguments-end abi h .some
+starts-held : (abi : ℕ) (returning : Bool) → T (heldTests (rulesOf (described abi) returning))
+starts-held abi true = returns-held abi
+starts-held abi false = arguments-held abi
 
-pub few-rules : (abi : ℕ) (returning : Bool) → length (rulesOf (described abi) returning) ≤ 4
-few-rules abi true = returns-few abi
-few-rules abi false = arguments-few abi
+pub whole-list : (abi : ℕ) → abi < descriptions → (returning : Bool) (left : Left) (shape : Shape) (ps : List Piece) (R : Rules)
+    → R ≡ packed (rulesOf (described abi) returning) → Remaining (described abi) returning left shape ps R
+whole-list abi h returning left shape ps R e =
+    record { rules = rulesOf (described abi) returning; are = e; ends = starts abi h returning; hold = starts-held abi returning; decide = refl }
 
-module _ (abi : ℕ) (known : abi < descriptions) (returning : Bool) (left : Left) (shape : Shape) (ps : List Piece)
-    (row : List ℕ) (er : row ≡ encode (described abi)) (B : Banks) (eb : B ≡ banksOf row) (pointer : ReturnPointer) (ep : pointer ≡ returnPointerOf row)
-    (total : Decided) (i : ℕ) (w : i < length (rulesOf (described abi) returning))
-    (inv : total ≡ walked (described abi) returning left (drop i (rulesOf (described abi) returning)) shape ps)
-    (rule : Rule) (el : rule ≡ ruleIn row returning i) (s : Searched) (es : s ≡ searchedBy B (rule .when) shape ps) where
-  here : rule ≡ getD (rulesOf (described abi) returning) i past
-  here = el ∙ (ap (λ (r : List ℕ). ruleIn r returning i) er ∙ rule-there abi returning i)
+-- a list that is left, taken apart
+record Taken (rules : List Rule) (rule : Rule) (R′ : Rules) : Type 0 where
+  later : List Rule
+  is : rules ≡ rule ∷ later
+  are : R′ ≡ packed later
+  hold : T (heldTests later)
+  less : R′ .tests < packed rules .tests
 
-  bank : B ≡ described abi .banks
-  bank = eb ∙ (ap banksOf er ∙ row-banks abi)
+take-apart : (rules : List Rule) → Ends rules → T (heldTests rules) → Taken rules (firstRule (packed rules)) (laterRules (packed rules))
+take-apart [] ends h = absurd (let z = ends .some in omega arith)
+take-apart (r ∷ later) ends h =
+    record {
+      later = later;
+      is = ap (λ (x : Rule). x ∷ later) (sym (first-back r later h));
+      are = later-back r later h;
+      hold = held-later r later h;
+      less = later-less r later h;
+    }
 
-  point : pointer ≡ described abi .«return_pointer»
-  point = ep ∙ (ap returnPointerOf er ∙ row-return-pointer abi)
+module _ (abi : ℕ) (returning : Bool) (left : Left) (shape : Shape) (ps : List Piece)
+    (B : Banks) (bank : B ≡ described abi .banks) (pointer : ReturnPointer) (point : pointer ≡ described abi .«return_pointer»)
+    (R : Rules) (inv : Remaining (described abi) returning left shape ps R)
+    (rule : Rule) (el : rule ≡ firstRule R) (R′ : Rules) (er : R′ ≡ laterRules R) (s : Searched) (es : s ≡ searchedBy B (rule .when) shape ps) where
+  taken : Taken (inv .rules) rule R′
+  taken = rw (el, er, inv .are) (take-apart (inv .rules) (inv .ends) (inv .hold))
 
-  opened : total ≡ walked (described abi) returning left (rule ∷ drop (i + 1) (rulesOf (described abi) returning)) shape ps
-  opened = rw (inv, here, add-one, drop-cons (rulesOf (described abi) returning) i past)
+  pub falls : R′ .tests < R .tests
+  falls = rw (inv .are) (taken .less)
+
+  opened : walked (described abi) returning left (rulesOf (described abi) returning) shape ps ≡ walked (described abi) returning left (rule ∷ taken .later) shape ps
+  opened = inv .decide ∙ ap (λ (rules : List Rule). walked (described abi) returning left rules shape ps) (taken .is)
+
+  -- where the rule doesn't decide, the rules behind it are left
+  goes-on : (Decides rule → ⊥) → walked (described abi) returning left (rule ∷ taken .later) shape ps ≡ walked (described abi) returning left (taken .later) shape ps
+      → Remaining (described abi) returning left shape ps R′
+  goes-on n w =
+      record {
+        rules = taken .later;
+        are = taken .are;
+        ends = ends-later rule (taken .later) (rw (taken .is) at (inv .ends)) n;
+        hold = taken .hold;
+        decide = opened ∙ w;
+      }
 
   found-is : s .found ≡ foundOf (matches (described abi .banks) (rule .when) shape ps)
   unfolding searchedBy
@@ -134,20 +165,14 @@ module _ (abi : ℕ) (known : abi < descriptions) (returning : Bool) (left : Lef
   unfolding searchedBy
   classes-are = ap (λ (x : Searched). x .classes) es
 
-  inside : (Decides rule → ⊥) → i + 1 < length (rulesOf (described abi) returning)
-  inside n = go-on abi known returning i w (λ (d : Decides (getD (rulesOf (described abi) returning) i past)). n (rw here d))
-
   module _ (e : s .found ≡ founds.the-variants.Nothing) where
     none : matches (described abi .banks) (rule .when) shape ps ≡ nothing
     none = found-nothing _ (sym found-is ∙ e)
 
-    pub nothing-inside : i + 1 < length (rulesOf (described abi) returning)
-    nothing-inside =
-        inside (λ (d : Decides rule). let p : nothing ≡ found [] = sym none ∙ decides-found (described abi .banks) rule shape ps d in
-        let z : _≡_ {A = ℕ} 0 1 = cc in omega arith)
-
-    pub nothing-next : total ≡ walked (described abi) returning left (drop (i + 1) (rulesOf (described abi) returning)) shape ps
-    nothing-next = opened ∙ step-nothing (described abi) returning left shape ps rule _ none
+    pub nothing-next : Remaining (described abi) returning left shape ps R′
+    nothing-next =
+        goes-on (λ (d : Decides rule). let p : nothing ≡ found [] = sym none ∙ decides-found (described abi .banks) rule shape ps d in
+        let z : _≡_ {A = ℕ} 0 1 = cc in omega arith) (step-nothing (described abi) returning left shape ps rule _ none)
 
   module _ (n m : ℕ) (e : s .found ≡ founds.the-variants.Slots n m) where
     some : FoundAs (matches (described abi .banks) (rule .when) shape ps) n m
@@ -157,14 +182,12 @@ module _ (abi : ℕ) (known : abi < descriptions) (returning : Bool) (left : Lef
       skip : skipped left returning (floatsIn (some .ss)) ≡ true
       skip = rw (← some .floats) h
 
-      pub skipped-inside : i + 1 < length (rulesOf (described abi) returning)
-      skipped-inside =
-          inside (λ (d : Decides rule). let p : found (some .ss) ≡ found [] = sym (some .is) ∙ decides-found (described abi .banks) rule shape ps d in
+      pub skipped-next : Remaining (described abi) returning left shape ps R′
+      skipped-next =
+          goes-on (λ (d : Decides rule). let p : found (some .ss) ≡ found [] = sym (some .is) ∙ decides-found (described abi .banks) rule shape ps d in
           let q : some .ss ≡ [] = cc in
           let t : skipped left returning (floatsIn []) ≡ true = rw q at skip in no-float (left .«integers_only» && not returning) t)
-
-      pub skipped-next : total ≡ walked (described abi) returning left (drop (i + 1) (rulesOf (described abi) returning)) shape ps
-      skipped-next = opened ∙ step-skipped (described abi) returning left shape ps rule _ (some .ss) (some .is) skip
+          (step-skipped (described abi) returning left shape ps rule _ (some .ss) (some .is) skip)
 
     module _ (h : skipped left returning m ≡ false) (t : steps.Step)
         (et : t ≡ travelOf B pointer returning left rule (shape .size) (record { count = n; floats = m; source = s .source })) where
@@ -180,13 +203,12 @@ module _ (abi : ℕ) (known : abi < descriptions) (returning : Bool) (left : Lef
           let em : m ≡ floatsIn (some .ss) = some .floats in
           cc
 
-      pub short-inside : t ≡ steps.the-variants.TryNextRule → i + 1 < length (rulesOf (described abi) returning)
-      short-inside x = inside (λ (d : Decides rule). decides-step _ _ _ _ _ _ _ d (sym travelled ∙ x))
+      pub short-next : t ≡ steps.the-variants.TryNextRule → Remaining (described abi) returning left shape ps R′
+      short-next x =
+          goes-on (λ (d : Decides rule). decides-step _ _ _ _ _ _ _ d (sym travelled ∙ x))
+          (step-short (described abi) returning left shape ps rule _ (some .ss) (some .is) kept (sym travelled ∙ x))
 
-      pub short-next : t ≡ steps.the-variants.TryNextRule → total ≡ walked (described abi) returning left (drop (i + 1) (rulesOf (described abi) returning)) shape ps
-      short-next x = opened ∙ step-short (described abi) returning left shape ps rule _ (some .ss) (some .is) kept (sym travelled ∙ x)
-
-      pub decided-here : (d : Decision) → t ≡ steps.the-variants.Decided d → decided d (s .classes) ≡ total
+      pub decided-here : (d : Decision) → t ≡ steps.the-variants.Decided d → decided d (s .classes) ≡ walked (described abi) returning left (rulesOf (described abi) returning) shape ps
       decided-here d x =
           ap (decided d) classes-are
           ∙ sym (opened ∙ step-decided (described abi) returning left shape ps rule _ (some .ss) (some .is) kept d (sym travelled ∙ x))

@@ -21,7 +21,6 @@ use Rattle.describe.specs.declared.Rule.{Rule}
 use Rattle.describe.specs.declared.Test.{Test}
 use Rattle.describe.specs.declared.Test.the-variants.{Anything, Empty, SizeOneOf, SizeAtMost, Homogeneous, FloatPair, X87Stack, LoneFloat, FloatingMode, ComplexFloat, Eightbytes}
 use Rattle.describe.specs.Description.{Description}
-use Rattle.describe.specs.Row.{returnRule, argumentRule}
 use Rattle.find.specs.Find.{eachPiece}
 use Rattle.eightbytes.specs.Eightbytes as eight
 use Rattle.spend.specs.declared.Left.{Left}
@@ -82,9 +81,6 @@ classSource size = sources.the-variants.Classes size
 
 abbrev pub rulesOf : Description → Bool → List Rule
 rulesOf D returning = cond returning (D .returns) (D .arguments)
-
-abbrev pub ruleIn : List ℕ → Bool → ℕ → Rule
-ruleIn row returning i = cond returning (returnRule row i) (argumentRule row i)
 
 abbrev pub decided : Decision → List ℕ → Decided
 decided decision classes = record { decision = decision; classes = classes }

@@ -2,11 +2,10 @@
 // A call is a value, and each operation hands back the next one. Anyone can hand in any numbers: every operation checks for itself.
 use describe::Banks;
 use describe::ReturnPointer;
-use describe::Rule;
+use describe::Rules;
 use describe::StackArgs;
 use describe::Test;
 use describe::Variadic;
-use describe::WIDTH;
 use shape::Scalar;
 use shape::Shape;
 use slots::Found;
@@ -22,6 +21,7 @@ ghost use mathlib.Core.Path.{_≡_};
 ghost use Prim.Native.Nat.{_-_, _<_};
 ghost use Rattle.shape.specs.Words.{piecesOf};
 ghost use Rattle.slots.specs.Words.{written};
+ghost use Rattle.describe.specs.Row.{packed};
 ghost use Rattle.abis.specs.Abis.{described};
 ghost use Rattle.classify.specs.Classify.{inMemory, isIntegersOnly};
 ghost use Rattle.classify.specs.Spending as rules;
@@ -354,19 +354,19 @@ fn unclassed(decision: Decision) -> Decided
     }
 }
 
-// The rule walk: the first rule whose test finds something, and that isn't skipped or short, decides. The table is read once. There is no
-// answer behind the loop: each list of rules ends with one that decides.
+// The rule walk: the first rule whose test finds something, and that isn't skipped or short, decides. The list is read once, as two numbers.
+// There is no answer behind the loop: each list of rules ends with one that decides.
 fn walk(abi: u64, returning: bool, left: Left, shape: Shape, words: &[u64]) -> Decided
     requires { ⌜ abi < descriptions ⌝ }
     ensures { λ r. ⌜ r ≡ parts.walked (described abi) returning left (parts.rulesOf (described abi) returning) shape (piecesOf (now (words .entry))) ⌝ }
 {
-    let row = abis::row(abi);
-    let banks = describe::banks_of(row);
-    let pointer = describe::return_pointer_of(row);
-    let mut i = 0;
+    let banks = abis::banks(abi);
+    let pointer = abis::return_pointer(abi);
+    let mut rules = rules_of(abi, returning);
     loop {
-        let rule = rule_at(row, returning, i);
-        i += 1;
+        let rule = describe::first_rule(rules);
+        let later = describe::later_rules(rules);
+        rules = later;
         let when = rule.when;
         let searched = search(banks, when, shape, words);
         let found = searched.found;
@@ -398,14 +398,14 @@ fn walk(abi: u64, returning: bool, left: Left, shape: Shape, words: &[u64]) -> D
     }
 }
 
-// Rule `i` of one of the two lists.
-fn rule_at(row: [u8; WIDTH], returning: bool, i: u64) -> Rule
-    ensures { λ r. ⌜ r ≡ parts.ruleIn row returning i ⌝ }
+// One of the two lists of a description.
+fn rules_of(abi: u64, returning: bool) -> Rules
+    ensures { λ r. ⌜ r ≡ packed (parts.rulesOf (described abi) returning) ⌝ }
 {
     if returning {
-        return describe::return_rule(row, i);
+        return abis::return_rules(abi);
     }
-    describe::argument_rule(row, i)
+    abis::argument_rules(abi)
 }
 
 // What a test finds, with the slots beside it: where they stand, and the classes of eightbytes.

@@ -97,7 +97,7 @@ module _ (s n b k : ℕ) (hs : s < 2) (hn : n < 4) (hb : b < 2) where
   cleanup-part = omega arith
 
 -- A rule is read back from its three bytes, and past the list's end from three zeros.
-rule-back : (r : Rule) → T (heldTest (r .when)) → ruleFrom (testCode (r .when)) (testNumber (r .when)) (wayByte r) ≡ r
+pub rule-back : (r : Rule) → T (heldTest (r .when)) → ruleFrom (testCode (r .when)) (testNumber (r .when)) (wayByte r) ≡ r
 unfolding ruleFrom
 rule-back r h =
     let fits = travel-fits (r .then) in

@@ -125,13 +125,13 @@ or-cases : (a b : Bool) → T (a || b) → T a ⊎ T b
 or-cases true b t = inl tt
 or-cases false b t = inr t
 
-abbrev SizeBack : ℕ → Type 0
+abbrev pub SizeBack : ℕ → Type 0
 SizeBack size = (sizeFrom (sizeCode size) ≡ size) × (sizeCode size < 4)
 
 size-at : (k size : ℕ) → SizeBack k → T (eqb size k) → SizeBack size
 size-at k size h t = rw (eqb→eq size k t) h
 
-size-back : (size : ℕ) → T (registerSize size) → SizeBack size
+pub size-back : (size : ℕ) → T (registerSize size) → SizeBack size
 unfolding sizeFrom
 size-back size h =
     ⊎-elim

@@ -8,6 +8,7 @@ use Rattle.describe.specs.declared.Banks.{Banks}
 use Rattle.describe.specs.declared.Scalars.{Scalars}
 use Rattle.describe.specs.declared.Others.{Others}
 use Rattle.describe.specs.declared.Rule.{Rule}
+use Rattle.describe.specs.declared.Rules.{Rules}
 use Rattle.describe.specs.declared.Test.{Test}
 use Rattle.describe.specs.declared.Test.the-variants.{Anything, Empty, SizeOneOf, SizeAtMost, Homogeneous, FloatPair, X87Stack, LoneFloat, FloatingMode, ComplexFloat, Eightbytes}
 use Rattle.describe.specs.declared.ReturnPointer.{ReturnPointer}
@@ -165,6 +166,44 @@ returnRule row i = ruleOf row 8 i
 
 abbrev pub argumentRule : List ℕ → ℕ → Rule
 argumentRule row i = ruleOf row 20 i
+
+-- A list as two numbers, the first rule lowest: two bytes for a test and its number, a byte for a way.
+abbrev pub packedTests : List Rule → ℕ
+packedTests [] = 0
+packedTests (r ∷ rules) = testCode (r .when) + 256 * testNumber (r .when) + 65536 * packedTests rules
+
+abbrev pub packedWays : List Rule → ℕ
+packedWays [] = 0
+packedWays (r ∷ rules) = wayByte r + 256 * packedWays rules
+
+unfoldable pub packed : List Rule → Rules
+packed rules = record { tests = packedTests rules; ways = packedWays rules }
+
+-- the four rules whose first byte stands at a place of a row
+abbrev pub pairOf : ℕ → ℕ → ℕ
+pairOf code number = code + 256 * number
+
+abbrev pub testsOf : ℕ → ℕ → ℕ → ℕ → ℕ
+testsOf a b c d = a + 65536 * (b + 65536 * (c + 65536 * d))
+
+abbrev pub waysOf : ℕ → ℕ → ℕ → ℕ → ℕ
+waysOf a b c d = a + 256 * (b + 256 * (c + 256 * d))
+
+unfoldable pub listOf : List ℕ → ℕ → Rules
+listOf row first =
+    record {
+      tests =
+          testsOf (pairOf (getD row first 0) (getD row (first + 1) 0)) (pairOf (getD row (first + 3) 0) (getD row (first + 4) 0))
+          (pairOf (getD row (first + 6) 0) (getD row (first + 7) 0)) (pairOf (getD row (first + 9) 0) (getD row (first + 10) 0));
+      ways = waysOf (getD row (first + 2) 0) (getD row (first + 5) 0) (getD row (first + 8) 0) (getD row (first + 11) 0);
+    }
+
+-- the first rule, and those behind it
+unfoldable pub firstRule : Rules → Rule
+firstRule R = ruleFrom (R .tests % 256) (R .tests / 256 % 256) (R .ways % 256)
+
+unfoldable pub laterRules : Rules → Rules
+laterRules R = record { tests = R .tests / 65536; ways = R .ways / 256 }
 
 -- A list's rules, up to the first place where none stands.
 abbrev pub rulesFrom : ℕ → List ℕ → ℕ → ℕ → List Rule

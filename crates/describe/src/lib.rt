@@ -9,10 +9,14 @@ mod row;
 pub use row::RULES;
 pub use row::WIDTH;
 pub use row::argument_rule;
+pub use row::argument_rules;
 pub use row::banks_of;
+pub use row::first_rule;
+pub use row::later_rules;
 pub use row::others_of;
 pub use row::return_pointer_of;
 pub use row::return_rule;
+pub use row::return_rules;
 pub use row::scalars_of;
 pub use row::variadic_of;
 
@@ -55,6 +59,13 @@ pub struct Rule {
     pub when: Test,
     pub then: Travel,
     pub short: Short,
+}
+
+// A list of rules as two numbers, the first rule lowest: two bytes for each test and its number, a byte for each way of travel with what
+// happens when short. A walk takes the first rule off until one decides; nothing is copied for it.
+pub struct Rules {
+    pub tests: u64,
+    pub ways: u64,
 }
 
 // The registers that a call starts with. With shared banks every spend comes out of the integer one.

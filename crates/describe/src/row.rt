@@ -1,7 +1,7 @@
 // A description as a row of bytes, read back.
 ghost use mathlib.Core.Path.{_≡_};
-ghost use Prim.Native.Nat.{_≤_};
-ghost use Rattle.describe.specs.Row.{returnRule, argumentRule, ruleOf, banksOf, scalarsOf, othersOf, returnPointerOf, variadicOf};
+ghost use Prim.Native.Nat.{_≤_, _<_};
+ghost use Rattle.describe.specs.Row.{returnRule, argumentRule, ruleOf, ruleFrom, listOf, pairOf, testsOf, waysOf, firstRule, laterRules, banksOf, scalarsOf, othersOf, returnPointerOf, variadicOf};
 ghost use Rattle.describe.specs.Codes.{testFrom, sizeFrom, travelFrom, shortFrom, returnPointerFrom, variadicFrom, stackArgsFrom, narrowFrom, bitIntsFrom, cleanupFrom};
 use crate::codes::*;
 use crate::*;
@@ -103,6 +103,82 @@ pub fn variadic_of(row: [u8; WIDTH]) -> Variadic
     ensures { λ r. ⌜ r ≡ variadicOf row ⌝ }
 {
     variadic_from(row[CALLS] / 4)
+}
+
+// The list of rules for returns, for a walk.
+pub fn return_rules(row: [u8; WIDTH]) -> Rules
+    ensures { λ r. ⌜ r ≡ listOf row 8 ⌝ }
+{
+    list_of(row, RETURNS)
+}
+
+// The list of rules for arguments, likewise.
+pub fn argument_rules(row: [u8; WIDTH]) -> Rules
+    ensures { λ r. ⌜ r ≡ listOf row 20 ⌝ }
+{
+    list_of(row, ARGUMENTS)
+}
+
+// The first rule of a list. Where none is left stands a rule that ignores anything.
+pub fn first_rule(rules: Rules) -> Rule
+    ensures { λ r. ⌜ r ≡ firstRule rules ⌝ }
+{
+    let way = (rules.ways % 256) as u8;
+    Rule {
+        when: test_from((rules.tests % 256) as u8, (rules.tests / 256 % 256) as u8),
+        then: travel_from(way % 8),
+        short: short_from(way / 8),
+    }
+}
+
+// The rules behind the first.
+pub fn later_rules(rules: Rules) -> Rules
+    ensures { λ r. ⌜ r ≡ laterRules rules ⌝ }
+{
+    Rules {
+        tests: rules.tests / 65536,
+        ways: rules.ways / 256,
+    }
+}
+
+fn list_of(row: [u8; WIDTH], first: usize) -> Rules
+    requires { ⌜ first ≤ 20 ⌝ }
+    ensures { λ r. ⌜ r ≡ listOf row first ⌝ }
+{
+    Rules {
+        tests: tests_of(
+            pair(row[first], row[first + 1]),
+            pair(row[first + 3], row[first + 4]),
+            pair(row[first + 6], row[first + 7]),
+            pair(row[first + 9], row[first + 10]),
+        ),
+        ways: ways_of(
+            row[first + 2],
+            row[first + 5],
+            row[first + 8],
+            row[first + 11],
+        ),
+    }
+}
+
+// A test's code and its number as one.
+fn pair(code: u8, number: u8) -> u64
+    ensures { λ r. ⌜ (r ≡ pairOf code number) × (r < 65536) ⌝ }
+{
+    wide(code) + 256 * wide(number)
+}
+
+fn tests_of(a: u64, b: u64, c: u64, d: u64) -> u64
+    requires { ⌜ (a < 65536) × ((b < 65536) × ((c < 65536) × (d < 65536))) ⌝ }
+    ensures { λ r. ⌜ r ≡ testsOf a b c d ⌝ }
+{
+    a + 65536 * (b + 65536 * (c + 65536 * d))
+}
+
+fn ways_of(a: u8, b: u8, c: u8, d: u8) -> u64
+    ensures { λ r. ⌜ r ≡ waysOf a b c d ⌝ }
+{
+    wide(a) + 256 * (wide(b) + 256 * (wide(c) + 256 * wide(d)))
 }
 
 // The rule at place `i` of the list whose first byte stands at `first`.

@@ -1,0 +1,153 @@
+-- A list of rules as two numbers gives its first rule back, and the rules behind it; a row has the lists that were encoded in it. Assumes
+-- nothing.
+use mathlib.Core.Path.{_≡_, refl, ap}
+use mathlib.Core.Bool.{Bool, true, false, _&&_}
+use mathlib.Core.List.{List, [], _∷_, map}
+use Prim.Native.Nat.{ℕ, suc, _+_, _-_, _*_, _/_, _%_, _<_, _≤_}
+use native.Mathlib.Omega.{arith}
+use lib.Dec.{T, ltb, leb, ltb→lt, leb→le, lit<}
+use lib.ListN.{length, getD}
+use Rattle.describe.specs.declared.Rule.{Rule}
+use Rattle.describe.specs.declared.Rules.{Rules}
+use Rattle.describe.specs.declared.Short.{Short}
+use Rattle.describe.specs.declared.Short.the-variants.{Unchanged, Memory, MemoryAndDrain, TryNextRule}
+use Rattle.describe.specs.declared.Test.{Test}
+use Rattle.describe.specs.declared.Test.the-variants.{Anything, Empty, SizeOneOf, SizeAtMost, Homogeneous, FloatPair, X87Stack, LoneFloat, FloatingMode, ComplexFloat, Eightbytes}
+use Rattle.describe.specs.Description.{Description, Decides, Ends, past}
+use Rattle.describe.specs.Codes.{testCode, testNumber, travelCode, shortCode, sizeCode}
+use Rattle.describe.specs.Row.{encode, heldTest, heldTests, heldRules, wayByte, ruleFrom, packed, packedTests, packedWays, listOf, pairOf, testsOf, waysOf, firstRule, laterRules}
+use Rattle.describe.specs.Questions.{registerSize}
+use Rattle.describe.proofs.Numbers.{and-left, and-right, travel-fits, size-back}
+use Rattle.describe.proofs.Inverse.{rule-back}
+
+-- What a test, its number and a way need.
+code-fits : (t : Test) → testCode t < 256
+code-fits Anything = lit< tt
+code-fits Empty = lit< tt
+code-fits (SizeOneOf a b c d) = lit< tt
+code-fits (SizeAtMost limit) = lit< tt
+code-fits (Homogeneous limit) = lit< tt
+code-fits FloatPair = lit< tt
+code-fits X87Stack = lit< tt
+code-fits LoneFloat = lit< tt
+code-fits FloatingMode = lit< tt
+code-fits ComplexFloat = lit< tt
+code-fits (Eightbytes limit) = lit< tt
+
+code-some : (t : Test) → 0 < testCode t
+code-some Anything = lit< tt
+code-some Empty = lit< tt
+code-some (SizeOneOf a b c d) = lit< tt
+code-some (SizeAtMost limit) = lit< tt
+code-some (Homogeneous limit) = lit< tt
+code-some FloatPair = lit< tt
+code-some X87Stack = lit< tt
+code-some LoneFloat = lit< tt
+code-some FloatingMode = lit< tt
+code-some ComplexFloat = lit< tt
+code-some (Eightbytes limit) = lit< tt
+
+short-fits : (s : Short) → shortCode s < 4
+short-fits Unchanged = lit< tt
+short-fits Memory = lit< tt
+short-fits MemoryAndDrain = lit< tt
+short-fits TryNextRule = lit< tt
+
+number-fits : (t : Test) → T (heldTest t) → testNumber t < 256
+number-fits Anything h = lit< tt
+number-fits Empty h = lit< tt
+number-fits (SizeOneOf a b c d) h =
+    let hb = and-right (registerSize a) (registerSize b && (registerSize c && registerSize d)) h in
+    let hc = and-right (registerSize b) (registerSize c && registerSize d) hb in
+    let fa = size-back a (and-left (registerSize a) (registerSize b && (registerSize c && registerSize d)) h) .1 in
+    let fb = size-back b (and-left (registerSize b) (registerSize c && registerSize d) hb) .1 in
+    let fc = size-back c (and-left (registerSize c) (registerSize d) hc) .1 in
+    let fd = size-back d (and-right (registerSize c) (registerSize d) hc) .1 in
+    omega arith
+number-fits (SizeAtMost limit) h = ltb→lt limit 256 h
+number-fits (Homogeneous limit) h = ltb→lt limit 256 h
+number-fits FloatPair h = lit< tt
+number-fits X87Stack h = lit< tt
+number-fits LoneFloat h = lit< tt
+number-fits FloatingMode h = lit< tt
+number-fits ComplexFloat h = lit< tt
+number-fits (Eightbytes limit) h = ltb→lt limit 256 h
+
+way-fits : (r : Rule) → wayByte r < 256
+way-fits r = let t = travel-fits (r .then) in let s = short-fits (r .short) in omega arith
+
+-- Numbers in their places.
+module _ (code number rest : ℕ) (hc : code < 256) (hn : number < 256) where
+  low-byte : (code + 256 * number + 65536 * rest) % 256 ≡ code
+  low-byte = omega arith
+
+  high-byte : (code + 256 * number + 65536 * rest) / 256 % 256 ≡ number
+  high-byte = omega arith
+
+  rest-of-tests : (code + 256 * number + 65536 * rest) / 65536 ≡ rest
+  rest-of-tests = omega arith
+
+module _ (r : Rule) (rules : List Rule) (h : T (heldTests (r ∷ rules))) where
+  held-first : T (heldTest (r .when))
+  held-first = and-left (heldTest (r .when)) (heldTests rules) h
+
+  pub held-later : T (heldTests rules)
+  held-later = and-right (heldTest (r .when)) (heldTests rules) h
+
+  pub first-back : firstRule (packed (r ∷ rules)) ≡ r
+  unfolding firstRule packed
+  first-back =
+      let code = code-fits (r .when) in
+      let number = number-fits (r .when) held-first in
+      let way = way-fits r in
+      let w : (wayByte r + 256 * packedWays rules) % 256 ≡ wayByte r = omega arith in
+      rw (low-byte (testCode (r .when)) (testNumber (r .when)) (packedTests rules) code number, high-byte (testCode (r .when)) (testNumber (r .when)) (packedTests rules) code number, w) (rule-back r held-first)
+
+  pub later-back : laterRules (packed (r ∷ rules)) ≡ packed rules
+  unfolding laterRules packed
+  later-back =
+      let code = code-fits (r .when) in
+      let number = number-fits (r .when) held-first in
+      let way = way-fits r in
+      let w : (wayByte r + 256 * packedWays rules) / 256 ≡ packedWays rules = omega arith in
+      simp (rest-of-tests (testCode (r .when)) (testNumber (r .when)) (packedTests rules) code number, w)
+
+  -- the number of the tests falls with each rule that is taken off
+  pub later-less : laterRules (packed (r ∷ rules)) .tests < packed (r ∷ rules) .tests
+  unfolding laterRules packed
+  later-less =
+      let some = code-some (r .when) in
+      let code = code-fits (r .when) in
+      let number = number-fits (r .when) held-first in
+      rw (rest-of-tests (testCode (r .when)) (testNumber (r .when)) (packedTests rules) code number) (omega arith)
+
+-- A rule that doesn't decide isn't the last of a list that ends.
+pub ends-later : (r : Rule) (rules : List Rule) → Ends (r ∷ rules) → (Decides r → ⊥) → Ends rules
+ends-later r [] ends open-still = absurd (open-still (ends .last))
+ends-later r (s ∷ rules) ends open-still =
+    let one-less : length (r ∷ s ∷ rules) - 1 ≡ suc (length (s ∷ rules) - 1) = omega arith in
+    record { some = (omega arith); last = rw one-less at (ends .last) }
+
+-- The lists of a row.
+four-packed : (rules : List Rule) → T (leb (length rules) 4)
+    → (testsOf (pairOf (getD (map (λ (r : Rule). testCode (r .when)) rules) 0 0) (getD (map (λ (r : Rule). testNumber (r .when)) rules) 0 0)) (pairOf (getD (map (λ (r : Rule). testCode (r .when)) rules) 1 0) (getD (map (λ (r : Rule). testNumber (r .when)) rules) 1 0)) (pairOf (getD (map (λ (r : Rule). testCode (r .when)) rules) 2 0) (getD (map (λ (r : Rule). testNumber (r .when)) rules) 2 0)) (pairOf (getD (map (λ (r : Rule). testCode (r .when)) rules) 3 0) (getD (map (λ (r : Rule). testNumber (r .when)) rules) 3 0)) ≡ packedTests rules)
+    × (waysOf (getD (map wayByte rules) 0 0) (getD (map wayByte rules) 1 0) (getD (map wayByte rules) 2 0) (getD (map wayByte rules) 3 0) ≡ packedWays rules)
+four-packed [] h = (refl, refl)
+four-packed (a ∷ []) h = (refl, refl)
+four-packed (a ∷ b ∷ []) h = (refl, refl)
+four-packed (a ∷ b ∷ c ∷ []) h = (refl, refl)
+four-packed (a ∷ b ∷ c ∷ d ∷ []) h = ((omega arith), (omega arith))
+four-packed (a ∷ b ∷ c ∷ d ∷ e ∷ rules) h = absurd (let few = leb→le (length (a ∷ b ∷ c ∷ d ∷ e ∷ rules)) 4 h in omega arith)
+
+module _ (D : Description) where
+  pub returns-packed : T (heldRules (D .returns)) → listOf (encode D) 8 ≡ packed (D .returns)
+  unfolding listOf packed
+  returns-packed h =
+      let four = four-packed (D .returns) (and-left (leb (length (D .returns)) 4) (heldTests (D .returns)) h) in
+      simp (four .0, four .1)
+
+  pub arguments-packed : T (heldRules (D .arguments)) → listOf (encode D) 20 ≡ packed (D .arguments)
+  unfolding listOf packed
+  arguments-packed h =
+      let four = four-packed (D .arguments) (and-left (leb (length (D .arguments)) 4) (heldTests (D .arguments)) h) in
+      simp (four .0, four .1)

@@ -1,0 +1,18 @@
+-- `first_rule` reads the lowest bytes. Assumes nothing.
+use borrow.Author.Needs.{needs}
+use Rattle.describe.specs.Row.{firstRule, ruleFrom}
+use Rattle.describe.proofs.row.first_rule.Statement.{statement}
+use Rattle.describe.proofs.row.first_rule.Tie as tie
+
+pub first-rule-spec : {M : Type 1} → statement M
+unfolding firstRule ruleFrom
+first-rule-spec =
+    tie.close
+    (tie.spec
+    (λ c. search needs)
+    (λ c. search needs)
+    (λ c. search needs)
+    (λ c κs. search needs)
+    (λ c κs. search needs)
+    (λ c κs. search needs)
+    (λ c. simp (c .before .before .test-from .ensures, c .before .travel-from .ensures, c .short-from .ensures)))
