@@ -129,7 +129,7 @@ below-or-not : (i n : ℕ) (t : Bool) → ltb i n ≡ t → (i < n) ⊎ (n ≤ i
 below-or-not i n true e = inl (ltb-true i n e)
 below-or-not i n false e = inr (ltb-false i n e)
 
-abbrev There : List ℕ → ℕ → List Rule → ℕ → Type 0
+abbrev pub There : List ℕ → ℕ → List Rule → ℕ → Type 0
 There row first rules i =
     (getD row (first + 3 * i) 0 ≡ getD (tests rules) i 0)
     × (getD row (first + 3 * i + 1) 0 ≡ getD (numbers rules) i 0)
@@ -159,10 +159,10 @@ rules-back row first (a ∷ b ∷ c ∷ d ∷ []) h there back =
     simp (there 0 (lit< tt) .0, there 1 (lit< tt) .0, there 2 (lit< tt) .0, there 3 (lit< tt) .0, back 0, back 1, back 2, back 3, test-stands)
 rules-back row first (a ∷ b ∷ c ∷ d ∷ e ∷ rules) h there back = absurd (omega arith)
 
-returns-there : (D : Description) (i : ℕ) → i < 4 → There (encode D) 8 (D .returns) i
+pub returns-there : (D : Description) (i : ℕ) → i < 4 → There (encode D) 8 (D .returns) i
 returns-there D = four (There (encode D) 8 (D .returns)) (refl, refl, refl) (refl, refl, refl) (refl, refl, refl) (refl, refl, refl)
 
-arguments-there : (D : Description) (i : ℕ) → i < 4 → There (encode D) 20 (D .arguments) i
+pub arguments-there : (D : Description) (i : ℕ) → i < 4 → There (encode D) 20 (D .arguments) i
 arguments-there D = four (There (encode D) 20 (D .arguments)) (refl, refl, refl) (refl, refl, refl) (refl, refl, refl) (refl, refl, refl)
 
 -- What a row that holds D says.

@@ -6,6 +6,8 @@ ghost use Rattle.describe.specs.Questions.{isByReference, returnsByRefer
 pub mod codes;
 mod row;
 
+pub use row::ARGUMENTS;
+pub use row::RETURNS;
 pub use row::RULES;
 pub use row::WIDTH;
 pub use row::argument_rule;

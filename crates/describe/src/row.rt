@@ -28,9 +28,10 @@ const CALLS: usize = 6;
 
 const STACK: usize = 7;
 
-const RETURNS: usize = 8;
+// Where the two lists of rules begin.
+pub const RETURNS: usize = 8;
 
-const ARGUMENTS: usize = 20;
+pub const ARGUMENTS: usize = 20;
 
 // The rules that a row holds for each list, at most.
 pub const RULES: u64 = 4;

@@ -1,0 +1,59 @@
+-- From what the value form answers on the call and the value that an entry makes of its numbers, to the numbers that are promised. Assumes nothing.
+use Prim.Native.Nat.{ℕ}
+use mathlib.Core.Path.{_≡_}
+use mathlib.Core.List.{List}
+use Rattle.shape.specs.declared.Shape.{Shape}
+use Rattle.records.specs.declared.Recorded.{Recorded}
+use Rattle.describe.specs.Codes.{flag}
+use Rattle.spend.specs.Ways.{wayNumber}
+use Rattle.classify.specs.declared.Arg as args
+use Rattle.classify.specs.declared.Call.{Call}
+use Rattle.classify.specs.declared.Answer as value
+use Rattle.classify.specs.declared.InMemory.{InMemory}
+use Rattle.barkpaddle.specs.declared.calls.Answer.{Answer}
+use Rattle.barkpaddle.specs.declared.layouts.Record.{Record}
+use Rattle.barkpaddle.specs.Numbers.{inNumbers, aligned, recordNumbers}
+
+module _ (a : value.Answer) (way : ℕ) (ew : way ≡ wayNumber (a .outcome .way)) (mark : ℕ) (em : mark ≡ flag (a .next .«integers_only»)) where
+  pub numbered : _≡_ {A = Answer}
+      (record {
+        refusal = a .outcome .refusal;
+        way = way;
+        abi = a .next .abi;
+        integer = a .next .integer;
+        float = a .next .float;
+        «integers_only» = mark;
+        «integers_passed» = a .outcome .spent .«integers_passed»;
+        «integers_given» = a .outcome .spent .«integers_given»;
+        «floats_passed» = a .outcome .spent .«floats_passed»;
+        «floats_given» = a .outcome .spent .«floats_given»;
+        slots = a .outcome .slots;
+      }) (inNumbers a)
+  numbered = rw (ew, em)
+
+-- An operation on a call and a value: k and v are what the entry made, k′ and v′ what its numbers say.
+module _ (k k′ : Call) (ek : k ≡ k′) (v v′ : args.Arg) (ev : v ≡ v′) (words out : List ℕ) where
+  pub handed : (f : Call → args.Arg → List ℕ → List ℕ → value.Answer) (a : value.Answer) → a ≡ f k v words out
+      → (r : Answer) → r ≡ inNumbers a → r ≡ inNumbers (f k′ v′ words out)
+  handed f a ea r er = rw (er, ea, ek, ev)
+
+  pub written : (f : Call → args.Arg → List ℕ → List ℕ → List ℕ) (after : List ℕ) → after ≡ f k v words out → after ≡ f k′ v′ words out
+  written f after e = rw (e, ek, ev)
+
+pub started : (k k′ : Call) → k ≡ k′ → (f : Call → value.Answer) (a : value.Answer) → a ≡ f k → (r : Answer) → r ≡ inNumbers a → r ≡ inNumbers (f k′)
+started k k′ ek f a ea r er = rw (er, ea, ek)
+
+pub in-memory-aligned : (k k′ : Call) → k ≡ k′ → (s s′ : Shape) → s ≡ s′ → (words : List ℕ) (f : Call → Shape → List ℕ → InMemory) (a : InMemory)
+    → a ≡ f k s words → aligned a ≡ aligned (f k′ s′ words)
+in-memory-aligned k k′ ek s s′ es words f a ea = rw (ea, ek, es)
+
+module _ (a a′ : Recorded) (ea : a ≡ a′) (complex : ℕ) (ec : complex ≡ flag (a .shape .complex)) (floating : ℕ) (ef : floating ≡ flag (a .shape .floating)) where
+  pub recorded : _≡_ {A = Record}
+      (record {
+        refusal = a .refusal;
+        size = a .shape .size;
+        align = a .shape .align;
+        complex = complex;
+        floating = floating;
+      }) (recordNumbers a′)
+  recorded = rw (ec, ef, ea)
