@@ -14,7 +14,12 @@ pub struct Performed {
 }
 
 // A fresh call takes the place of the open one, and a refused one closes it. Any other operation leaves the call open, refused or not.
-pub fn perform(state: State, operation: Operation, pieces: &[u64], slots: &mut [u64]) -> Performed
+pub(crate) fn perform(
+    state: State,
+    operation: Operation,
+    pieces: &[u64],
+    slots: &mut [u64],
+) -> Performed
     ensures { λ r. ⌜ (r ≡ spec.performed state operation (now (pieces .entry)) (now (slots .entry))) × (now (slots .exit) ≡ spec.performedSlots state operation (now (pieces .entry)) (now (slots .entry))) ⌝ }
 {
     let call = state.call;

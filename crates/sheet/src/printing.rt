@@ -13,7 +13,7 @@ use classify::Answer;
 use classify::Outcome;
 use spend::Way;
 
-pub fn print(
+pub(crate) fn print(
     operation: Operation,
     answer: Answer,
     slots: &[u64],

@@ -59,7 +59,7 @@ pub struct Reading {
 }
 
 // Nothing is read behind a stop. The pieces of an operation that is ready are the words that its state counts.
-pub fn read(state: State, bytes: &[u8], pieces: &mut [u64]) -> Reading
+pub(crate) fn read(state: State, bytes: &[u8], pieces: &mut [u64]) -> Reading
     ensures { λ r. ⌜ (r ≡ spec.readAnswer state (now (bytes .entry)) (length (now (pieces .entry)))) × (now (pieces .exit) ≡ spec.readPieces state (now (bytes .entry)) (now (pieces .entry))) ⌝ }
 {
     if state.stopped {
@@ -227,7 +227,7 @@ fn waiting(state: State, due: Due) -> State
     }
 }
 
-pub fn stopped(state: State) -> State
+pub(crate) fn stopped(state: State) -> State
     ensures { λ r. ⌜ r ≡ spec.stoppedState state ⌝ }
 {
     let call = state.call;

@@ -16,7 +16,7 @@ pub struct Record {
     pub sixth: u64,
 }
 
-pub fn record_of(bytes: &[u8]) -> Record
+pub(crate) fn record_of(bytes: &[u8]) -> Record
     requires { ⌜ 48 ≤ length (now bytes) ⌝ }
     ensures { λ r. ⌜ r ≡ recordOf (now (bytes .entry)) ⌝ }
 {

@@ -8,7 +8,7 @@ ghost use Rattle.sheet.specs.Text.{Put, decimal, decimalIn, digitOf};
 // The digits of the largest 64-bit number.
 const DIGITS: u64 = 20;
 
-pub fn put_number(out: &mut [u8], at: usize, n: u64) -> usize
+pub(crate) fn put_number(out: &mut [u8], at: usize, n: u64) -> usize
     requires { ⌜ at + 20 ≤ length (now out) ⌝ }
     ensures { λ r. ⌜ Put (now (out .entry)) at (decimal n) r (now (out .exit)) × (r ≤ at + 20) ⌝ }
 {
@@ -37,7 +37,7 @@ fn digit(n: u64) -> u8
     b'0' + n as u8
 }
 
-pub fn put_text(out: &mut [u8], at: usize, text: &[u8]) -> usize
+pub(crate) fn put_text(out: &mut [u8], at: usize, text: &[u8]) -> usize
     requires { ⌜ at + length (now text) ≤ length (now out) ⌝ }
     ensures { λ r. ⌜ Put (now (out .entry)) at (now (text .entry)) r (now (out .exit)) ⌝ }
 {
@@ -49,7 +49,7 @@ pub fn put_text(out: &mut [u8], at: usize, text: &[u8]) -> usize
     at + i
 }
 
-pub fn put_byte(out: &mut [u8], at: usize, b: u8) -> usize
+pub(crate) fn put_byte(out: &mut [u8], at: usize, b: u8) -> usize
     requires { ⌜ at + 1 ≤ length (now out) ⌝ }
     ensures { λ r. ⌜ Put (now (out .entry)) at (b ∷ []) r (now (out .exit)) ⌝ }
 {
