@@ -9,4 +9,5 @@ pub mod BoundLaws
 pub mod StepLaws
 pub mod StepsLaws
 pub mod ChunkLaws
+pub mod Chunks
 mod Unique

@@ -199,11 +199,12 @@ unfoldable pub endText : Between → List ℕ → List ℕ
 endText b [] = finishText (b .state)
 endText b (x ∷ xs) = text b (x ∷ xs)
 
--- a sheet's bytes to its lines' bytes, with room for the most pieces and slots
+-- before the first record, with room for the most pieces and slots
+unfoldable pub begin : Between
+begin = between started (replicate 4096 0) (replicate 24 0)
+
+-- a sheet's bytes to its lines' bytes
 unfoldable pub sheetText : List ℕ → List ℕ
 sheetText bytes =
     texts begin (recordsIn (whole bytes) bytes)
     ++ endText (afterAll begin (recordsIn (whole bytes) bytes)) (drop (whole bytes * recordSize) bytes)
-  where
-    begin : Between
-    begin = between started (replicate 4096 0) (replicate 24 0)
