@@ -2,7 +2,9 @@
 //!
 //! A good sheet never stops. Its calls follow a habit each, so that one runs a bank dry and
 //! another meets a full one; some begin with a run-up to a few registers left, where the rules
-//! part. Between their operations stand some that are refused.
+//! part. Between their operations stand some that are refused. 50,000 operations are to decide by
+//! every rule of every row (`oracle coverage`), so what only one test in many rows asks for, and
+//! calls that are marked first, are given a share of their own.
 
 use std::io::{self, Write};
 
@@ -47,6 +49,8 @@ pub struct Generator {
     pub random: Random,
     /// Whether a call is open, so that an operation won't stop the sheet.
     pub open: bool,
+    /// Whether the open call is to be marked next.
+    mark: bool,
     /// Arguments that are still to lead the open call to few registers.
     run_up: Vec<Value>,
     /// How many more operations the open call gets then.
@@ -57,13 +61,17 @@ pub struct Generator {
 impl Generator {
     pub fn new(seed: u64) -> Self {
         let random = Random::new(seed);
-        Self { random, open: false, run_up: Vec::new(), more: 0, habit: Habit::Anything }
+        let run_up = Vec::new();
+        Self { random, open: false, mark: false, run_up, more: 0, habit: Habit::Anything }
     }
 
     /// The records of the next operation, which the call that is open allows.
     pub fn operation(&mut self) -> Vec<Record> {
         let mut records = if !self.open {
             self.fresh()
+        } else if self.mark {
+            self.mark = false;
+            vec![[MARK, 0, 0, 0, 0, 0]]
         } else if let Some(value) = self.run_up.pop() {
             records::of_value(ARGUMENT, &value)
         } else if self.more > 0 {
@@ -85,8 +93,9 @@ impl Generator {
         if !self.open {
             return vec![[FRESH, bad_description(random), 0, 0, 0, 0]];
         }
-        let last_row = if random.once_in(2) { 5 } else { ROWS as u64 - 1 };
+        let last_row = if random.once_in(3) { 5 } else { ROWS as u64 - 1 };
         let row = random.between(0, last_row);
+        self.mark = random.once_in(4);
         self.more = random.pick(&[1, 2, 4, 8, 12, 20]);
         self.habit = random.pick(&[
             Habit::Anything,
@@ -107,8 +116,8 @@ impl Generator {
     fn within_call(&mut self) -> Vec<Record> {
         let operation = match self.random.between(0, 31) {
             0 | 1 => return vec![[MARK, 0, 0, 0, 0, 0]],
-            2..=4 => RETURN,
-            5..=8 => AFTER_DOTS,
+            2..=9 => RETURN,
+            10..=14 => AFTER_DOTS,
             _ => ARGUMENT,
         };
         let value = match self.random.between(0, 63) {
@@ -192,14 +201,23 @@ fn any_scalar(random: &mut Random) -> Scalar {
     Scalar { kind: random.between(0, LARGEST_KIND), size, align: shapes::align(random) }
 }
 
-/// A shape; now and then one of as many pieces as a list may have.
+/// A shape; now and then a complex of Singles, or one of as many pieces as a list may have.
 fn any_shape(random: &mut Random) -> Shape {
+    if random.once_in(16) {
+        return complex_of_singles();
+    }
     let mut shape = shapes::shape(random);
     if random.once_in(500) {
         let scalar = any_scalar(random);
         shape.pieces.resize(MOST_PIECES as usize, Piece { scalar, offset: 8 });
     }
     shape
+}
+
+fn complex_of_singles() -> Shape {
+    let scalar = Scalar { kind: 1, size: 4, align: 4 };
+    let pieces = vec![Piece { scalar, offset: 0 }, Piece { scalar, offset: 4 }];
+    Shape { size: 8, align: 4, complex: true, floating: true, pieces }
 }
 
 /// A number past a limit: the next one, one that a narrower type would take for a small one, or

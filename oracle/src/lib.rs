@@ -1,5 +1,6 @@
 //! The original Rust, unchanged, answering questions about the thirty calling conventions.
 
+pub mod coverage;
 pub mod damage;
 pub mod find;
 pub mod generate;

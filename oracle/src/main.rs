@@ -4,7 +4,7 @@ use std::io::{self, BufWriter, Read, Write};
 use std::process::ExitCode;
 
 use oracle::generate::{self, Profile};
-use oracle::{find, lookups, rows, shapes, sheet};
+use oracle::{coverage, find, lookups, rows, shapes, sheet};
 
 const USAGE: &str = "\
 usage: oracle rows                         every fact of the thirty descriptions
@@ -12,12 +12,14 @@ usage: oracle rows                         every fact of the thirty descriptions
        oracle find SEED COUNT              random shapes, and what each test finds in them
        oracle shapes SEED COUNT            the same shapes as records of a sheet
        oracle sheet                        a sheet's lines, the sheet read from standard input
+       oracle coverage                     by which rules that sheet decides, and how often
        oracle generate SEED COUNT [good]   a random sheet of so many operations
        oracle generate SEED COUNT damaged  one that stops on its way
 
 A damaged sheet holds one damage, so have many of them:
        for seed in $(seq 1000); do oracle generate $seed 20 damaged | oracle sheet; done
-Exits 1 on a bad command line or a failed write, 2 where the Rust and the rules contradict.
+Exits 1 on a bad command line or a failed write, 2 where the Rust and the rules contradict, and
+where a sheet leaves out a rule.
 ";
 
 fn main() -> ExitCode {
@@ -25,7 +27,11 @@ fn main() -> ExitCode {
     let words: Vec<&str> = arguments.iter().map(String::as_str).collect();
     let mut out = BufWriter::new(io::stdout().lock());
     let answered = if words == ["sheet"] {
-        answer_sheet(&mut out)
+        read_sheet()
+            .and_then(|bytes| sheet::print(&mut out, &bytes))
+            .map(|agreed| agreed.map_err(|why| format!("the Rust and the rules contradict {why}")))
+    } else if words == ["coverage"] {
+        read_sheet().and_then(|bytes| coverage::print(&mut out, &bytes))
     } else {
         let Some(written) = answer(&mut out, &words) else {
             eprint!("{USAGE}");
@@ -35,8 +41,8 @@ fn main() -> ExitCode {
     };
     match answered.and_then(|agreed| out.flush().map(|()| agreed)) {
         Ok(Ok(())) => ExitCode::SUCCESS,
-        Ok(Err(contradiction)) => {
-            eprintln!("oracle: the Rust and the rules contradict {contradiction}");
+        Ok(Err(wrong)) => {
+            eprintln!("oracle: {wrong}");
             ExitCode::from(2)
         }
         Err(why) => {
@@ -46,10 +52,10 @@ fn main() -> ExitCode {
     }
 }
 
-fn answer_sheet(out: &mut impl Write) -> io::Result<Result<(), String>> {
+fn read_sheet() -> io::Result<Vec<u8>> {
     let mut bytes = Vec::new();
     io::stdin().lock().read_to_end(&mut bytes)?;
-    sheet::print(out, &bytes)
+    Ok(bytes)
 }
 
 /// Answers a question that can't meet a contradiction, or nothing where there is none such.

@@ -13,25 +13,54 @@ use crate::records::{
     self, AFTER_DOTS, AGGREGATE, ARGUMENT, BYTES, FRESH, MARK, PIECE, RETURN, Record, SCALAR, VOID,
 };
 use crate::refusals;
-use crate::spending::{self, Before, Outcome, Spent, Way};
+use crate::spending::{self, Before, Outcome, Points, Spent, Way};
 use crate::values::{MOST_PIECES, Piece, Scalar, Shape, Value};
 
 /// Prints a line for each operation of the sheet. The inner error tells of a contradiction.
 pub fn print(out: &mut impl Write, sheet: &[u8]) -> io::Result<Result<(), String>> {
+    match follow(sheet, |line, _| writeln!(out, "{line}"))? {
+        Ending::End => Ok(Ok(())),
+        Ending::Stop => writeln!(out, "stop").map(Ok),
+        Ending::Contradiction(message) => Ok(Err(message)),
+    }
+}
+
+/// Hands over the line of each operation and where it was decided, and says how the sheet ended.
+pub fn follow(
+    sheet: &[u8],
+    mut each: impl FnMut(&Line, &Decided) -> io::Result<()>,
+) -> io::Result<Ending> {
     let mut reader = Reader { rest: sheet };
     let mut open = None;
     loop {
         match reader.operation().and_then(|operation| perform(&mut open, operation)) {
-            Ok(line) => writeln!(out, "{line}")?,
-            Err(Ending::End) => return Ok(Ok(())),
-            Err(Ending::Stop) => return writeln!(out, "stop").map(Ok),
-            Err(Ending::Contradiction(message)) => return Ok(Err(message)),
+            Ok((line, decided)) => each(&line, &decided)?,
+            Err(ending) => return Ok(ending),
         }
     }
 }
 
+/// Where an operation was decided: of which call, by which operation's rules, at which points.
+pub struct Decided {
+    pub row: Option<usize>,
+    pub asked: Asked,
+    pub integers_only: bool,
+    pub points: Points,
+}
+
+/// Which rules an operation goes by. A refused one goes by none.
+#[derive(Debug, Clone, Copy, PartialEq, Eq, Hash)]
+pub enum Asked {
+    Fresh,
+    Mark,
+    Return,
+    Argument,
+    AfterDots,
+    Nothing,
+}
+
 /// Why no line follows.
-enum Ending {
+pub enum Ending {
     /// The sheet ends after a whole operation.
     End,
     /// The sheet can't be read on.
@@ -39,6 +68,9 @@ enum Ending {
     /// The Rust and the rules can't both be right.
     Contradiction(String),
 }
+
+/// The word of a refused operation's line.
+pub const REFUSED: &str = "refused";
 
 #[derive(Debug)]
 enum Operation {
@@ -113,12 +145,13 @@ struct Open {
 }
 
 /// What a line says: what happened, the counts left, what was spent, and the slots or a refusal.
-struct Line {
-    word: &'static str,
+pub struct Line {
+    pub word: &'static str,
     left: [u64; 2],
     integers: Spent,
     floats: Spent,
-    rest: Vec<String>,
+    /// The slots, or the refusal's number.
+    pub rest: Vec<String>,
 }
 
 impl fmt::Display for Line {
@@ -132,24 +165,33 @@ impl fmt::Display for Line {
     }
 }
 
-fn perform(open: &mut Option<Open>, operation: Operation) -> Result<Line, Ending> {
+fn perform(open: &mut Option<Open>, operation: Operation) -> Result<(Line, Decided), Ending> {
     if let Operation::Fresh(description) = operation {
         *open = None;
+        let decided = |row, asked| Decided { row, asked, integers_only: false, points: vec![] };
         if let Some(refusal) = refusals::of_fresh(description) {
-            return Ok(refused([0, 0], refusal));
+            return Ok((refused([0, 0], refusal), decided(None, Asked::Nothing)));
         }
         let row = description as usize;
         let call = open.insert(Open { call: numbers::row(row).call(), row, integers_only: false });
-        return Ok(unspent("fresh", call.left()));
+        return Ok((unspent("fresh", call.left()), decided(Some(row), Asked::Fresh)));
     }
     let call = open.as_mut().ok_or(Ending::Stop)?;
-    match &operation {
+    let (row, integers_only) = (Some(call.row), call.integers_only);
+    let mut points = Points::new();
+    let (asked, line) = match &operation {
         Operation::Fresh(_) => unreachable!("it was performed above"),
-        Operation::Mark => call.mark(),
-        Operation::Return(value) | Operation::Argument(value) | Operation::AfterDots(value) => {
-            call.place(&operation, value)
+        Operation::Mark => (Asked::Mark, call.mark()?),
+        Operation::Return(value) => (Asked::Return, call.place(Asked::Return, value, &mut points)?),
+        Operation::Argument(value) => {
+            (Asked::Argument, call.place(Asked::Argument, value, &mut points)?)
         }
-    }
+        Operation::AfterDots(value) => {
+            (Asked::AfterDots, call.place(Asked::AfterDots, value, &mut points)?)
+        }
+    };
+    let asked = if line.word == REFUSED { Asked::Nothing } else { asked };
+    Ok((line, Decided { row, asked, integers_only, points }))
 }
 
 impl Open {
@@ -173,25 +215,26 @@ impl Open {
     }
 
     /// A return, an argument or one after the dots.
-    fn place(&mut self, operation: &Operation, value: &Value) -> Result<Line, Ending> {
+    fn place(&mut self, asked: Asked, value: &Value, points: &mut Points) -> Result<Line, Ending> {
         if let Some(refusal) = refusals::of_value(value) {
             return Ok(refused(self.left(), refusal));
         }
         let before = self.before();
         let call = &mut self.call;
-        let (pass, outcome) = match operation {
-            Operation::Return(_) => {
-                (value.ask(|arg| call.returns(arg)), spending::returned(before, value))
+        let (pass, outcome) = match asked {
+            Asked::Return => {
+                (value.ask(|arg| call.returns(arg)), spending::returned(before, value, points))
             }
-            Operation::AfterDots(_) => {
-                (value.ask(|arg| call.variadic_argument(arg)), spending::after_dots(before, value))
-            }
-            _ => (value.ask(|arg| call.argument(arg)), spending::argument(before, value)),
+            Asked::AfterDots => (
+                value.ask(|arg| call.variadic_argument(arg)),
+                spending::after_dots(before, value, points),
+            ),
+            _ => (value.ask(|arg| call.argument(arg)), spending::argument(before, value, points)),
         };
         if !agree(before, &pass, self.left(), outcome) {
             let left = self.left();
             return Err(Ending::Contradiction(format!(
-                "on {operation:?} of {before:?}\nthe Rust: {pass:?}, left {left:?}\nthe rules: {outcome:?}"
+                "on {asked:?} {value:?} of {before:?}\nthe Rust: {pass:?}, left {left:?}\nthe rules: {outcome:?}"
             )));
         }
         Ok(placed(&pass, self.left(), outcome))
@@ -229,7 +272,7 @@ fn unspent(word: &'static str, left: [u64; 2]) -> Line {
 }
 
 fn refused(left: [u64; 2], refusal: u64) -> Line {
-    Line { rest: vec![refusal.to_string()], ..unspent("refused", left) }
+    Line { rest: vec![refusal.to_string()], ..unspent(REFUSED, left) }
 }
 
 #[cfg(test)]

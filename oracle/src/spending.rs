@@ -46,10 +46,36 @@ pub struct Before {
     pub integers_only: bool,
 }
 
+/// Where an operation was decided, or a rule that it went past.
+#[derive(Debug, Clone, Copy, PartialEq, Eq, Hash)]
+pub enum Point {
+    Void,
+    /// A scalar, by this line.
+    Scalar(&'static str),
+    /// An aggregate, by the rule of this place in its list.
+    Rule(usize, End),
+}
+
+/// What a rule that matched came to.
+#[derive(Debug, Clone, Copy, PartialEq, Eq, Hash)]
+pub enum End {
+    /// It decided without a look at the registers left.
+    Decides,
+    /// It decided, every slot having a register.
+    Fits,
+    /// There were too few registers, so it did what it says for that.
+    Short,
+    /// It found floats for a call that may use integer registers alone, so the next one was tried.
+    NoFloats,
+}
+
+/// The points of one operation, those of `oracle coverage`.
+pub type Points = Vec<Point>;
+
 /// The rows that the rules give by number.
-const DARWIN_ARM64: usize = 2;
-const WINDOWS_ARM64: usize = 3;
-const RISCV_LP64D: usize = 5;
+pub const DARWIN_ARM64: usize = 2;
+pub const WINDOWS_ARM64: usize = 3;
+pub const RISCV_LP64D: usize = 5;
 
 /// Whether a call is integers-only once it is marked variadic (REFERENCE 9.6): the mark changes
 /// a call of row 3 and no other.
@@ -58,110 +84,129 @@ pub fn marked(before: Before) -> bool {
 }
 
 /// A fixed argument (REFERENCE 9.2 and 9.3).
-pub fn argument(before: Before, value: &Value) -> Outcome {
+pub fn argument(before: Before, value: &Value, points: &mut Points) -> Outcome {
     match value {
-        Value::Void => nothing(Way::Ignore),
-        Value::Scalar(scalar) => scalar_argument(before, *scalar),
-        Value::Aggregate(shape) => aggregate(before, shape, Side::Argument),
+        Value::Void => void(points),
+        Value::Scalar(scalar) => scalar_argument(before, *scalar, points),
+        Value::Aggregate(shape) => aggregate(before, shape, Side::Argument, points),
     }
 }
 
 /// A return (REFERENCE 9.4).
-pub fn returned(before: Before, value: &Value) -> Outcome {
+pub fn returned(before: Before, value: &Value, points: &mut Points) -> Outcome {
     match value {
-        Value::Void => nothing(Way::Ignore),
-        Value::Scalar(scalar) => scalar_return(before, *scalar),
-        Value::Aggregate(shape) => aggregate(before, shape, Side::Return),
+        Value::Void => void(points),
+        Value::Scalar(scalar) => scalar_return(before, *scalar, points),
+        Value::Aggregate(shape) => aggregate(before, shape, Side::Return, points),
     }
 }
 
 /// An argument after the dots (REFERENCE 9.5).
-pub fn after_dots(before: Before, value: &Value) -> Outcome {
+pub fn after_dots(before: Before, value: &Value, points: &mut Points) -> Outcome {
     match before.row {
         // For this argument alone, the call is integers-only.
-        RISCV_LP64D => argument(Before { integers_only: true, ..before }, value),
+        RISCV_LP64D => argument(Before { integers_only: true, ..before }, value, points),
         // Nothing changes the call. A scalar is itself; an aggregate finds both banks empty.
-        DARWIN_ARM64 => nothing(match value {
-            Value::Void => Way::Ignore,
-            Value::Scalar(_) => Way::Direct,
-            Value::Aggregate(_) => argument(Before { integers: 0, floats: 0, ..before }, value).way,
-        }),
-        _ => argument(before, value),
+        DARWIN_ARM64 => match value {
+            Value::Void => void(points),
+            Value::Scalar(_) => {
+                points.push(Point::Scalar("itself"));
+                nothing(Way::Direct)
+            }
+            Value::Aggregate(_) => {
+                let empty = Before { integers: 0, floats: 0, ..before };
+                nothing(argument(empty, value, points).way)
+            }
+        },
+        _ => argument(before, value, points),
     }
 }
 
+fn void(points: &mut Points) -> Outcome {
+    points.push(Point::Void);
+    nothing(Way::Ignore)
+}
+
 /// A scalar argument (REFERENCE 9.2): the first of ten lines that applies.
-fn scalar_argument(before: Before, scalar: Scalar) -> Outcome {
+fn scalar_argument(before: Before, scalar: Scalar, points: &mut Points) -> Outcome {
     let row = numbers::row(before.row);
     let (banks, rules) = (row.banks, row.scalars);
     let left = before.integers;
     let want = want(scalar.size, row);
     let is_integer = !scalar.is_float();
     let memory_format = numbers::optional_format(rules.in_memory);
-    if rules.wide_is_by_reference && ![1, 2, 4, 8].contains(&scalar.size) {
-        // 1. No register holds it: a pointer to it takes one integer register.
-        integers(Way::Reference, gives(1, left))
+    let (line, outcome) = if rules.wide_is_by_reference && ![1, 2, 4, 8].contains(&scalar.size) {
+        // No register holds it: a pointer to it takes one integer register.
+        ("line 1", integers(Way::Reference, gives(1, left)))
     } else if scalar.is_float() && scalar.kind == memory_format {
-        // 2. The row keeps this format in memory.
-        nothing(Way::Direct)
+        // The row keeps this format in memory.
+        ("line 2", nothing(Way::Direct))
     } else if rules.wide_integer_in_memory && is_integer && want > 1 {
-        // 3. The row keeps wide integers in memory, and no integer register survives one.
-        integers(Way::Direct, Spent { passed_over: left, given: 0 })
+        // The row keeps wide integers in memory, and no integer register survives one.
+        ("line 3", integers(Way::Direct, Spent { passed_over: left, given: 0 }))
     } else if before.integers_only && scalar.is_float() {
-        // 4. A float that may use integer registers alone is cut by their width.
+        // A float that may use integer registers alone is cut by their width.
         let slots = scalar.size.div_ceil(banks.integer_width);
-        integers(Way::Pieces(slots), gives(want, left))
+        ("line 4", integers(Way::Pieces(slots), gives(want, left)))
     } else if banks.shared {
-        // 5. Both banks are one sequence of places, and every value takes the next.
-        integers(Way::Direct, gives(1, left))
+        // Both banks are one sequence of places, and every value takes the next.
+        ("line 5", integers(Way::Direct, gives(1, left)))
     } else if scalar.is_float() && scalar.size <= banks.float_width {
-        // 6. A float that a float register holds takes one.
-        floats(Way::Direct, gives(1, before.floats))
+        // A float that a float register holds takes one.
+        ("line 6", floats(Way::Direct, gives(1, before.floats)))
     } else if scalar.is_float() {
-        // 7. A wider float takes integer registers.
-        integers(Way::Direct, gives(want, left))
+        // A wider float takes integer registers.
+        ("line 7", integers(Way::Direct, gives(want, left)))
     } else {
-        integers(Way::Direct, integer_argument(before, want))
-    }
+        let (line, spent) = integer_argument(before, want);
+        (line, integers(Way::Direct, spent))
+    };
+    points.push(Point::Scalar(line));
+    outcome
 }
 
 /// The last three lines for a scalar argument: an integer that none of the others applies to.
-fn integer_argument(before: Before, want: u64) -> Spent {
+fn integer_argument(before: Before, want: u64) -> (&'static str, Spent) {
     let row = numbers::row(before.row);
     let (rules, left) = (row.scalars, before.integers);
     if rules.wide_integer_is_all_or_nothing {
-        // 8. It takes all that it wants, or none.
-        return Spent { passed_over: 0, given: if want <= left { want } else { 0 } };
+        // It takes all that it wants, or none.
+        let given = if want <= left { want } else { 0 };
+        let line = if given > 0 { "line 8, all" } else { "line 8, none" };
+        return (line, Spent { passed_over: 0, given });
     }
     if want > 1 && (rules.wide_integer_starts_even || rules.wide_integer_drains) {
-        // 9. With an odd number used it passes one over to start evenly, if one is left. Then it
+        // With an odd number used it passes one over to start evenly, if one is left. Then it
         // takes all that it wants; where that doesn't fit, a row that drains passes the rest over.
         let used = u64::from(row.banks.integer) - left;
         let skipped = u64::from(rules.wide_integer_starts_even && used % 2 == 1 && left > 0);
         let rest = left - skipped;
         return if want <= rest {
-            Spent { passed_over: skipped, given: want }
+            let line = if skipped > 0 { "line 9, all from an even one" } else { "line 9, all" };
+            (line, Spent { passed_over: skipped, given: want })
         } else if rules.wide_integer_drains {
-            Spent { passed_over: skipped + rest, given: 0 }
+            ("line 9, drains", Spent { passed_over: skipped + rest, given: 0 })
         } else {
-            Spent { passed_over: skipped, given: 0 }
+            ("line 9, none", Spent { passed_over: skipped, given: 0 })
         };
     }
-    // 10. It takes what it wants as far as that is left.
-    gives(want, left)
+    // It takes what it wants as far as that is left.
+    ("line 10", gives(want, left))
 }
 
 /// A scalar return (REFERENCE 9.4).
-fn scalar_return(before: Before, scalar: Scalar) -> Outcome {
+fn scalar_return(before: Before, scalar: Scalar, points: &mut Points) -> Outcome {
     let row = numbers::row(before.row);
-    if !row.scalar_returns_by_reference(scalar.size) {
-        nothing(Way::Direct)
+    let (line, outcome) = if !row.scalar_returns_by_reference(scalar.size) {
+        ("itself", nothing(Way::Direct))
     } else if !scalar.is_float() && row.scalars.wide_integer_returns_in.is_some() {
         // It comes back in one float register, which isn't one of the call's.
-        nothing(Way::Pieces(1))
+        ("in a float register", nothing(Way::Pieces(1)))
     } else {
-        integers(Way::Reference, return_pointer(before, row))
-    }
+        ("by reference", integers(Way::Reference, return_pointer(before, row)))
+    };
+    points.push(Point::Scalar(line));
+    outcome
 }
 
 /// What the pointer to a return takes: one integer register, unless it has one of its own.
@@ -180,18 +225,21 @@ enum Side {
 }
 
 /// An aggregate (REFERENCE 9.3 and 9.4): the first rule that matches and doesn't go on.
-fn aggregate(before: Before, shape: &Shape, side: Side) -> Outcome {
+fn aggregate(before: Before, shape: &Shape, side: Side, points: &mut Points) -> Outcome {
     let rules = &probed_rules()[before.row];
     let rules = if side == Side::Return { &rules.returns } else { &rules.arguments };
-    for (rule, probe) in rules {
+    for (at, (rule, probe)) in rules.iter().enumerate() {
         let Some(found) = probe.find(shape) else { continue };
         let found_floats = found.iter().filter(|slot| slot.is_float()).count() as u64;
         // An argument that may use integer registers alone skips a rule that found a float.
         if before.integers_only && side == Side::Argument && found_floats > 0 {
+            points.push(Point::Rule(at, End::NoFloats));
             continue;
         }
         let found = Slots { integers: found.len() as u64 - found_floats, floats: found_floats };
-        if let Some(outcome) = travel(before, rule, found, shape, side) {
+        let (end, outcome) = travel(before, rule, found, shape, side);
+        points.push(Point::Rule(at, end));
+        if let Some(outcome) = outcome {
             return outcome;
         }
     }
@@ -205,15 +253,22 @@ struct Slots {
     floats: u64,
 }
 
-/// What a rule that matched comes to, or nothing where it goes on to the next one.
-fn travel(before: Before, rule: &Rule, found: Slots, shape: &Shape, side: Side) -> Option<Outcome> {
+/// What a rule that matched comes to, without an outcome where it goes on to the next one.
+fn travel(
+    before: Before,
+    rule: &Rule,
+    found: Slots,
+    shape: &Shape,
+    side: Side,
+) -> (End, Option<Outcome>) {
     let row = numbers::row(before.row);
+    let decides = |outcome| (End::Decides, Some(outcome));
     let slots = match rule.then {
-        Travel::Ignore => return Some(nothing(Way::Ignore)),
-        Travel::InMemory => return Some(nothing(Way::Memory)),
+        Travel::Ignore => return decides(nothing(Way::Ignore)),
+        Travel::InMemory => return decides(nothing(Way::Memory)),
         // In memory, and still an argument takes a register for each of its words.
         Travel::InMemoryAndSpend => {
-            return Some(match side {
+            return decides(match side {
                 Side::Argument => {
                     integers(Way::Memory, gives(want(shape.size, row), before.integers))
                 }
@@ -221,7 +276,7 @@ fn travel(before: Before, rule: &Rule, found: Slots, shape: &Shape, side: Side) 
             });
         }
         Travel::ByReference => {
-            return Some(match side {
+            return decides(match side {
                 Side::Argument => integers(Way::Reference, gives(1, before.integers)),
                 Side::Return => integers(Way::Reference, return_pointer(before, row)),
             });
@@ -232,30 +287,29 @@ fn travel(before: Before, rule: &Rule, found: Slots, shape: &Shape, side: Side) 
         }
         Travel::AsOneInteger => Slots { integers: 1, floats: 0 },
     };
-    in_slots(before, rule.short, slots, side)
-}
-
-/// An aggregate in slots, or nothing where the rule is short and goes on to the next one.
-fn in_slots(before: Before, short: Short, slots: Slots, side: Side) -> Option<Outcome> {
-    let all = slots.integers + slots.floats;
-    let pieces = Way::Pieces(all);
     // A return's registers aren't those that arguments take.
     if side == Side::Return {
-        return Some(nothing(pieces));
+        return decides(nothing(Way::Pieces(slots.integers + slots.floats)));
     }
+    in_slots(before, rule.short, slots)
+}
+
+/// An aggregate argument in slots, without an outcome where the rule is short and goes on.
+fn in_slots(before: Before, short: Short, slots: Slots) -> (End, Option<Outcome>) {
+    let all = slots.integers + slots.floats;
     // The cost is a register for each slot, from its own bank unless both are one.
     let shared = numbers::row(before.row).banks.shared;
     let (cost_i, cost_f) = if shared { (all, 0) } else { (slots.integers, slots.floats) };
     let (fits_i, fits_f) = (cost_i <= before.integers, cost_f <= before.floats);
     let taken = Outcome {
-        way: pieces,
+        way: Way::Pieces(all),
         integers: gives(cost_i, before.integers),
         floats: gives(cost_f, before.floats),
     };
     if fits_i && fits_f {
-        return Some(taken);
+        return (End::Fits, Some(taken));
     }
-    match short {
+    let outcome = match short {
         // It gives what is left, up to the cost.
         Short::Unchanged => Some(taken),
         // It goes to memory and leaves both banks alone.
@@ -267,7 +321,8 @@ fn in_slots(before: Before, short: Short, slots: Slots, side: Side) -> Option<Ou
             floats: drains(!fits_f, before.floats),
         }),
         Short::TryNextRule => None,
-    }
+    };
+    (End::Short, outcome)
 }
 
 /// How many integer registers a size is worth, at least one.

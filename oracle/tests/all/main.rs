@@ -2,6 +2,7 @@
 
 mod calls;
 mod common;
+mod coverage;
 mod every_count;
 mod find;
 mod generate;

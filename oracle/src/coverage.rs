@@ -1,0 +1,232 @@
+//! `oracle coverage`: which rules a sheet decides by, and how often.
+//!
+//! What can decide is read off the original's descriptions: each rule of both lists of each row,
+//! with what it comes to, each line for scalars that the row's fields let apply, and the same after
+//! the dots and behind the mark where these change the answer. A sheet covers them if each decides
+//! at least once, and if nothing else does: then this list is the right one.
+
+use std::collections::HashMap;
+use std::io::{self, Write};
+
+use rucc_abi::{AbiDescription, Short, Travel, Variadic};
+
+use crate::numbers;
+use crate::sheet::{self, Asked, Decided, Ending, REFUSED};
+use crate::spending::{DARWIN_ARM64, End, Point, RISCV_LP64D, WINDOWS_ARM64};
+use crate::values::LARGEST_SCALAR;
+
+/// Prints how often each of them decides. The inner error tells what is wrong with the sheet.
+pub fn print(out: &mut impl Write, sheet: &[u8]) -> io::Result<Result<(), String>> {
+    let mut times: HashMap<String, u64> = HashMap::new();
+    let mut operations = 0;
+    let ending = sheet::follow(sheet, |line, decided| {
+        operations += 1;
+        let what = match line.word {
+            REFUSED => format!("refusal {}", line.rest[0]),
+            word => format!("line {word}"),
+        };
+        let points = decided.points.iter().map(|point| name(decided, *point));
+        for name in points.chain(operation(decided)).chain([what]) {
+            *times.entry(name).or_default() += 1;
+        }
+        Ok(())
+    })?;
+    if let Ending::Contradiction(message) = ending {
+        return Ok(Err(message));
+    }
+    let expected = expected();
+    let mut wrong = Vec::new();
+    for name in &expected {
+        let count = times.remove(name).unwrap_or(0);
+        writeln!(out, "{name}: {count}")?;
+        if count == 0 {
+            wrong.push(format!("never: {name}"));
+        }
+    }
+    wrong.extend(times.keys().map(|name| format!("not expected: {name}")));
+    writeln!(out, "{} places in {operations} operations", expected.len())?;
+    Ok(if wrong.is_empty() { Ok(()) } else { Err(wrong.join("\n")) })
+}
+
+/// The rules that an argument goes by: the row's, the mark's, or those after the dots.
+#[derive(Clone, Copy, PartialEq, Eq)]
+enum Rules {
+    Return,
+    Argument,
+    Marked,
+    AfterDots,
+    MarkedAfterDots,
+}
+
+impl Rules {
+    const fn text(self) -> &'static str {
+        match self {
+            Self::Return => "return",
+            Self::Argument => "argument",
+            Self::Marked => "marked argument",
+            Self::AfterDots => "after the dots",
+            Self::MarkedAfterDots => "marked, after the dots",
+        }
+    }
+
+    /// Those that a row has. Elsewhere an argument after the dots is an argument.
+    fn of(row: usize) -> &'static [Self] {
+        match row {
+            WINDOWS_ARM64 => &[
+                Self::Return,
+                Self::Argument,
+                Self::Marked,
+                Self::AfterDots,
+                Self::MarkedAfterDots,
+            ],
+            DARWIN_ARM64 | RISCV_LP64D => &[Self::Return, Self::Argument, Self::AfterDots],
+            _ => &[Self::Return, Self::Argument],
+        }
+    }
+}
+
+/// What an operation itself covers.
+fn operation(decided: &Decided) -> Option<String> {
+    let row = decided.row?;
+    let what = match decided.asked {
+        Asked::Fresh => "fresh",
+        Asked::Mark => "mark",
+        Asked::AfterDots => "an argument after the dots",
+        _ => return None,
+    };
+    Some(format!("row {row} {what}"))
+}
+
+fn name(decided: &Decided, point: Point) -> String {
+    let row = decided.row.expect("only an open call decides");
+    let apart = Rules::of(row).contains(&Rules::AfterDots);
+    let rules = match (decided.asked, decided.integers_only) {
+        (Asked::Return, _) => Rules::Return,
+        (Asked::AfterDots, false) if apart => Rules::AfterDots,
+        (Asked::AfterDots, true) if apart => Rules::MarkedAfterDots,
+        (_, true) => Rules::Marked,
+        _ => Rules::Argument,
+    };
+    place(row, rules, point)
+}
+
+fn place(row: usize, rules: Rules, point: Point) -> String {
+    let list = rules.text();
+    match point {
+        Point::Void => format!("row {row} {list} void"),
+        Point::Scalar(line) => format!("row {row} {list} scalar {line}"),
+        Point::Rule(at, end) => {
+            let description = numbers::row(row);
+            let returns = rules == Rules::Return;
+            let rule = if returns { description.returns[at] } else { description.arguments[at] };
+            let end = match (end, rule.short) {
+                (End::Decides, _) => "decides",
+                (End::Fits, _) => "fits",
+                (End::Short, Short::Unchanged) => "short, unchanged",
+                (End::Short, Short::Memory) => "short, memory",
+                (End::Short, Short::MemoryAndDrain) => "short, memory and drain",
+                (End::Short, Short::TryNextRule) => "short, the next rule",
+                (End::NoFloats, _) => "found floats, the next rule",
+            };
+            format!("row {row} {list} rule {at} {end}")
+        }
+    }
+}
+
+/// Everything that a sheet can show, in order. Of the refusals, 2, 3 and 7 are missing: a sheet's
+/// calls come from its own operations, its pieces are whole and 1,025 of them stop it, and there is
+/// room for the most slots of any answer.
+fn expected() -> Vec<String> {
+    let mut expected: Vec<String> =
+        ["fresh", "marked", "ignore", "direct", "pieces", "reference", "memory"]
+            .iter()
+            .map(|word| format!("line {word}"))
+            .collect();
+    expected.extend([1, 4, 5, 6].iter().map(|refusal| format!("refusal {refusal}")));
+    for row in 0..numbers::ROWS {
+        for what in ["fresh", "mark", "an argument after the dots"] {
+            expected.push(format!("row {row} {what}"));
+        }
+        for &rules in Rules::of(row) {
+            let description = numbers::row(row);
+            let points =
+                [vec![Point::Void], scalars(description, rules), aggregates(description, rules)];
+            expected.extend(points.concat().iter().map(|point| place(row, rules, *point)));
+        }
+    }
+    expected
+}
+
+/// Whether an argument by these rules may use integer registers alone.
+fn integers_only(row: &AbiDescription, rules: Rules) -> bool {
+    match row.variadic {
+        Variadic::IntegersOnly => matches!(rules, Rules::Marked | Rules::MarkedAfterDots),
+        Variadic::UnnamedIntegers => rules == Rules::AfterDots,
+        _ => false,
+    }
+}
+
+/// Whether an argument by these rules finds both banks empty.
+fn nothing_left(row: &AbiDescription, rules: Rules) -> bool {
+    row.variadic == Variadic::AlwaysMemory && rules == Rules::AfterDots
+}
+
+/// The lines by which a scalar can be decided (REFERENCE 9.2, 9.4 and 9.5).
+fn scalars(row: &AbiDescription, rules: Rules) -> Vec<Point> {
+    let fields = row.scalars;
+    let by_reference = (0..=LARGEST_SCALAR).any(|size| row.scalar_returns_by_reference(size));
+    let in_float = fields.wide_integer_returns_in.is_some();
+    let integers_only = integers_only(row, rules);
+    let (apart, all_or_none) = (!row.banks.shared, fields.wide_integer_is_all_or_nothing);
+    let wide = fields.wide_integer_starts_even || fields.wide_integer_drains;
+    let floats = apart && !integers_only;
+    let lines: &[(&'static str, bool)] = match rules {
+        Rules::Return => &[
+            ("itself", true),
+            ("in a float register", by_reference && in_float),
+            ("by reference", by_reference),
+        ],
+        _ if nothing_left(row, rules) => &[("itself", true)],
+        _ => &[
+            ("line 1", fields.wide_is_by_reference),
+            ("line 2", fields.in_memory.is_some()),
+            ("line 3", fields.wide_integer_in_memory),
+            ("line 4", integers_only),
+            ("line 5", row.banks.shared),
+            ("line 6", floats),
+            ("line 7", floats && row.banks.float_width < LARGEST_SCALAR),
+            ("line 8, all", apart && all_or_none),
+            ("line 8, none", apart && all_or_none),
+            ("line 9, all", apart && !all_or_none && wide),
+            (
+                "line 9, all from an even one",
+                apart && !all_or_none && fields.wide_integer_starts_even,
+            ),
+            ("line 9, drains", apart && !all_or_none && fields.wide_integer_drains),
+            ("line 9, none", apart && !all_or_none && wide && !fields.wide_integer_drains),
+            ("line 10", apart && !all_or_none),
+        ],
+    };
+    lines.iter().filter(|(_, applies)| *applies).map(|(line, _)| Point::Scalar(line)).collect()
+}
+
+/// What each rule can come to for an aggregate (REFERENCE 9.3 to 9.5).
+fn aggregates(row: &AbiDescription, rules: Rules) -> Vec<Point> {
+    let returns = rules == Rules::Return;
+    let list = if returns { row.returns } else { row.arguments };
+    let mut points = Vec::new();
+    for (at, rule) in list.iter().enumerate() {
+        let ends: &[End] = match rule.then {
+            _ if returns => &[End::Decides],
+            Travel::Ignore | Travel::InMemory | Travel::InMemoryAndSpend | Travel::ByReference => {
+                &[End::Decides]
+            }
+            // The two tests of such rows find a float in all that they match.
+            Travel::AsFound if integers_only(row, rules) => &[End::NoFloats],
+            _ if nothing_left(row, rules) => &[End::Short],
+            _ => &[End::Fits, End::Short],
+        };
+        points.extend(ends.iter().map(|end| Point::Rule(at, *end)));
+    }
+    points
+}
