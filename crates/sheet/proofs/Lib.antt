@@ -10,4 +10,5 @@ pub mod StepLaws
 pub mod StepsLaws
 pub mod ChunkLaws
 pub mod Chunks
+pub mod Decimal
 mod Unique
