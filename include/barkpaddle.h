@@ -1,0 +1,357 @@
+/*
+ * Barkpaddle: how each value of a call travels, on thirty calling conventions.
+ *
+ * Everything comes in and goes out as 64-bit numbers, called words. docs/REFERENCE.md has the rules; its section 13 is about these
+ * entries. They are proved: every entry answers every input, traps on none, allocates nothing, keeps no state and touches no memory but
+ * the buffers that it is lent, so that calls from several threads need no care.
+ *
+ * Lists and buffers. A list of words or bytes is a pointer and how many there are; NULL may be handed over with the number 0, and
+ * otherwise the pointer has to point to that many. A buffer that an entry writes to may not overlap another that the same call is
+ * lent. An entry that writes puts its result at the front of the buffer; every word behind it keeps its value.
+ *
+ * Refusals. An answer's first number is its refusal, 0 where the input is accepted. A refused operation hands back the call that it was
+ * handed (a refused fresh one: all zeros), answers 0 in every other number, and leaves every lent buffer as it was. Where several
+ * refusals would apply, the first in the order given with the entry is answered.
+ *
+ * Yes and no. A number that stands for yes or no is a yes where it isn't 0, and comes back as 0 or 1.
+ *
+ * Numbers to come. Later versions may add refusals, ways, kinds, conventions, descriptions and the codes of a description's fields; those
+ * that are here keep their meaning. A program that meets a number it doesn't know should treat it as one that it can't handle.
+ */
+#ifndef BARKPADDLE_H
+#define BARKPADDLE_H
+
+#include <stdint.h>
+
+#ifdef __cplusplus
+extern "C" {
+#endif
+
+/* ---- numbers ---- */
+
+/* "None", from an entry that looks something up. */
+#define BARKPADDLE_NONE UINT64_MAX
+
+/* The descriptions are numbered from 0 (REFERENCE 5.5 has all thirty). */
+#define BARKPADDLE_DESCRIPTIONS UINT64_C(30)
+#define BARKPADDLE_SYSV_AMD64 UINT64_C(0)
+#define BARKPADDLE_AAPCS64 UINT64_C(1)
+#define BARKPADDLE_DARWIN_ARM64 UINT64_C(2)
+#define BARKPADDLE_WINDOWS_ARM64 UINT64_C(3)
+#define BARKPADDLE_WINDOWS_X64 UINT64_C(4)
+#define BARKPADDLE_RISCV_LP64D UINT64_C(5)
+#define BARKPADDLE_I386_SYSV UINT64_C(6)
+
+/* Refusals. */
+#define BARKPADDLE_ACCEPTED UINT64_C(0)
+#define BARKPADDLE_BAD_ABI UINT64_C(1)   /* there is no description of this number */
+#define BARKPADDLE_BAD_CALL UINT64_C(2)  /* more registers left than there are, or the integers-only mark where there is none */
+#define BARKPADDLE_BAD_LIST UINT64_C(3)  /* the words don't make whole records, or too many */
+#define BARKPADDLE_BAD_KIND UINT64_C(4)  /* no kind has this number */
+#define BARKPADDLE_BAD_SIZE UINT64_C(5)  /* a size or an offset is above its limit */
+#define BARKPADDLE_BAD_ALIGN UINT64_C(6) /* an alignment is above its limit; in a record: all are 0 */
+#define BARKPADDLE_NO_ROOM UINT64_C(7)   /* the result doesn't fit the buffer */
+
+/* Kinds of scalars, pieces and slots. Those but the integer's are also called formats. */
+#define BARKPADDLE_INTEGER UINT64_C(0)
+#define BARKPADDLE_SINGLE UINT64_C(1)
+#define BARKPADDLE_DOUBLE UINT64_C(2)
+#define BARKPADDLE_X87_EXTENDED UINT64_C(3)
+#define BARKPADDLE_QUAD UINT64_C(4)
+/* "No format", in a description's fields and in barkpaddle_wide_integer_returns_in. */
+#define BARKPADDLE_NO_FORMAT UINT64_C(0)
+
+/* Ways in which a value travels. */
+#define BARKPADDLE_IGNORE UINT64_C(0)    /* nothing travels */
+#define BARKPADDLE_DIRECT UINT64_C(1)    /* the value itself, in the registers that it was given, or on the stack */
+#define BARKPADDLE_PIECES UINT64_C(2)    /* its bytes, in the slots that were written */
+#define BARKPADDLE_REFERENCE UINT64_C(3) /* the address of a copy, or of the place for a result */
+#define BARKPADDLE_MEMORY UINT64_C(4)    /* its bytes, in the argument area */
+
+/* The words of a scalar; of a piece, which is a scalar inside an aggregate; and of a slot, which is one register's worth of one. */
+#define BARKPADDLE_SCALAR_KIND 0
+#define BARKPADDLE_SCALAR_SIZE 1
+#define BARKPADDLE_SCALAR_ALIGN 2
+#define BARKPADDLE_SCALAR_WORDS 3
+
+#define BARKPADDLE_PIECE_KIND 0
+#define BARKPADDLE_PIECE_SIZE 1
+#define BARKPADDLE_PIECE_ALIGN 2
+#define BARKPADDLE_PIECE_OFFSET 3
+#define BARKPADDLE_PIECE_WORDS 4
+
+#define BARKPADDLE_SLOT_KIND 0
+#define BARKPADDLE_SLOT_OFFSET 1
+#define BARKPADDLE_SLOT_SIZE 2 /* 0 for a float: its kind says it */
+#define BARKPADDLE_SLOT_WORDS 3
+
+/* No result needs more slots than this, so a buffer of 24 words is never too small. */
+#define BARKPADDLE_MOST_SLOTS 8
+#define BARKPADDLE_MOST_SLOT_WORDS (BARKPADDLE_MOST_SLOTS * BARKPADDLE_SLOT_WORDS)
+
+/* Limits: each of these numbers is still accepted. */
+#define BARKPADDLE_LARGEST_SCALAR UINT64_C(64)       /* size of a scalar or a piece */
+#define BARKPADDLE_LARGEST_SHAPE UINT64_C(16777216)  /* size of an aggregate */
+#define BARKPADDLE_LARGEST_OFFSET UINT64_C(16777216) /* offset of a piece */
+#define BARKPADDLE_LARGEST_ALIGN UINT64_C(4096)      /* any alignment */
+#define BARKPADDLE_MOST_PIECES UINT64_C(1024)        /* records of a list */
+
+/* No description's and no attribute's name has more bytes than this. */
+#define BARKPADDLE_MOST_NAME_BYTES 64
+
+/* Architectures. */
+#define BARKPADDLE_X86 UINT64_C(0)
+#define BARKPADDLE_X86_64 UINT64_C(1)
+#define BARKPADDLE_AARCH64 UINT64_C(2)
+#define BARKPADDLE_RISCV64 UINT64_C(3)
+#define BARKPADDLE_OTHER_ARCHITECTURE UINT64_C(4)
+
+/* Systems. */
+#define BARKPADDLE_WINDOWS UINT64_C(0)
+#define BARKPADDLE_MACOS UINT64_C(1)
+#define BARKPADDLE_OTHER_DARWIN UINT64_C(2)
+#define BARKPADDLE_OTHER_SYSTEM UINT64_C(3)
+
+/* Conventions. */
+#define BARKPADDLE_TARGET UINT64_C(0) /* the target's own */
+#define BARKPADDLE_MS UINT64_C(1)
+#define BARKPADDLE_SYSV UINT64_C(2)
+#define BARKPADDLE_STDCALL UINT64_C(3)
+#define BARKPADDLE_FASTCALL UINT64_C(4)
+#define BARKPADDLE_NO_CALLEE_SAVED UINT64_C(5)
+#define BARKPADDLE_PRESERVE_NONE UINT64_C(6)
+#define BARKPADDLE_REGPARM(n) (UINT64_C(256) + (n)) /* n from 0 to 255 */
+
+/* A description's fields (REFERENCE 5.4). */
+#define BARKPADDLE_FIRST_ARGUMENT UINT64_C(0) /* return_pointer */
+#define BARKPADDLE_FIRST_ARGUMENT_POPPED UINT64_C(1)
+#define BARKPADDLE_DEDICATED UINT64_C(2)
+
+#define BARKPADDLE_SAME_AS_FIXED UINT64_C(0) /* variadic */
+#define BARKPADDLE_ALWAYS_MEMORY UINT64_C(1)
+#define BARKPADDLE_BOTH_BANKS UINT64_C(2)
+#define BARKPADDLE_INTEGERS_ONLY UINT64_C(3)
+#define BARKPADDLE_UNNAMED_INTEGERS UINT64_C(4)
+
+#define BARKPADDLE_REGISTER_SIZED UINT64_C(0) /* stack_args */
+#define BARKPADDLE_PACKED UINT64_C(1)
+
+#define BARKPADDLE_UNSPECIFIED UINT64_C(0) /* narrow */
+#define BARKPADDLE_TO_INT UINT64_C(1)
+#define BARKPADDLE_ARGS_TO_INT UINT64_C(2)
+
+#define BARKPADDLE_SPARE_BITS UINT64_C(0) /* bit_ints */
+#define BARKPADDLE_UNTAUGHT UINT64_C(1)
+
+#define BARKPADDLE_CALLER UINT64_C(0) /* cleanup */
+#define BARKPADDLE_CALLEE UINT64_C(1)
+
+/* A rule's test. The number beside it is a limit, four sizes (below), or 0 where the test has none. */
+#define BARKPADDLE_NO_RULE UINT64_C(0) /* past the end of the list */
+#define BARKPADDLE_TEST_ANYTHING UINT64_C(1)
+#define BARKPADDLE_TEST_EMPTY UINT64_C(2)
+#define BARKPADDLE_TEST_SIZE_ONE_OF UINT64_C(3)  /* four sizes */
+#define BARKPADDLE_TEST_SIZE_AT_MOST UINT64_C(4) /* a limit in bytes */
+#define BARKPADDLE_TEST_HOMOGENEOUS UINT64_C(5)  /* a limit in pieces */
+#define BARKPADDLE_TEST_FLOAT_PAIR UINT64_C(6)
+#define BARKPADDLE_TEST_X87_STACK UINT64_C(7)
+#define BARKPADDLE_TEST_LONE_FLOAT UINT64_C(8)
+#define BARKPADDLE_TEST_FLOATING_MODE UINT64_C(9)
+#define BARKPADDLE_TEST_COMPLEX_FLOAT UINT64_C(10)
+#define BARKPADDLE_TEST_EIGHTBYTES UINT64_C(11) /* a limit in bytes */
+/* Size `i`, from 0 to 3, of the four in a test's number: two bits each, the first lowest, for 1, 2, 4 and 8. */
+#define BARKPADDLE_SIZE_ONE_OF(number, i) (UINT64_C(1) << (((number) >> (2 * (i))) & 3))
+
+/* How an aggregate travels where the test matched. */
+#define BARKPADDLE_TRAVEL_IGNORE UINT64_C(0)
+#define BARKPADDLE_TRAVEL_AS_FOUND UINT64_C(1)
+#define BARKPADDLE_TRAVEL_AS_INTEGERS UINT64_C(2)
+#define BARKPADDLE_TRAVEL_AS_ONE_INTEGER UINT64_C(3)
+#define BARKPADDLE_TRAVEL_BY_REFERENCE UINT64_C(4)
+#define BARKPADDLE_TRAVEL_IN_MEMORY UINT64_C(5)
+#define BARKPADDLE_TRAVEL_IN_MEMORY_AND_SPEND UINT64_C(6)
+
+/* What happens where an argument's slots want more registers than are left. */
+#define BARKPADDLE_SHORT_UNCHANGED UINT64_C(0)
+#define BARKPADDLE_SHORT_MEMORY UINT64_C(1)
+#define BARKPADDLE_SHORT_MEMORY_AND_DRAIN UINT64_C(2)
+#define BARKPADDLE_SHORT_TRY_NEXT_RULE UINT64_C(3)
+
+/* ---- answers ---- */
+
+/* What an operation on a call answers. */
+typedef struct barkpaddle_answer {
+    uint64_t refusal;
+    uint64_t way;
+    uint64_t abi; /* the next call: these four are handed to the next operation */
+    uint64_t integer;
+    uint64_t float_;
+    uint64_t integers_only;
+    uint64_t integers_passed; /* registers that this value passed over and was given; it passes over first */
+    uint64_t integers_given;
+    uint64_t floats_passed;
+    uint64_t floats_given;
+    uint64_t slots; /* how many slots were written */
+} barkpaddle_answer;
+
+/* A refusal, or one number. */
+typedef struct barkpaddle_told {
+    uint64_t refusal;
+    uint64_t value;
+} barkpaddle_told;
+
+/* A refusal, or the shape of a record. */
+typedef struct barkpaddle_record_shape {
+    uint64_t refusal;
+    uint64_t size;
+    uint64_t align;
+    uint64_t complex_;
+    uint64_t floating;
+} barkpaddle_record_shape;
+
+/* A refusal, or what a description says beside its rules and its name (REFERENCE 5.1, 5.2, 5.4). */
+typedef struct barkpaddle_description_fields {
+    uint64_t refusal;
+    uint64_t integer;
+    uint64_t float_;
+    uint64_t shared;
+    uint64_t integer_width;
+    uint64_t float_width;
+    uint64_t in_memory; /* a format */
+    uint64_t wide_integer_is_all_or_nothing;
+    uint64_t wide_integer_starts_even;
+    uint64_t wide_integer_drains;
+    uint64_t wide_is_by_reference;
+    uint64_t wide_integer_returns_in; /* a format */
+    uint64_t wide_integer_in_memory;
+    uint64_t decimal_in_integers;
+    uint64_t quad_returns_by_reference;
+    uint64_t return_pointer;
+    uint64_t variadic;
+    uint64_t stack_args;
+    uint64_t narrow;
+    uint64_t bit_ints;
+    uint64_t cleanup;
+} barkpaddle_description_fields;
+
+/* A refusal, or a rule for aggregates (REFERENCE 5.3). */
+typedef struct barkpaddle_rule {
+    uint64_t refusal;
+    uint64_t test;
+    uint64_t number;
+    uint64_t travel;
+    uint64_t short_;
+} barkpaddle_rule;
+
+/* ---- a call and its operations ----
+ *
+ * A call is four numbers: its description, the integer and the float registers left, and the integers-only mark. Each operation takes a
+ * call and answers the next one in the same four fields.
+ *
+ * Every operation refuses, in this order: BAD_ABI; BAD_CALL; what its value has to be refused for; NO_ROOM.
+ * A scalar is refused by kind, size, alignment. An aggregate: BAD_LIST; its size; its alignment; then its pieces from the first, each by
+ * kind, size, offset, alignment. Void has nothing to check.
+ *
+ * `words` are an aggregate's pieces, `words_length` words of them. Slots go to the front of `slots`, which has `slots_length` words and so
+ * room for a third as many slots, rounded down; ways other than PIECES write nothing. NO_ROOM judges what the result needs.
+ */
+
+/* The start of a call on a description: both banks whole, no mark. Refuses BAD_ABI. */
+barkpaddle_answer barkpaddle_fresh(uint64_t abi);
+
+/* The same call, to a function whose parameters end in dots (REFERENCE 9.6). May come late and more than once. Refuses BAD_ABI, then
+ * BAD_CALL. */
+barkpaddle_answer barkpaddle_variadic(uint64_t abi, uint64_t integer, uint64_t float_, uint64_t integers_only);
+
+/* How the return value comes back (REFERENCE 9.4). */
+barkpaddle_answer barkpaddle_return_void(
+    uint64_t abi, uint64_t integer, uint64_t float_, uint64_t integers_only, uint64_t *slots, uint64_t slots_length);
+barkpaddle_answer barkpaddle_return_scalar(
+    uint64_t abi, uint64_t integer, uint64_t float_, uint64_t integers_only, uint64_t kind, uint64_t size, uint64_t align,
+    uint64_t *slots, uint64_t slots_length);
+barkpaddle_answer barkpaddle_return_aggregate(
+    uint64_t abi, uint64_t integer, uint64_t float_, uint64_t integers_only, uint64_t size, uint64_t align, uint64_t complex_,
+    uint64_t floating, const uint64_t *words, uint64_t words_length, uint64_t *slots, uint64_t slots_length);
+
+/* How the next fixed argument travels (REFERENCE 9.2, 9.3). */
+barkpaddle_answer barkpaddle_argument_void(
+    uint64_t abi, uint64_t integer, uint64_t float_, uint64_t integers_only, uint64_t *slots, uint64_t slots_length);
+barkpaddle_answer barkpaddle_argument_scalar(
+    uint64_t abi, uint64_t integer, uint64_t float_, uint64_t integers_only, uint64_t kind, uint64_t size, uint64_t align,
+    uint64_t *slots, uint64_t slots_length);
+barkpaddle_answer barkpaddle_argument_aggregate(
+    uint64_t abi, uint64_t integer, uint64_t float_, uint64_t integers_only, uint64_t size, uint64_t align, uint64_t complex_,
+    uint64_t floating, const uint64_t *words, uint64_t words_length, uint64_t *slots, uint64_t slots_length);
+
+/* How the next argument after the dots travels (REFERENCE 9.5). */
+barkpaddle_answer barkpaddle_variadic_argument_void(
+    uint64_t abi, uint64_t integer, uint64_t float_, uint64_t integers_only, uint64_t *slots, uint64_t slots_length);
+barkpaddle_answer barkpaddle_variadic_argument_scalar(
+    uint64_t abi, uint64_t integer, uint64_t float_, uint64_t integers_only, uint64_t kind, uint64_t size, uint64_t align,
+    uint64_t *slots, uint64_t slots_length);
+barkpaddle_answer barkpaddle_variadic_argument_aggregate(
+    uint64_t abi, uint64_t integer, uint64_t float_, uint64_t integers_only, uint64_t size, uint64_t align, uint64_t complex_,
+    uint64_t floating, const uint64_t *words, uint64_t words_length, uint64_t *slots, uint64_t slots_length);
+
+/* What a fixed argument that travels as MEMORY is aligned to in the argument area (REFERENCE 9.7). Refuses like
+ * barkpaddle_argument_aggregate, but never NO_ROOM. */
+barkpaddle_told barkpaddle_in_memory(
+    uint64_t abi, uint64_t integer, uint64_t float_, uint64_t integers_only, uint64_t size, uint64_t align, uint64_t complex_,
+    uint64_t floating, const uint64_t *words, uint64_t words_length);
+
+/* ---- records from their members ---- */
+
+/* Places each member, a scalar of three words, at the next offset that it fits, and writes them as pieces of four words; answers how many.
+ * Refuses, in this order: BAD_LIST; the members from the first by kind, size, alignment; NO_ROOM (REFERENCE 4.2). */
+barkpaddle_told barkpaddle_pieces(const uint64_t *members, uint64_t members_length, uint64_t *pieces, uint64_t pieces_length);
+
+/* The record that these pieces make. Refuses, in this order: BAD_LIST; the pieces from the first by kind, size, offset, alignment;
+ * BAD_ALIGN where there are pieces and all alignments are 0; BAD_SIZE where the rounded size is above the limit (REFERENCE 4.3). */
+barkpaddle_record_shape barkpaddle_record(const uint64_t *words, uint64_t words_length);
+
+/* ---- what a description says ---- */
+
+/* Its fields. Refuses BAD_ABI; every other field is 0 then. */
+barkpaddle_description_fields barkpaddle_description(uint64_t abi);
+
+/* Rule `index`, from 0, of its list for returns and of its list for arguments. Past the end of the list the test is NO_RULE and the other
+ * fields are 0. Refuses BAD_ABI. */
+barkpaddle_rule barkpaddle_return_rule(uint64_t abi, uint64_t index);
+barkpaddle_rule barkpaddle_argument_rule(uint64_t abi, uint64_t index);
+
+/* Its name, without a 0 at the end, to the front of the buffer; answers how many bytes. Refuses BAD_ABI, then NO_ROOM. */
+barkpaddle_told barkpaddle_name(uint64_t abi, uint8_t *name, uint64_t name_length);
+
+/* Questions about a scalar of a size (REFERENCE 5.7). Each refuses BAD_ABI, then BAD_SIZE. The first two answer yes or no: does it travel
+ * as the address of a copy; does it come back through an address that the caller passes. The third answers the format in which an
+ * integer comes back that would be by reference otherwise, or NO_FORMAT. */
+barkpaddle_told barkpaddle_scalar_is_by_reference(uint64_t abi, uint64_t size);
+barkpaddle_told barkpaddle_scalar_returns_by_reference(uint64_t abi, uint64_t size);
+barkpaddle_told barkpaddle_wide_integer_returns_in(uint64_t abi, uint64_t size);
+
+/* ---- which description a target and a convention follow (REFERENCE 6) ----
+ *
+ * These refuse nothing: to a code that they don't know the lookups answer NONE, and barkpaddle_callee_pops answers no. `msvc` is yes or no.
+ */
+
+/* The description that a target follows, or NONE. */
+uint64_t barkpaddle_for_target(uint64_t architecture, uint64_t system, uint64_t msvc);
+
+/* The description that a function of a convention follows on a target, or NONE. */
+uint64_t barkpaddle_for_convention(uint64_t architecture, uint64_t system, uint64_t msvc, uint64_t convention);
+
+/* The convention that an attribute's name asks for on a target, or NONE. The name is compared whole, case for case. */
+uint64_t barkpaddle_asked(uint64_t architecture, uint64_t system, uint64_t msvc, const uint8_t *name, uint64_t name_length);
+
+/* The name of the attribute that asks for a convention, to the front of the buffer; answers how many bytes, or NONE where there is no name.
+ * Refuses NO_ROOM. */
+barkpaddle_told barkpaddle_attribute(uint64_t convention, uint8_t *name, uint64_t name_length);
+
+/* Whether the callee of a convention takes its arguments off the stack. */
+uint64_t barkpaddle_callee_pops(uint64_t convention);
+
+#ifdef __cplusplus
+}
+#endif
+
+#endif

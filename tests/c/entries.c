@@ -1,0 +1,774 @@
+/*
+ * Calls every entry of barkpaddle.h on good and on refused input, and checks each number of each answer and every word of each lent buffer.
+ *
+ * What is expected comes from the table of twelve calls and the rules of docs/REFERENCE.md, and from the lines that the original prints for
+ * the same calls (oracle/tests/all/calls.rs), never from the library. lines.c beside this file holds it against the original's own answers.
+ *
+ * Prints how many checks passed. What fails is said with its place, and the exit status is 1.
+ */
+#include <stdio.h>
+#include <string.h>
+
+#include "barkpaddle.h"
+
+static unsigned long passed;
+static unsigned long failed;
+
+static void check_number(const char *place, const char *what, uint64_t expected, uint64_t got)
+{
+    if (expected == got) {
+        passed++;
+        return;
+    }
+    failed++;
+    if (failed <= 40)
+        printf("FAILED %s: %s is %llu, not %llu\n", place, what, (unsigned long long)got, (unsigned long long)expected);
+}
+
+/* ---- lent buffers ---- */
+
+#define ROOM 40
+#define COUNT(array) (sizeof(array) / sizeof((array)[0]))
+
+/* Word `i` of a buffer that nobody has written to. */
+static uint64_t untouched(uint64_t i)
+{
+    return UINT64_C(0xA5A5A5A500000000) + i;
+}
+
+static uint64_t lent[ROOM];
+
+static void fill(void)
+{
+    uint64_t i;
+
+    for (i = 0; i < ROOM; i++)
+        lent[i] = untouched(i);
+}
+
+/* The front of the buffer holds these words, and all behind them is as it was. */
+static void check_lent(const char *place, const uint64_t *words, uint64_t count)
+{
+    uint64_t i;
+
+    for (i = 0; i < count; i++)
+        check_number(place, "a word at the buffer's front", words[i], lent[i]);
+    for (i = count; i < ROOM; i++)
+        check_number(place, "a word behind the result", untouched(i), lent[i]);
+}
+
+static uint8_t lent_bytes[ROOM + 40];
+
+static void fill_bytes(void)
+{
+    memset(lent_bytes, 0xA5, sizeof lent_bytes);
+}
+
+static void check_bytes(const char *place, const char *text)
+{
+    size_t i;
+    size_t count = strlen(text);
+
+    for (i = 0; i < count; i++)
+        check_number(place, "a byte of the text", (uint8_t)text[i], lent_bytes[i]);
+    for (i = count; i < sizeof lent_bytes; i++)
+        check_number(place, "a byte behind the text", 0xA5, lent_bytes[i]);
+}
+
+/* ---- operations, as one function ---- */
+
+enum operation { RETURN, ARGUMENT, AFTER_DOTS };
+enum what { VOID, SCALAR, AGGREGATE };
+
+typedef struct call {
+    uint64_t abi, integer, float_, integers_only;
+} call;
+
+typedef struct value {
+    enum what what;
+    uint64_t kind, size, align, complex_, floating;
+    const uint64_t *words;
+    uint64_t words_length;
+} value;
+
+static barkpaddle_answer perform(enum operation operation, call c, value v, uint64_t *slots, uint64_t length)
+{
+    switch (operation) {
+    case RETURN:
+        if (v.what == VOID)
+            return barkpaddle_return_void(c.abi, c.integer, c.float_, c.integers_only, slots, length);
+        if (v.what == SCALAR)
+            return barkpaddle_return_scalar(
+                c.abi, c.integer, c.float_, c.integers_only, v.kind, v.size, v.align, slots, length);
+        return barkpaddle_return_aggregate(
+            c.abi, c.integer, c.float_, c.integers_only, v.size, v.align, v.complex_, v.floating, v.words, v.words_length, slots, length);
+    case ARGUMENT:
+        if (v.what == VOID)
+            return barkpaddle_argument_void(c.abi, c.integer, c.float_, c.integers_only, slots, length);
+        if (v.what == SCALAR)
+            return barkpaddle_argument_scalar(
+                c.abi, c.integer, c.float_, c.integers_only, v.kind, v.size, v.align, slots, length);
+        return barkpaddle_argument_aggregate(
+            c.abi, c.integer, c.float_, c.integers_only, v.size, v.align, v.complex_, v.floating, v.words, v.words_length, slots, length);
+    default:
+        if (v.what == VOID)
+            return barkpaddle_variadic_argument_void(c.abi, c.integer, c.float_, c.integers_only, slots, length);
+        if (v.what == SCALAR)
+            return barkpaddle_variadic_argument_scalar(
+                c.abi, c.integer, c.float_, c.integers_only, v.kind, v.size, v.align, slots, length);
+        return barkpaddle_variadic_argument_aggregate(
+            c.abi, c.integer, c.float_, c.integers_only, v.size, v.align, v.complex_, v.floating, v.words, v.words_length, slots, length);
+    }
+}
+
+static value scalar(uint64_t kind, uint64_t size, uint64_t align)
+{
+    value v = {SCALAR, 0, 0, 0, 0, 0, NULL, 0};
+
+    v.kind = kind;
+    v.size = size;
+    v.align = align;
+    return v;
+}
+
+static value aggregate(uint64_t size, uint64_t align, const uint64_t *words, uint64_t words_length)
+{
+    value v = {AGGREGATE, 0, 0, 0, 0, 0, NULL, 0};
+
+    v.size = size;
+    v.align = align;
+    v.words = words;
+    v.words_length = words_length;
+    return v;
+}
+
+static const value nothing = {VOID, 0, 0, 0, 0, 0, NULL, 0};
+
+/* ---- accepted operations ---- */
+
+/* Checks all eleven numbers of an answer. */
+static void check_answer(
+    const char *place, barkpaddle_answer a, uint64_t refusal, uint64_t way, call next, const uint64_t spent[4], uint64_t slots)
+{
+    check_number(place, "refusal", refusal, a.refusal);
+    check_number(place, "way", way, a.way);
+    check_number(place, "abi", next.abi, a.abi);
+    check_number(place, "integer", next.integer, a.integer);
+    check_number(place, "float_", next.float_, a.float_);
+    check_number(place, "integers_only", next.integers_only, a.integers_only);
+    check_number(place, "integers_passed", spent[0], a.integers_passed);
+    check_number(place, "integers_given", spent[1], a.integers_given);
+    check_number(place, "floats_passed", spent[2], a.floats_passed);
+    check_number(place, "floats_given", spent[3], a.floats_given);
+    check_number(place, "slots", slots, a.slots);
+}
+
+static const uint64_t no_spending[4] = {0, 0, 0, 0};
+
+/* A refused operation: the call comes back, all else is 0, and the buffer is as it was. */
+static void check_refused(const char *place, enum operation operation, call c, value v, uint64_t length, uint64_t refusal)
+{
+    barkpaddle_answer a;
+
+    fill();
+    a = perform(operation, c, v, length == 0 ? NULL : lent, length);
+    c.integers_only = c.integers_only != 0;
+    check_answer(place, a, refusal, 0, c, no_spending, 0);
+    check_lent(place, NULL, 0);
+}
+
+/*
+ * An accepted operation, as a sheet's line has it: the way, integers and floats left, integers passed over and given, floats passed over
+ * and given, the slots. In every buffer that has room the answer is the same and the words behind it stay; in every smaller one it is
+ * NO_ROOM.
+ */
+static void check_line(
+    const char *place, enum operation operation, call c, value v, uint64_t way, const uint64_t numbers[6], const uint64_t *slots,
+    uint64_t slots_count)
+{
+    uint64_t length;
+    call next = c;
+
+    next.integer = numbers[0];
+    next.float_ = numbers[1];
+    next.integers_only = c.integers_only != 0;
+    for (length = 0; length <= 30; length++) {
+        barkpaddle_answer a;
+
+        if (length / BARKPADDLE_SLOT_WORDS < slots_count) {
+            check_refused(place, operation, c, v, length, BARKPADDLE_NO_ROOM);
+            continue;
+        }
+        fill();
+        a = perform(operation, c, v, length == 0 ? NULL : lent, length);
+        check_answer(place, a, BARKPADDLE_ACCEPTED, way, next, numbers + 2, slots_count);
+        check_lent(place, slots, slots_count * BARKPADDLE_SLOT_WORDS);
+    }
+}
+
+/* Pieces of the records below. */
+static const uint64_t int8_double[] = {0, 8, 8, 0, 2, 8, 8, 8};
+static const uint64_t two_int8[] = {0, 8, 8, 0, 0, 8, 8, 8};
+static const uint64_t one_x87[] = {3, 16, 16, 0};
+static const uint64_t singles[] = {1, 4, 4, 0, 1, 4, 4, 4, 1, 4, 4, 8, 1, 4, 4, 12, 1, 4, 4, 16};
+static const uint64_t doubles[] = {2, 8, 8, 0, 2, 8, 8, 8, 2, 8, 8, 16};
+static const uint64_t single_int4[] = {1, 4, 4, 0, 0, 4, 4, 4};
+static const uint64_t int4_single[] = {0, 4, 4, 0, 1, 4, 4, 4};
+
+#define LINE(place, operation, c, v, way, numbers, slots) \
+    check_line(place, operation, c, v, way, numbers, slots, COUNT(slots) / BARKPADDLE_SLOT_WORDS)
+#define BARE(place, operation, c, v, way, numbers) check_line(place, operation, c, v, way, numbers, NULL, 0)
+
+static call call_of(uint64_t abi, uint64_t integer, uint64_t float_, uint64_t integers_only)
+{
+    call c;
+
+    c.abi = abi;
+    c.integer = integer;
+    c.float_ = float_;
+    c.integers_only = integers_only;
+    return c;
+}
+
+/* The table of twelve calls. Left, passed over and given are in the order of a sheet's line. */
+static void twelve(void)
+{
+    static const uint64_t n1[] = {5, 7, 0, 1, 0, 1}, s1[] = {0, 0, 8, 2, 8, 0};
+    static const uint64_t n2[] = {1, 8, 0, 0, 0, 0};
+    static const uint64_t n4[] = {6, 8, 0, 0, 0, 0}, s4[] = {3, 0, 0};
+    static const uint64_t n5[] = {6, 6, 0, 0, 0, 2}, s5[] = {2, 0, 0, 1, 8, 0};
+    static const uint64_t n6[] = {4, 8, 1, 2, 0, 0}, n6b[] = {5, 8, 0, 2, 0, 0};
+    static const uint64_t n7[] = {7, 8, 0, 1, 0, 0};
+    static const uint64_t n8[] = {8, 0, 0, 0, 2, 0};
+    static const uint64_t n9[] = {3, 0, 0, 1, 0, 0};
+    static const uint64_t n10[] = {0, 0, 0, 0, 0, 0}, s10[] = {0, 0, 8};
+    static const uint64_t n11[] = {1, 0, 0, 1, 0, 0}, s11[] = {0, 0, 8};
+    static const uint64_t n12[] = {1, 0, 0, 0, 0, 0}, n12b[] = {0, 0, 1, 0, 0, 0};
+
+    LINE("call 1", ARGUMENT, call_of(0, 6, 8, 0), aggregate(16, 8, int8_double, 8), BARKPADDLE_PIECES, n1, s1);
+    BARE("call 2", ARGUMENT, call_of(0, 1, 8, 0), aggregate(16, 8, two_int8, 8), BARKPADDLE_MEMORY, n2);
+    BARE("call 3", ARGUMENT, call_of(0, 1, 8, 0), scalar(0, 16, 16), BARKPADDLE_DIRECT, n2);
+    BARE("call 4, argument", ARGUMENT, call_of(0, 6, 8, 0), aggregate(16, 16, one_x87, 4), BARKPADDLE_MEMORY, n4);
+    LINE("call 4, return", RETURN, call_of(0, 6, 8, 0), aggregate(16, 16, one_x87, 4), BARKPADDLE_PIECES, n4, s4);
+    LINE("call 5", ARGUMENT, call_of(0, 6, 8, 0), aggregate(12, 4, singles, 12), BARKPADDLE_PIECES, n5, s5);
+    BARE("call 6, row 1", ARGUMENT, call_of(1, 7, 8, 0), scalar(0, 16, 16), BARKPADDLE_DIRECT, n6);
+    BARE("call 6, row 2", ARGUMENT, call_of(2, 7, 8, 0), scalar(0, 16, 16), BARKPADDLE_DIRECT, n6b);
+    BARE("call 7", ARGUMENT, call_of(1, 8, 8, 0), aggregate(20, 4, singles, 20), BARKPADDLE_REFERENCE, n7);
+    BARE("call 8", ARGUMENT, call_of(1, 8, 2, 0), aggregate(24, 8, doubles, 12), BARKPADDLE_MEMORY, n8);
+    BARE("call 9", ARGUMENT, call_of(4, 4, 0, 0), aggregate(0, 1, NULL, 0), BARKPADDLE_REFERENCE, n9);
+    LINE("call 10", ARGUMENT, call_of(4, 0, 0, 0), aggregate(8, 8, NULL, 0), BARKPADDLE_PIECES, n10, s10);
+    LINE("call 11", ARGUMENT, call_of(5, 2, 0, 0), aggregate(8, 4, single_int4, 8), BARKPADDLE_PIECES, n11, s11);
+    BARE("call 12, scalar", ARGUMENT, call_of(9, 1, 0, 0), scalar(0, 8, 8), BARKPADDLE_DIRECT, n12);
+    BARE("call 12, aggregate", ARGUMENT, call_of(9, 1, 0, 0), aggregate(8, 4, int4_single, 8), BARKPADDLE_MEMORY, n12b);
+}
+
+/* Cases beside the table, by the lines that the original prints for them. */
+static void beside_the_twelve(void)
+{
+    static const uint64_t seven_passed[] = {0, 8, 7, 0, 0, 0}, seven_given[] = {0, 8, 0, 7, 0, 0};
+    static const uint64_t fastcall_passed[] = {0, 0, 2, 0, 0, 0}, fastcall_given[] = {0, 0, 0, 2, 0, 0};
+    static const uint64_t marked[] = {7, 8, 0, 1, 0, 0}, one_int[] = {0, 0, 8};
+    static const uint64_t float_given[] = {8, 7, 0, 0, 0, 1};
+    static const uint64_t all_given[] = {0, 8, 0, 8, 0, 0};
+    static const uint64_t eight_ints[] = {0, 0, 8, 0, 8, 8, 0, 16, 8, 0, 24, 8, 0, 32, 8, 0, 40, 8, 0, 48, 8, 0, 56, 8};
+    static const uint64_t pointer[] = {5, 8, 0, 1, 0, 0}, no_pointer[] = {8, 8, 0, 0, 0, 0};
+    static const uint64_t wide_return[] = {4, 0, 0, 0, 0, 0}, quad_slot[] = {4, 0, 0}, quad_pointer[] = {3, 0, 0, 1, 0, 0};
+    static const uint64_t after_dots[] = {5, 8, 0, 0, 0, 0};
+    static const uint64_t fresh_0[] = {6, 8, 0, 0, 0, 0};
+    static const uint64_t complex_drain[] = {2, 0, 0, 0, 0, 0}, complex_slots[] = {0, 0, 4, 0, 4, 4};
+    uint64_t mark;
+    value v;
+
+    BARE("seven words evenly", ARGUMENT, call_of(1, 7, 8, 0), scalar(0, 56, 16), BARKPADDLE_DIRECT, seven_passed);
+    BARE("seven words", ARGUMENT, call_of(2, 7, 8, 0), scalar(0, 56, 16), BARKPADDLE_DIRECT, seven_given);
+    BARE("fastcall, wide", ARGUMENT, call_of(22, 2, 0, 0), scalar(0, 8, 8), BARKPADDLE_DIRECT, fastcall_passed);
+    BARE("fastcall, record", ARGUMENT, call_of(22, 2, 0, 0), aggregate(8, 4, NULL, 0), BARKPADDLE_MEMORY, fastcall_given);
+
+    /* any number but 0 is the mark; it comes back as 1 */
+    for (mark = 1; mark != 0; mark <<= 1)
+        LINE("a marked call", ARGUMENT, call_of(3, 8, 8, mark), scalar(2, 8, 8), BARKPADDLE_PIECES, marked, one_int);
+    LINE("eight slots", ARGUMENT, call_of(3, 8, 8, 1), scalar(4, 64, 16), BARKPADDLE_PIECES, all_given, eight_ints);
+    BARE("a float without size", ARGUMENT, call_of(3, 8, 8, 1), scalar(1, 0, 0), BARKPADDLE_PIECES, marked);
+    BARE("after the dots, no mark", AFTER_DOTS, call_of(3, 8, 8, 0), scalar(2, 8, 8), BARKPADDLE_DIRECT, float_given);
+
+    BARE("a large return", RETURN, call_of(0, 6, 8, 0), aggregate(100, 8, NULL, 0), BARKPADDLE_REFERENCE, pointer);
+    BARE("a dedicated pointer", RETURN, call_of(1, 8, 8, 0), aggregate(100, 8, NULL, 0), BARKPADDLE_REFERENCE, no_pointer);
+    LINE("a wide integer's return", RETURN, call_of(4, 4, 0, 0), scalar(0, 16, 16), BARKPADDLE_PIECES, wide_return, quad_slot);
+    BARE("a Quad's return", RETURN, call_of(4, 4, 0, 0), scalar(4, 16, 16), BARKPADDLE_REFERENCE, quad_pointer);
+    BARE("a scalar's return", RETURN, call_of(0, 6, 8, 0), scalar(0, 8, 8), BARKPADDLE_DIRECT, fresh_0);
+
+    BARE("row 2, scalar after the dots", AFTER_DOTS, call_of(2, 5, 8, 0), scalar(0, 16, 16), BARKPADDLE_DIRECT, after_dots);
+    BARE("row 2, record after the dots", AFTER_DOTS, call_of(2, 5, 8, 0), aggregate(16, 8, NULL, 0), BARKPADDLE_MEMORY, after_dots);
+    BARE("row 2, large after the dots", AFTER_DOTS, call_of(2, 5, 8, 0), aggregate(17, 8, NULL, 0), BARKPADDLE_REFERENCE, after_dots);
+    BARE("row 2, void after the dots", AFTER_DOTS, call_of(2, 5, 8, 0), nothing, BARKPADDLE_IGNORE, after_dots);
+    LINE("row 5 after the dots", AFTER_DOTS, call_of(5, 8, 8, 0), scalar(2, 8, 8), BARKPADDLE_PIECES, marked, one_int);
+
+    BARE("void argument", ARGUMENT, call_of(0, 6, 8, 0), nothing, BARKPADDLE_IGNORE, fresh_0);
+    BARE("void return", RETURN, call_of(0, 6, 8, 0), nothing, BARKPADDLE_IGNORE, fresh_0);
+    BARE("an empty record", ARGUMENT, call_of(0, 6, 8, 0), aggregate(0, 1, NULL, 0), BARKPADDLE_IGNORE, fresh_0);
+
+    /* the complex and the floating mark: any number but 0 sets them (row 22's FloatingMode, row 9's ComplexFloat return) */
+    for (mark = 1; mark != 0; mark <<= 1) {
+        v = aggregate(8, 4, singles, 8);
+        v.complex_ = mark;
+        BARE("a complex on fastcall", ARGUMENT, call_of(22, 2, 0, 0), v, BARKPADDLE_MEMORY, complex_drain);
+        LINE("a complex back", RETURN, call_of(22, 2, 0, 0), v, BARKPADDLE_PIECES, complex_drain, complex_slots);
+        v = aggregate(8, 4, NULL, 0);
+        v.floating = mark;
+        BARE("a floating mode on fastcall", ARGUMENT, call_of(22, 2, 0, 0), v, BARKPADDLE_MEMORY, complex_drain);
+    }
+}
+
+/* ---- refused operations ---- */
+
+static const uint64_t numbers_past[] = {0, 1, 226, UINT64_C(0x100000000) - 30, UINT64_MAX - 30};
+
+static uint64_t many_words[4 * 1024 + 8];
+
+static void refusals_of(enum operation operation)
+{
+    static const uint64_t all_wrong[] = {5, 65, 4097, 16777217};
+    static const uint64_t wrong[][4] = {
+        {5, 65, 4097, 16777217}, {4, 65, 4097, 16777217}, {4, 64, 4097, 16777217}, {4, 64, 4097, 16777216}, {0, 8, 8, 0}};
+    static const uint64_t refusals[] = {BARKPADDLE_BAD_KIND, BARKPADDLE_BAD_SIZE, BARKPADDLE_BAD_SIZE, BARKPADDLE_BAD_ALIGN};
+    static const uint64_t kinds[] = {5, 6, 256, UINT64_C(1) << 32, UINT64_MAX};
+    uint64_t two[8];
+    uint64_t i;
+    uint64_t n;
+    barkpaddle_answer a;
+    value bad = aggregate(16777217, 4097, all_wrong, 3);
+
+    /* 1 before all else, for void too; the call comes back, yes-or-no as 0 or 1 */
+    for (i = 0; i < COUNT(numbers_past); i++) {
+        check_refused("BAD_ABI, void", operation, call_of(30 + numbers_past[i], 9, 9, 7), nothing, 24, BARKPADDLE_BAD_ABI);
+        check_refused("BAD_ABI, scalar", operation, call_of(30 + numbers_past[i], 0, 0, 0), scalar(5, 65, 4097), 24, BARKPADDLE_BAD_ABI);
+        check_refused("BAD_ABI, aggregate", operation, call_of(30 + numbers_past[i], 0, 0, 0), bad, 24, BARKPADDLE_BAD_ABI);
+    }
+
+    /* 2: each bank's start passes, one above it doesn't; the mark belongs to row 3 alone */
+    for (i = 0; i < BARKPADDLE_DESCRIPTIONS; i++) {
+        barkpaddle_answer start = barkpaddle_fresh(i);
+
+        check_refused("BAD_CALL, integers", operation, call_of(i, start.integer + 1, start.float_, 0), bad, 24, BARKPADDLE_BAD_CALL);
+        check_refused("BAD_CALL, floats", operation, call_of(i, start.integer, start.float_ + 1, 0), nothing, 24, BARKPADDLE_BAD_CALL);
+        check_refused("BAD_CALL, most", operation, call_of(i, UINT64_MAX, 0, 0), scalar(9, 9, 9), 24, BARKPADDLE_BAD_CALL);
+        if (i != BARKPADDLE_WINDOWS_ARM64) {
+            check_refused("BAD_CALL, mark", operation, call_of(i, 0, 0, 1), nothing, 24, BARKPADDLE_BAD_CALL);
+            check_refused("BAD_CALL, any mark", operation, call_of(i, 0, 0, UINT64_C(1) << 63), bad, 24, BARKPADDLE_BAD_CALL);
+        }
+        fill();
+        a = perform(operation, call_of(i, start.integer, start.float_, 0), nothing, NULL, 0);
+        check_answer("a whole call", a, 0, BARKPADDLE_IGNORE, call_of(i, start.integer, start.float_, 0), no_spending, 0);
+    }
+
+    /* 3: whole pieces, at most 1,024; before the shape's size */
+    for (n = 0; n < COUNT(many_words); n++)
+        many_words[n] = (n % 4 == 1 || n % 4 == 2) ? 8 : 0;
+    for (n = 0; n <= 9; n++)
+        if (n % 4 != 0)
+            check_refused(
+                "BAD_LIST, parts", operation, call_of(0, 6, 8, 0), aggregate(16777217, 8, many_words, n), 24, BARKPADDLE_BAD_LIST);
+    for (n = 4097; n <= 4104; n++)
+        check_refused("BAD_LIST, many", operation, call_of(0, 6, 8, 0), aggregate(64, 8, many_words, n), 24, BARKPADDLE_BAD_LIST);
+    a = perform(operation, call_of(0, 6, 8, 0), aggregate(8, 8, many_words, 4096), lent, ROOM);
+    check_number("1,024 pieces", "refusal", BARKPADDLE_ACCEPTED, a.refusal);
+    check_number("1,024 pieces", "way", BARKPADDLE_PIECES, a.way);
+
+    /* the shape's size, its alignment, then the pieces from the first, each by kind, size, offset, alignment */
+    check_refused("the shape's size", operation, call_of(0, 6, 8, 0), aggregate(16777217, 4097, all_wrong, 4), 24, BARKPADDLE_BAD_SIZE);
+    check_refused(
+        "the shape's alignment", operation, call_of(0, 6, 8, 0), aggregate(16777216, 4097, all_wrong, 4), 24, BARKPADDLE_BAD_ALIGN);
+    for (n = 0; n < 4; n++) {
+        check_refused("a piece", operation, call_of(0, 6, 8, 0), aggregate(16777216, 4096, wrong[n], 4), 0, refusals[n]);
+        for (i = 0; i < 4; i++) {
+            two[i] = wrong[4][i];
+            two[4 + i] = wrong[n][i];
+        }
+        check_refused("the second piece", operation, call_of(0, 6, 8, 0), aggregate(8, 8, two, 8), 24, refusals[n]);
+        for (i = 0; i < 4; i++) {
+            two[i] = wrong[n][i];
+            two[4 + i] = wrong[(n + 1) % 4][i];
+        }
+        check_refused("the first of two", operation, call_of(0, 6, 8, 0), aggregate(8, 8, two, 8), 24, refusals[n]);
+    }
+    a = perform(operation, call_of(0, 6, 8, 0), aggregate(16777216, 4096, NULL, 0), NULL, 0);
+    check_number("the largest shape", "refusal", BARKPADDLE_ACCEPTED, a.refusal);
+    two[0] = 4;
+    two[1] = 64;
+    two[2] = 4096;
+    two[3] = 16777216;
+    a = perform(operation, call_of(0, 6, 8, 0), aggregate(0, 0, two, 4), NULL, 0);
+    check_number("the largest piece", "refusal", BARKPADDLE_ACCEPTED, a.refusal);
+
+    /* a scalar: kind, size, alignment */
+    for (i = 0; i < COUNT(kinds); i++)
+        check_refused("a scalar's kind", operation, call_of(0, 6, 8, 0), scalar(kinds[i], 65, 4097), 24, BARKPADDLE_BAD_KIND);
+    check_refused("a scalar's size", operation, call_of(0, 6, 8, 0), scalar(4, 65, 4097), 24, BARKPADDLE_BAD_SIZE);
+    check_refused("a scalar's size", operation, call_of(0, 6, 8, 0), scalar(0, UINT64_MAX, 0), 24, BARKPADDLE_BAD_SIZE);
+    check_refused("a scalar's alignment", operation, call_of(0, 6, 8, 0), scalar(4, 64, 4097), 24, BARKPADDLE_BAD_ALIGN);
+    a = perform(operation, call_of(0, 6, 8, 0), scalar(4, 64, 4096), NULL, 0);
+    check_number("the largest scalar", "refusal", BARKPADDLE_ACCEPTED, a.refusal);
+}
+
+/* ---- the start and the mark ---- */
+
+static void starts(void)
+{
+    /* registers of the thirty rows */
+    static const uint64_t integers[] = {6, 8, 8, 8, 4, 8, 0, 1, 2, 3, 0, 1, 2, 3, 0, 1, 2, 3, 0, 1, 2, 3, 2, 2, 0, 0, 0, 2, 0, 2};
+    static const uint64_t floats[] = {8, 8, 8, 8, 0, 8};
+    uint64_t i;
+
+    for (i = 0; i < BARKPADDLE_DESCRIPTIONS; i++) {
+        call c = call_of(i, integers[i], i < COUNT(floats) ? floats[i] : 0, 0);
+        call marked = c;
+
+        check_answer("fresh", barkpaddle_fresh(i), 0, 0, c, no_spending, 0);
+        marked.integers_only = i == BARKPADDLE_WINDOWS_ARM64;
+        check_answer("variadic", barkpaddle_variadic(c.abi, c.integer, c.float_, 0), 0, 0, marked, no_spending, 0);
+        if (marked.integers_only)
+            check_answer("variadic twice", barkpaddle_variadic(c.abi, c.integer, c.float_, 6), 0, 0, marked, no_spending, 0);
+        else
+            check_answer("mark", barkpaddle_variadic(i, 0, 0, 6), BARKPADDLE_BAD_CALL, 0, call_of(i, 0, 0, 1), no_spending, 0);
+        check_answer(
+            "variadic, too many", barkpaddle_variadic(i, c.integer + 1, 0, 0), BARKPADDLE_BAD_CALL, 0, call_of(i, c.integer + 1, 0, 0),
+            no_spending, 0);
+    }
+    for (i = 0; i < COUNT(numbers_past); i++) {
+        uint64_t abi = 30 + numbers_past[i];
+
+        check_answer("fresh, BAD_ABI", barkpaddle_fresh(abi), BARKPADDLE_BAD_ABI, 0, call_of(0, 0, 0, 0), no_spending, 0);
+        check_answer(
+            "variadic, BAD_ABI", barkpaddle_variadic(abi, 9, 9, 9), BARKPADDLE_BAD_ABI, 0, call_of(abi, 9, 9, 1), no_spending, 0);
+    }
+}
+
+/* ---- answers of two numbers ---- */
+
+static void check_told(const char *place, barkpaddle_told told, uint64_t refusal, uint64_t number)
+{
+    check_number(place, "refusal", refusal, told.refusal);
+    check_number(place, "value", number, told.value);
+}
+
+static void in_memory(void)
+{
+    static const uint64_t all_wrong[] = {5, 65, 4097, 16777217};
+
+    /* its own alignment; on row 2 at least the integer width, unless it is homogeneous */
+    check_told("in_memory, row 0", barkpaddle_in_memory(0, 6, 8, 0, 100, 4, 0, 0, NULL, 0), 0, 4);
+    check_told("in_memory, row 2", barkpaddle_in_memory(2, 8, 8, 0, 100, 4, 0, 0, NULL, 0), 0, 8);
+    check_told("in_memory, row 2, wide", barkpaddle_in_memory(2, 8, 8, 0, 100, 16, 0, 0, NULL, 0), 0, 16);
+    check_told("in_memory, row 2, floats", barkpaddle_in_memory(2, 8, 8, 0, 12, 4, 0, 0, singles, 12), 0, 4);
+    check_told("in_memory, row 2, five floats", barkpaddle_in_memory(2, 8, 8, 0, 20, 4, 0, 0, singles, 20), 0, 8);
+    check_told("in_memory, no alignment", barkpaddle_in_memory(0, 0, 0, 0, 0, 0, 0, 0, NULL, 0), 0, 0);
+
+    check_told("in_memory", barkpaddle_in_memory(30, 9, 9, 1, 16777217, 4097, 0, 0, all_wrong, 3), BARKPADDLE_BAD_ABI, 0);
+    check_told("in_memory", barkpaddle_in_memory(2, 9, 8, 0, 16777217, 4097, 0, 0, all_wrong, 3), BARKPADDLE_BAD_CALL, 0);
+    check_told("in_memory", barkpaddle_in_memory(2, 8, 8, 1, 16777217, 4097, 0, 0, all_wrong, 3), BARKPADDLE_BAD_CALL, 0);
+    check_told("in_memory", barkpaddle_in_memory(2, 8, 8, 0, 16777217, 4097, 0, 0, all_wrong, 3), BARKPADDLE_BAD_LIST, 0);
+    check_told("in_memory", barkpaddle_in_memory(2, 8, 8, 0, 16777217, 4097, 0, 0, all_wrong, 4), BARKPADDLE_BAD_SIZE, 0);
+    check_told("in_memory", barkpaddle_in_memory(2, 8, 8, 0, 16777216, 4097, 0, 0, all_wrong, 4), BARKPADDLE_BAD_ALIGN, 0);
+    check_told("in_memory", barkpaddle_in_memory(2, 8, 8, 0, 16777216, 4096, 0, 0, all_wrong, 4), BARKPADDLE_BAD_KIND, 0);
+}
+
+static void check_record(const char *place, barkpaddle_record_shape r, uint64_t refusal, uint64_t size, uint64_t align, uint64_t floating)
+{
+    check_number(place, "refusal", refusal, r.refusal);
+    check_number(place, "size", size, r.size);
+    check_number(place, "align", align, r.align);
+    check_number(place, "complex_", 0, r.complex_);
+    check_number(place, "floating", floating, r.floating);
+}
+
+static void records(void)
+{
+    /* a byte, a Double, nothing at all, a byte, a word without alignment */
+    static const uint64_t members[] = {0, 1, 1, 2, 8, 8, 0, 0, 4, 0, 1, 1, 0, 4, 0};
+    static const uint64_t placed[] = {0, 1, 1, 0, 2, 8, 8, 8, 0, 0, 4, 16, 0, 1, 1, 16, 0, 4, 0, 17};
+    static const uint64_t wrong[][3] = {{5, 65, 4097}, {4, 65, 4097}, {4, 64, 4097}};
+    static const uint64_t refusals[] = {BARKPADDLE_BAD_KIND, BARKPADDLE_BAD_SIZE, BARKPADDLE_BAD_ALIGN};
+    static const uint64_t lone_double[] = {2, 8, 8, 0}, wide_double[] = {2, 8, 16, 0}, late_double[] = {2, 8, 8, 8};
+    static const uint64_t no_align[] = {0, 1, 0, 0, 0, 1, 0, 8};
+    static const uint64_t no_size[] = {0, 0, 1, 5};
+    static const uint64_t at_limit[] = {0, 0, 1, 16777215}, past_limit[] = {0, 0, 1, 16777216}, rounded[] = {0, 1, 4096, 16777216};
+    static const uint64_t bad_kind[] = {5, 65, 4097, 16777217}, bad_size[] = {4, 65, 4097, 16777217};
+    static const uint64_t bad_offset[] = {4, 64, 4097, 16777217}, bad_align[] = {4, 64, 4097, 16777216};
+    uint64_t length;
+    uint64_t n;
+    barkpaddle_told told;
+
+    for (length = 0; length <= ROOM; length++) {
+        fill();
+        told = barkpaddle_pieces(members, 15, length == 0 ? NULL : lent, length);
+        if (length / BARKPADDLE_PIECE_WORDS < 5) {
+            check_told("pieces, no room", told, BARKPADDLE_NO_ROOM, 0);
+            check_lent("pieces, no room", NULL, 0);
+        } else {
+            check_told("pieces", told, BARKPADDLE_ACCEPTED, 5);
+            check_lent("pieces", placed, 20);
+        }
+    }
+    fill();
+    check_told("no members", barkpaddle_pieces(NULL, 0, NULL, 0), 0, 0);
+    check_told("no members", barkpaddle_pieces(NULL, 0, lent, ROOM), 0, 0);
+    for (n = 0; n < 3; n++) {
+        check_told("pieces, a member", barkpaddle_pieces(wrong[n], 3, lent, 0), refusals[n], 0);
+        check_told("pieces, a member", barkpaddle_pieces(wrong[n], 3, lent, ROOM), refusals[n], 0);
+        check_told("pieces, parts", barkpaddle_pieces(wrong[0], 1 + n % 2, lent, ROOM), BARKPADDLE_BAD_LIST, 0);
+    }
+    check_told("pieces, many", barkpaddle_pieces(many_words, 3 * 1025, lent, ROOM), BARKPADDLE_BAD_LIST, 0);
+    check_lent("pieces, refused", NULL, 0);
+
+    check_record("no pieces", barkpaddle_record(NULL, 0), 0, 0, 1, 0);
+    check_record("an integer and a Double", barkpaddle_record(int8_double, 8), 0, 16, 8, 0);
+    check_record("five Singles", barkpaddle_record(singles, 20), 0, 20, 4, 0);
+    check_record("a lone Double", barkpaddle_record(lone_double, 4), 0, 8, 8, 1);
+    check_record("a wide Double", barkpaddle_record(wide_double, 4), 0, 16, 16, 0);
+    check_record("a late Double", barkpaddle_record(late_double, 4), 0, 16, 8, 0);
+    check_record("no size", barkpaddle_record(no_size, 4), 0, 6, 1, 0);
+    check_record("at the limit", barkpaddle_record(at_limit, 4), 0, 16777216, 1, 0);
+    check_record("past the limit", barkpaddle_record(past_limit, 4), BARKPADDLE_BAD_SIZE, 0, 0, 0);
+    check_record("rounded past the limit", barkpaddle_record(rounded, 4), BARKPADDLE_BAD_SIZE, 0, 0, 0);
+    check_record("no alignment", barkpaddle_record(no_align, 8), BARKPADDLE_BAD_ALIGN, 0, 0, 0);
+    check_record("parts", barkpaddle_record(bad_kind, 3), BARKPADDLE_BAD_LIST, 0, 0, 0);
+    check_record("many", barkpaddle_record(many_words, 4 * 1025), BARKPADDLE_BAD_LIST, 0, 0, 0);
+    check_record("most", barkpaddle_record(many_words, 4 * 1024), 0, 8, 8, 0);
+    check_record("kind", barkpaddle_record(bad_kind, 4), BARKPADDLE_BAD_KIND, 0, 0, 0);
+    check_record("size", barkpaddle_record(bad_size, 4), BARKPADDLE_BAD_SIZE, 0, 0, 0);
+    check_record("offset", barkpaddle_record(bad_offset, 4), BARKPADDLE_BAD_SIZE, 0, 0, 0);
+    check_record("alignment", barkpaddle_record(bad_align, 4), BARKPADDLE_BAD_ALIGN, 0, 0, 0);
+}
+
+/* ---- descriptions ---- */
+
+static void check_fields(const char *place, uint64_t abi, const uint64_t expected[21])
+{
+    barkpaddle_description_fields fields = barkpaddle_description(abi);
+    uint64_t got[21];
+    size_t i;
+
+    check_number(place, "the size of the fields", sizeof got, sizeof fields);
+    memcpy(got, &fields, sizeof got);
+    for (i = 0; i < COUNT(got); i++)
+        check_number(place, "a field", expected[i], got[i]);
+}
+
+static void check_rule(
+    const char *place, barkpaddle_rule rule, uint64_t refusal, uint64_t test, uint64_t number, uint64_t travel, uint64_t short_)
+{
+    check_number(place, "refusal", refusal, rule.refusal);
+    check_number(place, "test", test, rule.test);
+    check_number(place, "number", number, rule.number);
+    check_number(place, "travel", travel, rule.travel);
+    check_number(place, "short_", short_, rule.short_);
+}
+
+/* Rows 0, 3, 4 and 22 by REFERENCE 5.5; lines.c has all thirty. */
+static void descriptions(void)
+{
+    static const uint64_t row_0[] = {0, 6, 8, 0, 8, 16, 3, 1, 0, 0, 0, 0, 0, 0, 0, 0, 0, 0, 2, 0, 0};
+    static const uint64_t row_3[] = {0, 8, 8, 0, 8, 16, 0, 0, 1, 1, 0, 0, 0, 0, 0, 2, 3, 0, 0, 1, 0};
+    static const uint64_t row_4[] = {0, 4, 0, 1, 8, 16, 0, 0, 0, 0, 1, 4, 0, 1, 0, 0, 2, 0, 0, 1, 0};
+    static const uint64_t row_22[] = {0, 2, 0, 0, 4, 8, 0, 0, 0, 0, 0, 0, 1, 0, 1, 0, 0, 0, 0, 1, 1};
+    static const uint64_t none[] = {1, 0, 0, 0, 0, 0, 0, 0, 0, 0, 0, 0, 0, 0, 0, 0, 0, 0, 0, 0, 0};
+    static const uint64_t past_end[] = {4, 5, 255, UINT64_C(1) << 32, UINT64_MAX / 3, UINT64_MAX};
+    static const uint64_t sizes[] = {1, 2, 4, 8};
+    uint64_t i;
+    uint64_t abi;
+
+    check_fields("row 0", 0, row_0);
+    check_fields("row 3", 3, row_3);
+    check_fields("row 4", 4, row_4);
+    check_fields("row 22", 22, row_22);
+
+    check_rule("row 0, return 0", barkpaddle_return_rule(0, 0), 0, BARKPADDLE_TEST_EMPTY, 0, BARKPADDLE_TRAVEL_IGNORE, 0);
+    check_rule("row 0, return 1", barkpaddle_return_rule(0, 1), 0, BARKPADDLE_TEST_X87_STACK, 0, BARKPADDLE_TRAVEL_AS_FOUND, 0);
+    check_rule("row 0, return 2", barkpaddle_return_rule(0, 2), 0, BARKPADDLE_TEST_EIGHTBYTES, 16, BARKPADDLE_TRAVEL_AS_FOUND, 0);
+    check_rule("row 0, return 3", barkpaddle_return_rule(0, 3), 0, BARKPADDLE_TEST_ANYTHING, 0, BARKPADDLE_TRAVEL_BY_REFERENCE, 0);
+    check_rule("row 0, argument 0", barkpaddle_argument_rule(0, 0), 0, BARKPADDLE_TEST_EMPTY, 0, BARKPADDLE_TRAVEL_IGNORE, 0);
+    check_rule(
+        "row 0, argument 1", barkpaddle_argument_rule(0, 1), 0, BARKPADDLE_TEST_EIGHTBYTES, 16, BARKPADDLE_TRAVEL_AS_FOUND,
+        BARKPADDLE_SHORT_MEMORY);
+    check_rule("row 0, argument 2", barkpaddle_argument_rule(0, 2), 0, BARKPADDLE_TEST_ANYTHING, 0, BARKPADDLE_TRAVEL_IN_MEMORY, 0);
+    check_rule("row 0, argument 3", barkpaddle_argument_rule(0, 3), 0, BARKPADDLE_NO_RULE, 0, 0, 0);
+    check_rule(
+        "row 5, argument 1", barkpaddle_argument_rule(5, 1), 0, BARKPADDLE_TEST_FLOAT_PAIR, 0, BARKPADDLE_TRAVEL_AS_FOUND,
+        BARKPADDLE_SHORT_TRY_NEXT_RULE);
+    check_number("row 4, argument 0", "test", BARKPADDLE_TEST_SIZE_ONE_OF, barkpaddle_argument_rule(4, 0).test);
+    for (i = 0; i < 4; i++)
+        check_number("row 4, argument 0", "a size", sizes[i], BARKPADDLE_SIZE_ONE_OF(barkpaddle_argument_rule(4, 0).number, i));
+    for (i = 0; i < COUNT(past_end); i++) {
+        check_rule("past the end, return", barkpaddle_return_rule(0, past_end[i]), 0, BARKPADDLE_NO_RULE, 0, 0, 0);
+        check_rule("past the end, argument", barkpaddle_argument_rule(29, past_end[i]), 0, BARKPADDLE_NO_RULE, 0, 0, 0);
+    }
+
+    check_told("by reference", barkpaddle_scalar_is_by_reference(4, 16), 0, 1);
+    check_told("by reference", barkpaddle_scalar_is_by_reference(4, 8), 0, 0);
+    check_told("by reference", barkpaddle_scalar_is_by_reference(0, 64), 0, 0);
+    check_told("by reference", barkpaddle_scalar_is_by_reference(4, 65), BARKPADDLE_BAD_SIZE, 0);
+    check_told("returns by reference", barkpaddle_scalar_returns_by_reference(6, 16), 0, 1);
+    check_told("returns by reference", barkpaddle_scalar_returns_by_reference(6, 15), 0, 0);
+    check_told("returns by reference", barkpaddle_scalar_returns_by_reference(6, UINT64_MAX), BARKPADDLE_BAD_SIZE, 0);
+    check_told("returns in", barkpaddle_wide_integer_returns_in(4, 16), 0, BARKPADDLE_QUAD);
+    check_told("returns in", barkpaddle_wide_integer_returns_in(4, 4), 0, BARKPADDLE_NO_FORMAT);
+    check_told("returns in", barkpaddle_wide_integer_returns_in(4, 65), BARKPADDLE_BAD_SIZE, 0);
+
+    for (i = 0; i < COUNT(numbers_past); i++) {
+        abi = 30 + numbers_past[i];
+        check_fields("no row", abi, none);
+        check_rule("no row, return", barkpaddle_return_rule(abi, 0), BARKPADDLE_BAD_ABI, 0, 0, 0, 0);
+        check_rule("no row, argument", barkpaddle_argument_rule(abi, UINT64_MAX), BARKPADDLE_BAD_ABI, 0, 0, 0, 0);
+        check_told("by reference", barkpaddle_scalar_is_by_reference(abi, 65), BARKPADDLE_BAD_ABI, 0);
+        check_told("returns by reference", barkpaddle_scalar_returns_by_reference(abi, 65), BARKPADDLE_BAD_ABI, 0);
+        check_told("returns in", barkpaddle_wide_integer_returns_in(abi, 65), BARKPADDLE_BAD_ABI, 0);
+    }
+}
+
+static void check_name(uint64_t abi, const char *name)
+{
+    uint64_t length;
+
+    for (length = 0; length <= strlen(name) + 2; length++) {
+        barkpaddle_told told;
+
+        fill_bytes();
+        told = barkpaddle_name(abi, length == 0 ? NULL : lent_bytes, length);
+        if (length < strlen(name)) {
+            check_told("name, no room", told, BARKPADDLE_NO_ROOM, 0);
+            check_bytes("name, no room", "");
+        } else {
+            check_told("name", told, BARKPADDLE_ACCEPTED, strlen(name));
+            check_bytes("name", name);
+        }
+    }
+}
+
+static void names(void)
+{
+    uint64_t i;
+
+    check_name(0, "SysV AMD64");
+    check_name(9, "i386 SysV regparm(3)");
+    check_name(21, "i386 SysV stdcall regparm(3) -freg-struct-return");
+    check_name(29, "i386 Windows fastcall (MSVC)");
+    fill_bytes();
+    for (i = 0; i < COUNT(numbers_past); i++) {
+        check_told("name, BAD_ABI", barkpaddle_name(30 + numbers_past[i], lent_bytes, sizeof lent_bytes), BARKPADDLE_BAD_ABI, 0);
+        check_told("name, BAD_ABI", barkpaddle_name(30 + numbers_past[i], NULL, 0), BARKPADDLE_BAD_ABI, 0);
+    }
+    check_bytes("name, BAD_ABI", "");
+}
+
+/* ---- lookups ---- */
+
+static uint64_t asked(uint64_t architecture, uint64_t system, const char *name)
+{
+    return barkpaddle_asked(architecture, system, 0, (const uint8_t *)name, strlen(name));
+}
+
+static void check_attribute(uint64_t convention, const char *name)
+{
+    uint64_t length;
+
+    for (length = 0; length <= strlen(name) + 2; length++) {
+        barkpaddle_told told;
+
+        fill_bytes();
+        told = barkpaddle_attribute(convention, length == 0 ? NULL : lent_bytes, length);
+        if (length < strlen(name)) {
+            check_told("attribute, no room", told, BARKPADDLE_NO_ROOM, 0);
+            check_bytes("attribute, no room", "");
+        } else {
+            check_told("attribute", told, BARKPADDLE_ACCEPTED, strlen(name));
+            check_bytes("attribute", name);
+        }
+    }
+}
+
+static void lookups(void)
+{
+    static const uint64_t unknown[] = {7, 255, 512, UINT64_C(1) << 32, UINT64_MAX};
+    uint64_t i;
+    uint64_t yes;
+
+    check_number("for_target", "x86-64 Linux", 0, barkpaddle_for_target(BARKPADDLE_X86_64, BARKPADDLE_OTHER_SYSTEM, 0));
+    check_number("for_target", "x86-64 Windows", 4, barkpaddle_for_target(BARKPADDLE_X86_64, BARKPADDLE_WINDOWS, 1));
+    check_number("for_target", "Arm macOS", 2, barkpaddle_for_target(BARKPADDLE_AARCH64, BARKPADDLE_MACOS, 0));
+    check_number("for_target", "Arm Windows", 3, barkpaddle_for_target(BARKPADDLE_AARCH64, BARKPADDLE_WINDOWS, 0));
+    check_number("for_target", "RISC-V", 5, barkpaddle_for_target(BARKPADDLE_RISCV64, BARKPADDLE_OTHER_SYSTEM, 0));
+    check_number("for_target", "another", BARKPADDLE_NONE, barkpaddle_for_target(BARKPADDLE_OTHER_ARCHITECTURE, 3, 0));
+    check_number("for_target", "x86 mingw", 24, barkpaddle_for_target(BARKPADDLE_X86, BARKPADDLE_WINDOWS, 0));
+    for (yes = 1; yes != 0; yes <<= 1) {
+        check_number("for_target", "x86 MSVC", 25, barkpaddle_for_target(BARKPADDLE_X86, BARKPADDLE_WINDOWS, yes));
+        check_number("for_convention", "x86 MSVC", 28, barkpaddle_for_convention(BARKPADDLE_X86, 0, yes, BARKPADDLE_STDCALL));
+        check_number("asked", "MSVC", BARKPADDLE_STDCALL, barkpaddle_asked(BARKPADDLE_X86, 0, yes, (const uint8_t *)"stdcall", 7));
+    }
+
+    check_number("for_convention", "ms", 4, barkpaddle_for_convention(BARKPADDLE_X86_64, 3, 0, BARKPADDLE_MS));
+    check_number("for_convention", "sysv", 0, barkpaddle_for_convention(BARKPADDLE_X86_64, 0, 0, BARKPADDLE_SYSV));
+    check_number("for_convention", "fastcall", 22, barkpaddle_for_convention(BARKPADDLE_X86, 3, 0, BARKPADDLE_FASTCALL));
+    check_number("for_convention", "regparm(3)", 9, barkpaddle_for_convention(BARKPADDLE_X86, 3, 0, BARKPADDLE_REGPARM(3)));
+    check_number("for_convention", "regparm(4)", BARKPADDLE_NONE, barkpaddle_for_convention(BARKPADDLE_X86, 3, 0, BARKPADDLE_REGPARM(4)));
+    check_number("for_convention", "none", 0, barkpaddle_for_convention(BARKPADDLE_X86_64, 3, 0, BARKPADDLE_PRESERVE_NONE));
+    check_number("for_convention", "on Arm", BARKPADDLE_NONE, barkpaddle_for_convention(BARKPADDLE_AARCH64, 3, 0, BARKPADDLE_MS));
+
+    check_number("asked", "ms_abi", BARKPADDLE_MS, asked(BARKPADDLE_X86_64, BARKPADDLE_OTHER_SYSTEM, "ms_abi"));
+    check_number("asked", "ms_abi on Windows", BARKPADDLE_TARGET, asked(BARKPADDLE_X86_64, BARKPADDLE_WINDOWS, "ms_abi"));
+    check_number("asked", "sysv_abi", BARKPADDLE_SYSV, asked(BARKPADDLE_X86_64, BARKPADDLE_WINDOWS, "sysv_abi"));
+    check_number("asked", "preserve_none", BARKPADDLE_PRESERVE_NONE, asked(BARKPADDLE_X86_64, BARKPADDLE_OTHER_DARWIN, "preserve_none"));
+    check_number("asked", "preserve_none", BARKPADDLE_NONE, asked(BARKPADDLE_X86_64, BARKPADDLE_MACOS, "preserve_none"));
+    check_number("asked", "cdecl", BARKPADDLE_TARGET, asked(BARKPADDLE_X86, 0, "cdecl"));
+    check_number("asked", "fastcall", BARKPADDLE_FASTCALL, asked(BARKPADDLE_X86, 0, "fastcall"));
+    check_number("asked", "Cdecl", BARKPADDLE_NONE, asked(BARKPADDLE_X86, 0, "Cdecl"));
+    check_number("asked", "cdec", BARKPADDLE_NONE, asked(BARKPADDLE_X86, 0, "cdec"));
+    check_number("asked", "cdeclx", BARKPADDLE_NONE, asked(BARKPADDLE_X86, 0, "cdeclx"));
+    check_number("asked", "a 0 behind", BARKPADDLE_NONE, barkpaddle_asked(BARKPADDLE_X86, 0, 0, (const uint8_t *)"cdecl", 6));
+    check_number("asked", "nothing", BARKPADDLE_NONE, barkpaddle_asked(BARKPADDLE_X86, 0, 0, NULL, 0));
+    check_number("asked", "on Arm", BARKPADDLE_NONE, asked(BARKPADDLE_AARCH64, 0, "cdecl"));
+
+    check_attribute(BARKPADDLE_MS, "ms_abi");
+    check_attribute(BARKPADDLE_NO_CALLEE_SAVED, "no_callee_saved_registers");
+    check_attribute(BARKPADDLE_REGPARM(0), "regparm(0)");
+    check_attribute(BARKPADDLE_REGPARM(255), "regparm(3)");
+    fill_bytes();
+    check_told("no attribute", barkpaddle_attribute(BARKPADDLE_TARGET, lent_bytes, 64), 0, BARKPADDLE_NONE);
+    check_told("no attribute", barkpaddle_attribute(BARKPADDLE_TARGET, NULL, 0), 0, BARKPADDLE_NONE);
+
+    check_number("callee_pops", "stdcall", 1, barkpaddle_callee_pops(BARKPADDLE_STDCALL));
+    check_number("callee_pops", "fastcall", 1, barkpaddle_callee_pops(BARKPADDLE_FASTCALL));
+    check_number("callee_pops", "target", 0, barkpaddle_callee_pops(BARKPADDLE_TARGET));
+    check_number("callee_pops", "regparm", 0, barkpaddle_callee_pops(BARKPADDLE_REGPARM(3)));
+
+    /* codes that nobody knows, even where that part wouldn't be read */
+    for (i = 0; i < COUNT(unknown); i++) {
+        check_number("unknown", "architecture", BARKPADDLE_NONE, barkpaddle_for_target(unknown[i], 0, 0));
+        check_number("unknown", "system", BARKPADDLE_NONE, barkpaddle_for_target(BARKPADDLE_RISCV64, unknown[i], 0));
+        check_number("unknown", "convention", BARKPADDLE_NONE, barkpaddle_for_convention(BARKPADDLE_X86_64, 3, 0, unknown[i]));
+        check_number("unknown", "its system", BARKPADDLE_NONE, barkpaddle_for_convention(BARKPADDLE_X86_64, unknown[i], 0, 1));
+        check_number("unknown", "asked there", BARKPADDLE_NONE, asked(unknown[i], 0, "cdecl"));
+        check_number("unknown", "asked on it", BARKPADDLE_NONE, asked(BARKPADDLE_X86, unknown[i], "cdecl"));
+        check_told("unknown attribute", barkpaddle_attribute(unknown[i], lent_bytes, 64), 0, BARKPADDLE_NONE);
+        check_number("unknown", "pops", 0, barkpaddle_callee_pops(unknown[i]));
+    }
+    check_number("unknown", "architecture 5", BARKPADDLE_NONE, barkpaddle_for_target(5, 0, 0));
+    check_number("unknown", "system 4", BARKPADDLE_NONE, barkpaddle_for_target(1, 4, 0));
+    check_bytes("no attribute", "");
+}
+
+int main(void)
+{
+    starts();
+    twelve();
+    beside_the_twelve();
+    refusals_of(RETURN);
+    refusals_of(ARGUMENT);
+    refusals_of(AFTER_DOTS);
+    in_memory();
+    records();
+    descriptions();
+    names();
+    lookups();
+    printf("%lu checks passed, %lu failed\n", passed, failed);
+    return failed != 0;
+}
