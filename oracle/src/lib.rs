@@ -4,6 +4,7 @@ pub mod coverage;
 pub mod damage;
 pub mod find;
 pub mod generate;
+pub mod layouts;
 pub mod lookups;
 pub mod numbers;
 pub mod random;

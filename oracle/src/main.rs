@@ -4,13 +4,14 @@ use std::io::{self, BufWriter, Read, Write};
 use std::process::ExitCode;
 
 use oracle::generate::{self, Profile};
-use oracle::{coverage, find, lookups, rows, shapes, sheet};
+use oracle::{coverage, find, layouts, lookups, rows, shapes, sheet};
 
 const USAGE: &str = "\
 usage: oracle rows                         every fact of the thirty descriptions
        oracle lookups                      every lookup over its whole domain
        oracle find SEED COUNT              random shapes, and what each test finds in them
        oracle shapes SEED COUNT            the same shapes as records of a sheet
+       oracle layouts SEED COUNT           their alignments in memory, and what their pieces make
        oracle sheet                        a sheet's lines, the sheet read from standard input
        oracle coverage                     by which rules that sheet decides, and how often
        oracle generate SEED COUNT [good]   a random sheet of so many operations
@@ -66,6 +67,7 @@ fn answer(out: &mut impl Write, words: &[&str]) -> Option<io::Result<()>> {
         ["lookups"] => lookups::print(out),
         ["find", seed, count] => find::print(out, number(seed)?, number(count)?),
         ["shapes", seed, count] => shapes::write(out, number(seed)?, number(count)?),
+        ["layouts", seed, count] => layouts::print(out, number(seed)?, number(count)?),
         ["generate", seed, count] | ["generate", seed, count, "good"] => {
             generate::write(out, number(seed)?, number(count)?, Profile::Good)
         }

@@ -49,6 +49,14 @@ pub fn kind(number: u64) -> Kind {
     }
 }
 
+/// The number of this kind.
+pub fn kind_number(kind: Kind) -> u64 {
+    match kind {
+        Kind::Integer => 0,
+        Kind::Float(format) => format_kind(format),
+    }
+}
+
 /// A test and its four parameters.
 pub fn test(test: Test) -> (u64, [u64; 4]) {
     match test {

@@ -6,5 +6,6 @@ mod coverage;
 mod every_count;
 mod find;
 mod generate;
+mod layouts;
 mod shapes;
 mod sheet;
