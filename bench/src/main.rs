@@ -1,0 +1,141 @@
+//! The driver of `bench/run`: so many turns of a side on each value and row, or on one of them.
+//!
+//! `bench cells` names them in order. `bench count SIDE TURNS [CELL]` takes the turns, a mark before
+//! each cell and one at the end, so that a counter can cut there. `bench time` prints nanoseconds for
+//! each cell: the Rust's and ours. `bench same` only sees that both sides say the same.
+
+mod sides;
+mod values;
+
+use std::env;
+use std::hint::black_box;
+use std::process::exit;
+use std::time::Instant;
+
+use rucc_abi::{AbiDescription, abis};
+
+use sides::{Refused, Side};
+use values::{ROWS, Value};
+
+/// A place for a counter to cut.
+#[inline(never)]
+#[unsafe(no_mangle)]
+extern "C" fn bench_mark() {
+    black_box(());
+}
+
+enum Cell<'a> {
+    Argument(&'static AbiDescription, u64, &'a Value),
+    Refused(&'a Refused),
+}
+
+impl Cell<'_> {
+    fn name(&self) -> String {
+        match self {
+            Self::Argument(_, row, value) => format!("{row}\t{}", value.name),
+            Self::Refused(refused) => format!("refused\t{}", refused.name),
+        }
+    }
+
+    #[inline(never)]
+    fn turns(&self, side: Side, turns: u64, slots: &mut [u64]) -> u64 {
+        let mut sum: u64 = 0;
+        match self {
+            Self::Argument(row, number, value) => {
+                for _ in 0..turns {
+                    let said = side(black_box(*row), black_box(*number), black_box(value), slots);
+                    sum = sum.wrapping_add(black_box(said));
+                }
+            }
+            Self::Refused(refused) => {
+                for _ in 0..turns {
+                    sum = sum.wrapping_add(black_box(black_box(*refused).turn(slots)));
+                }
+            }
+        }
+        sum
+    }
+}
+
+fn main() {
+    let arguments: Vec<String> = env::args().skip(1).collect();
+    let words: Vec<&str> = arguments.iter().map(String::as_str).collect();
+    let values = values::all();
+    let refused = sides::refused();
+    let mut cells: Vec<Cell<'_>> = Vec::new();
+    for number in ROWS {
+        let row = abis::DESCRIBED[number as usize];
+        cells.extend(values.iter().map(|value| Cell::Argument(row, number, value)));
+    }
+    cells.extend(refused.iter().map(Cell::Refused));
+    match *words {
+        ["cells"] => cells.iter().for_each(|cell| println!("{}", cell.name())),
+        ["same"] => same(&cells),
+        ["time"] => time(&cells),
+        ["count", side, turns] => count(&cells, named(side), number(turns)),
+        ["count", side, turns, cell] => {
+            let cell = number(cell) as usize;
+            count(&cells[cell..=cell], named(side), number(turns));
+        }
+        _ => usage(),
+    }
+}
+
+fn usage() -> ! {
+    eprintln!("usage: bench cells | same | time | count none|rust|ours TURNS [CELL]");
+    exit(2)
+}
+
+fn number(word: &str) -> u64 {
+    word.parse().unwrap_or_else(|_| usage())
+}
+
+fn named(side: &str) -> Side {
+    match side {
+        "none" => sides::none,
+        "rust" => sides::rust,
+        "ours" => sides::ours,
+        _ => usage(),
+    }
+}
+
+fn count(cells: &[Cell<'_>], side: Side, turns: u64) {
+    let mut slots = [0; 24];
+    let mut sum: u64 = 0;
+    for cell in cells {
+        bench_mark();
+        sum = sum.wrapping_add(cell.turns(side, turns, &mut slots));
+    }
+    bench_mark();
+    println!("{sum}");
+}
+
+/// Both sides say the same, or the figures would compare nothing.
+fn same(cells: &[Cell<'_>]) {
+    let mut slots = [0; 24];
+    for cell in cells {
+        let [rust, ours] = [sides::rust as Side, sides::ours].map(|s| cell.turns(s, 1, &mut slots));
+        assert_eq!(rust, ours, "{}", cell.name());
+    }
+    println!("{} cells, both sides the same", cells.len());
+}
+
+/// The least of several runs: what a busy machine adds is left out as far as it can be.
+fn time(cells: &[Cell<'_>]) {
+    const TURNS: u64 = 20_000;
+    let mut slots = [0; 24];
+    let mut least = |cell: &Cell<'_>, side: Side| {
+        let run = |_| {
+            let start = Instant::now();
+            black_box(cell.turns(side, TURNS, &mut slots));
+            start.elapsed().as_nanos() as f64 / TURNS as f64
+        };
+        (0..15).map(run).fold(f64::INFINITY, f64::min)
+    };
+    for cell in cells {
+        let none = least(cell, sides::none);
+        let rust = least(cell, sides::rust) - none;
+        let ours = least(cell, sides::ours) - none;
+        println!("{}\t{rust:.2}\t{ours:.2}", cell.name());
+    }
+}
