@@ -232,7 +232,7 @@ pub fn attribute(convention: u64, room: &mut [u8]) -> Told {
 
 /// How many words this slice is. The bytes of a slice fit an `isize`, so no product can overflow here.
 fn words_in<T>(items: &[T]) -> u64 {
-    const { assert!(size_of::<T>().is_multiple_of(size_of::<u64>())) };
+    const { assert!(size_of::<T>() / size_of::<u64>() * size_of::<u64>() == size_of::<T>()) };
     const { assert!(align_of::<T>() == align_of::<u64>()) };
     (size_of_val(items) / size_of::<u64>()) as u64
 }

@@ -94,7 +94,7 @@ fn seed() -> u64 {
 type Record = [u64; 6];
 
 fn records(sheet: &[u8]) -> impl Iterator<Item = Record> {
-    assert!(sheet.len().is_multiple_of(48), "whole records");
+    assert!(sheet.chunks_exact(48).remainder().is_empty(), "whole records");
     sheet.chunks_exact(48).map(|record| {
         std::array::from_fn(|at| {
             u64::from_le_bytes(record[8 * at..8 * at + 8].try_into().expect("eight bytes"))
