@@ -72,6 +72,8 @@ pub fn ours(_: &'static AbiDescription, number: u64, value: &Value, slots: &mut 
     left + 256 * (answer.way + written.map(|slot| 8 + slot[1]).sum::<u64>())
 }
 
+// In line, so that nothing stands between a side and the entries.
+#[inline(always)]
 fn argument([abi, integer, float, mark]: [u64; 4], value: &Value, slots: &mut [u64]) -> Answer {
     let (room, length) = (slots.as_mut_ptr(), slots.len() as u64);
     match &value.numbers {
