@@ -44,72 +44,81 @@ use Rattle.classify.proofs.Agree.{Agrees, slotsFor, argument-agrees, re
 
 -- ---- what decides a value
 
-module _ (abi : ℕ) (left : Left) (arg : args.Arg) (ps : List Piece) (r : Decided) where
-  module _ (e : arg ≡ args.the-variants.Void) (d : Decision) (ed : d ≡ rules.ignored .decision) (er : r ≡ parts.decided d parts.noClasses) where
-    pub return-void : r ≡ parts.decidedBy (rules.returnChoice (described abi) left arg ps) arg ps
-    unfolding rules.returnChoice
-    return-void = rw (er, ed, e)
+module _ (D : Description) (returning : Bool) (variadic : Variadic) (left : Left) (arg : args.Arg) (ps : List Piece) (r : Decided) where
+  pub by-void : arg ≡ args.the-variants.Void → (d : Decision) → d ≡ rules.ignored .decision → r ≡ parts.decided d parts.noClasses
+      → r ≡ parts.decideBy D returning variadic left arg ps
+  by-void e d ed er = rw (er, ed, e)
 
-    pub argument-void : r ≡ parts.decidedBy (rules.argumentChoice (described abi) left arg ps) arg ps
-    unfolding rules.argumentChoice
-    argument-void = rw (er, ed, e)
+  pub by-scalar : (s : Scalar) → arg ≡ args.the-variants.Scalar s → (d : Decision) → d ≡ parts.scalarBy D returning variadic left s
+      → r ≡ parts.decided d parts.noClasses → r ≡ parts.decideBy D returning variadic left arg ps
+  by-scalar s e d ed er = rw (er, ed, e)
 
-    pub memory-void : r ≡ parts.decidedBy (rules.memoryChoice (described abi) left arg ps) arg ps
-    memory-void = rw (er, ed, e)
+  pub by-aggregate : (shape : Shape) → arg ≡ args.the-variants.Aggregate shape → r ≡ parts.aggregateBy D returning variadic left shape ps
+      → r ≡ parts.decideBy D returning variadic left arg ps
+  by-aggregate shape e er = rw (er, e)
 
-  module _ (s : Scalar) (e : arg ≡ args.the-variants.Scalar s) (d : Decision) (er : r ≡ parts.decided d parts.noClasses) where
-    pub return-scalar : (S : Scalars) → S ≡ described abi .scalars → (p : ReturnPointer) → p ≡ described abi .«return_pointer» → d ≡ scalarReturn S p left s
-        → r ≡ parts.decidedBy (rules.returnChoice (described abi) left arg ps) arg ps
-    unfolding rules.returnChoice
-    return-scalar S eS p ep ed = rw (er, ed, eS, ep, e)
+module _ (abi : ℕ) (returning : Bool) (variadic : Variadic) (left : Left) (s : Scalar) (r : Decision) where
+  pub scalar-back : returning ≡ true → (S : Scalars) → S ≡ described abi .scalars → (p : ReturnPointer) → p ≡ described abi .«return_pointer»
+      → r ≡ scalarReturn S p left s → r ≡ parts.scalarBy (described abi) returning variadic left s
+  unfolding parts.scalarBy
+  scalar-back h S eS p ep er = rw (er, eS, ep, h)
 
-    pub argument-scalar : (B : Banks) → B ≡ described abi .banks → (S : Scalars) → S ≡ described abi .scalars → d ≡ scalarArgument B S left s
-        → r ≡ parts.decidedBy (rules.argumentChoice (described abi) left arg ps) arg ps
-    unfolding rules.argumentChoice
-    argument-scalar B eB S eS ed = rw (er, ed, eB, eS, e)
+  module _ (h : returning ≡ false) (m : Bool) (em : m ≡ parts.isAlwaysMemory variadic) where
+    pub scalar-memory : m ≡ true → r ≡ parts.spendsNothing ways.the-variants.Direct parts.noSource 0 → r ≡ parts.scalarBy (described abi) returning variadic left s
+    unfolding parts.scalarBy
+    scalar-memory z er = rw (er, h, ← em, z)
 
-    pub memory-scalar : d ≡ made.plain ways.the-variants.Direct made.nothing → r ≡ parts.decidedBy (rules.memoryChoice (described abi) left arg ps) arg ps
-    memory-scalar ed = rw (er, ed, e)
+    pub scalar-out : m ≡ false → (B : Banks) → B ≡ described abi .banks → (S : Scalars) → S ≡ described abi .scalars
+        → (l : Left) → l ≡ parts.leftFor variadic left → r ≡ scalarArgument B S l s → r ≡ parts.scalarBy (described abi) returning variadic left s
+    unfolding parts.scalarBy
+    scalar-out z B eB S eS l el er = rw (er, eB, eS, el, h, ← em, z)
 
-  module _ (shape : Shape) (e : arg ≡ args.the-variants.Aggregate shape) where
-    pub return-aggregate : r ≡ parts.walked (described abi) true left (parts.rulesOf (described abi) true) shape ps
-        → r ≡ parts.decidedBy (rules.returnChoice (described abi) left arg ps) arg ps
-    unfolding rules.returnChoice parts.walked
-    return-aggregate er = rw (er, e)
+module _ (abi : ℕ) (returning : Bool) (variadic : Variadic) (left : Left) (shape : Shape) (ps : List Piece)
+    (l : Left) (el : l ≡ parts.leftFor variadic left)
+    (d : Decided) (ed : d ≡ parts.walked (described abi) returning l (parts.rulesOf (described abi) returning) shape ps)
+    (m : Bool) (em : m ≡ parts.isAlwaysMemory variadic) where
+  pub aggregate-memory : m ≡ true → (r : Decided) → r ≡ parts.freelyDecided d → r ≡ parts.aggregateBy (described abi) returning variadic left shape ps
+  unfolding parts.aggregateBy
+  aggregate-memory z r er = rw (er, ed, el, ← em, z)
 
-    pub argument-aggregate : r ≡ parts.walked (described abi) false left (parts.rulesOf (described abi) false) shape ps
-        → r ≡ parts.decidedBy (rules.argumentChoice (described abi) left arg ps) arg ps
-    unfolding rules.argumentChoice parts.walked
-    argument-aggregate er = rw (er, e)
+  pub aggregate-out : m ≡ false → d ≡ parts.aggregateBy (described abi) returning variadic left shape ps
+  unfolding parts.aggregateBy
+  aggregate-out z = rw (ed, el, ← em, z)
 
-    pub memory-aggregate : (q : Decided) → q ≡ parts.walked (described abi) false (leaves 0 0 (left .«integers_only»)) (parts.rulesOf (described abi) false) shape ps
-        → r ≡ parts.freelyDecided q → r ≡ parts.decidedBy (rules.memoryChoice (described abi) left arg ps) arg ps
-    unfolding parts.walked
-    memory-aggregate q eq er = rw (er, eq, e)
+module _ (variadic : Variadic) (left : Left) where
+  pub left-emptied : variadic ≡ AlwaysMemory → leaves 0 0 (left .«integers_only») ≡ parts.leftFor variadic left
+  left-emptied e = rw e
 
-module _ (abi : ℕ) (left : Left) (arg : args.Arg) (ps : List Piece) (v : Variadic) (ev : v ≡ described abi .variadic) (r : Decided) where
-  module _ (er : r ≡ parts.decidedBy (rules.argumentChoice (described abi) left arg ps) arg ps) where
-    pub dots-same : v ≡ SameAsFixed → r ≡ parts.decidedBy (rules.dotsChoice (described abi) left arg ps) arg ps
-    unfolding rules.dotsChoice
-    dots-same e = let q : described abi .variadic ≡ SameAsFixed = sym ev ∙ e in rw (er, q)
+  pub left-marked : variadic ≡ UnnamedIntegers → leaves (left .integer) (left .float) true ≡ parts.leftFor variadic left
+  left-marked e = rw e
 
-    pub dots-both : v ≡ BothBanks → r ≡ parts.decidedBy (rules.dotsChoice (described abi) left arg ps) arg ps
-    unfolding rules.dotsChoice
-    dots-both e = let q : described abi .variadic ≡ BothBanks = sym ev ∙ e in rw (er, q)
+-- the choices of Spending.antt
 
-    pub dots-only : v ≡ IntegersOnly → r ≡ parts.decidedBy (rules.dotsChoice (described abi) left arg ps) arg ps
-    unfolding rules.dotsChoice
-    dots-only e = let q : described abi .variadic ≡ IntegersOnly = sym ev ∙ e in rw (er, q)
+return-choice : (D : Description) (left : Left) (arg : args.Arg) (ps : List Piece)
+    → parts.decideBy D true SameAsFixed left arg ps ≡ parts.decidedBy (rules.returnChoice D left arg ps) arg ps
+unfolding rules.returnChoice parts.scalarBy parts.aggregateBy parts.walked
+return-choice D left args.the-variants.Void ps = refl
+return-choice D left (args.the-variants.Scalar s) ps = refl
+return-choice D left (args.the-variants.Aggregate shape) ps = refl
 
-  pub dots-unnamed : v ≡ UnnamedIntegers → r ≡ parts.decidedBy (rules.argumentChoice (described abi) (leaves (left .integer) (left .float) true) arg ps) arg ps
-      → r ≡ parts.decidedBy (rules.dotsChoice (described abi) left arg ps) arg ps
-  unfolding rules.dotsChoice
-  dots-unnamed e er = let q : described abi .variadic ≡ UnnamedIntegers = sym ev ∙ e in rw (er, q)
-
-  pub dots-memory : v ≡ AlwaysMemory → r ≡ parts.decidedBy (rules.memoryChoice (described abi) left arg ps) arg ps
-      → r ≡ parts.decidedBy (rules.dotsChoice (described abi) left arg ps) arg ps
-  unfolding rules.dotsChoice
-  dots-memory e er = let q : described abi .variadic ≡ AlwaysMemory = sym ev ∙ e in rw (er, q)
+dots-choice : (variadic : Variadic) (D : Description) (left : Left) (arg : args.Arg) (ps : List Piece)
+    → parts.decideBy D false variadic left arg ps ≡ parts.decidedBy (rules.dotsBy variadic D left arg ps) arg ps
+unfolding rules.argumentChoice parts.scalarBy parts.aggregateBy parts.walked
+dots-choice SameAsFixed D left args.the-variants.Void ps = refl
+dots-choice SameAsFixed D left (args.the-variants.Scalar s) ps = refl
+dots-choice SameAsFixed D left (args.the-variants.Aggregate shape) ps = refl
+dots-choice BothBanks D left args.the-variants.Void ps = refl
+dots-choice BothBanks D left (args.the-variants.Scalar s) ps = refl
+dots-choice BothBanks D left (args.the-variants.Aggregate shape) ps = refl
+dots-choice IntegersOnly D left args.the-variants.Void ps = refl
+dots-choice IntegersOnly D left (args.the-variants.Scalar s) ps = refl
+dots-choice IntegersOnly D left (args.the-variants.Aggregate shape) ps = refl
+dots-choice UnnamedIntegers D left args.the-variants.Void ps = refl
+dots-choice UnnamedIntegers D left (args.the-variants.Scalar s) ps = refl
+dots-choice UnnamedIntegers D left (args.the-variants.Aggregate shape) ps = refl
+dots-choice AlwaysMemory D left args.the-variants.Void ps = refl
+dots-choice AlwaysMemory D left (args.the-variants.Scalar s) ps = refl
+dots-choice AlwaysMemory D left (args.the-variants.Aggregate shape) ps = refl
 
 -- ---- what an accepted call gives
 
@@ -170,64 +179,97 @@ module _ (c : Call) (arg : args.Arg) (ws out : List ℕ) (n : ℕ) (en : n ≡ r
 
 -- ---- the operations
 
+-- a whole operation, from what the code knows
 module _ (c : Call) (arg : args.Arg) (ws out : List ℕ) (n : ℕ) (en : n ≡ refusalOf c arg ws) where
-  module _ (h : n ≡ accepted → ⊥) where
-    module _ (r : Answer) (er : r ≡ refused c n) where
-      pub returns-refused : r ≡ returnsAnswer c arg ws out
-      unfolding returnsAnswer
-      returns-refused = refused-answer c arg ws out n en _ _ h r er
+  module _ (h : n ≡ accepted → ⊥) (d : Decided) where
+    pub perform-refused : (r : Answer) → r ≡ refused c n → r ≡ parts.performed c d arg ws out
+    unfolding parts.performed
+    perform-refused r er = rw (er, ← en) (or-refused n c _ h)
 
-      pub argument-refused : r ≡ argumentAnswer c arg ws out
-      unfolding argumentAnswer
-      argument-refused = refused-answer c arg ws out n en _ _ h r er
+    pub perform-kept : out ≡ parts.performedIn c d arg ws out
+    unfolding parts.performedIn
+    perform-kept = rw (← en) (kept n h)
+      where
+        kept : (k : ℕ) → (k ≡ accepted → ⊥) → out ≡ unlessRefused k (parts.finishedIn d (piecesOf ws) out) out
+        kept zero z = absurd (z refl)
+        kept (suc k) z = refl
 
-      pub dots-refused : r ≡ dotsAnswer c arg ws out
-      unfolding dotsAnswer
-      dots-refused = refused-answer c arg ws out n en _ _ h r er
-
-    pub returns-kept : out ≡ returnsWritten c arg ws out
-    unfolding returnsWritten
-    returns-kept = refused-buffer c arg ws out n en _ h
-
-    pub argument-kept : out ≡ argumentWritten c arg ws out
-    unfolding argumentWritten
-    argument-kept = refused-buffer c arg ws out n en _ h
-
-    pub dots-kept : out ≡ dotsWritten c arg ws out
-    unfolding dotsWritten
-    dots-kept = refused-buffer c arg ws out n en _ h
-
-  module _ (z : n ≡ accepted) (left : Left) (el : left ≡ leftOf c) (d : Decided) (r : Answer) (out′ : List ℕ)
+  module _ (z : n ≡ accepted) (returning : Bool) (variadic : Variadic) (left : Left) (el : left ≡ leftOf c) (d : Decided)
+      (ed : d ≡ parts.decideBy (described (c .abi)) returning variadic left arg (piecesOf ws)) (r : Answer) (out′ : List ℕ)
       (e : (r ≡ parts.finished c (d .decision) out) × (out′ ≡ parts.finishedIn d (piecesOf ws) out)) where
-    module _ (ed : d ≡ parts.decidedBy (rules.returnChoice (described (c .abi)) left arg (piecesOf ws)) arg (piecesOf ws)) where
+    pub perform-done : r ≡ parts.performed c (parts.decideBy (described (c .abi)) returning variadic (leftOf c) arg (piecesOf ws)) arg ws out
+    unfolding parts.performed
+    perform-done = rw (e .0, ed, el, ← en, z)
+
+    pub perform-written : out′ ≡ parts.performedIn c (parts.decideBy (described (c .abi)) returning variadic (leftOf c) arg (piecesOf ws)) arg ws out
+    unfolding parts.performedIn
+    perform-written = rw (e .1, ed, el, ← en, z)
+
+-- and what it comes to, by the rules
+module _ (c : Call) (arg : args.Arg) (ws out : List ℕ) (p : Passed) (k : rules.Chosen)
+    (agrees : refusalOf c arg ws ≡ accepted → Agrees (leftOf c) p (k .decision) (slotsFor k arg (piecesOf ws))) where
+  performed-answer : parts.performed c (parts.decidedBy k arg (piecesOf ws)) arg ws out ≡ answerTo c arg ws p (k .decision .spent) out
+  unfolding parts.performed
+  performed-answer = go (refusalOf c arg ws) refl
+    where
+      go : (n : ℕ) → n ≡ refusalOf c arg ws → orAnswer (refusalOf c arg ws) c (parts.finished c (k .decision) out) ≡ answerTo c arg ws p (k .decision .spent) out
+      go zero e = rw (← e) (accepted-answer c arg ws out zero e p refl k (agrees (sym e)) _ refl)
+      go (suc n) e = rw (← e) (refused-answer c arg ws out (suc n) e p _ (λ (z : suc n ≡ accepted). omega arith) _ refl)
+
+  performed-buffer : parts.performedIn c (parts.decidedBy k arg (piecesOf ws)) arg ws out ≡ writtenTo c arg ws p out
+  unfolding parts.performedIn
+  performed-buffer = go (refusalOf c arg ws) refl
+    where
+      go : (n : ℕ) → n ≡ refusalOf c arg ws
+          → unlessRefused (refusalOf c arg ws) (parts.finishedIn (parts.decidedBy k arg (piecesOf ws)) (piecesOf ws) out) out ≡ writtenTo c arg ws p out
+      go zero e = rw (← e) (accepted-buffer c arg ws out zero e p refl k (agrees (sym e)) _ refl)
+      go (suc n) e = rw (← e) (refused-buffer c arg ws out (suc n) e p (λ (z : suc n ≡ accepted). omega arith))
+
+module _ (c : Call) (arg : args.Arg) (ws out : List ℕ) where
+  abbrev D : Description
+  D = described (c .abi)
+
+  module _ (r : Answer) (out′ : List ℕ) where
+    module _ (e : (r ≡ parts.performed c (parts.decideBy D true SameAsFixed (leftOf c) arg (piecesOf ws)) arg ws out) × (out′ ≡ parts.performedIn c (parts.decideBy D true SameAsFixed (leftOf c) arg (piecesOf ws)) arg ws out)) where
       pub returns-answered : r ≡ returnsAnswer c arg ws out
       unfolding returnsAnswer
       returns-answered =
-          accepted-answer c arg ws out n en _ z _ (returns-agrees (described (c .abi)) (leftOf c) arg (piecesOf ws)) r (rw (ed, el) at (e .0))
+          e .0 ∙ (ap (λ (d : Decided). parts.performed c d arg ws out) (return-choice D (leftOf c) arg (piecesOf ws))
+          ∙ performed-answer c arg ws out _ _ (λ (z : refusalOf c arg ws ≡ accepted). returns-agrees D (leftOf c) arg (piecesOf ws)))
 
       pub returns-written : out′ ≡ returnsWritten c arg ws out
       unfolding returnsWritten
       returns-written =
-          accepted-buffer c arg ws out n en _ z _ (returns-agrees (described (c .abi)) (leftOf c) arg (piecesOf ws)) out′ (rw (ed, el) at (e .1))
+          e .1 ∙ (ap (λ (d : Decided). parts.performedIn c d arg ws out) (return-choice D (leftOf c) arg (piecesOf ws))
+          ∙ performed-buffer c arg ws out _ _ (λ (z : refusalOf c arg ws ≡ accepted). returns-agrees D (leftOf c) arg (piecesOf ws)))
 
-    module _ (ed : d ≡ parts.decidedBy (rules.argumentChoice (described (c .abi)) left arg (piecesOf ws)) arg (piecesOf ws)) where
+    module _ (e : (r ≡ parts.performed c (parts.decideBy D false SameAsFixed (leftOf c) arg (piecesOf ws)) arg ws out) × (out′ ≡ parts.performedIn c (parts.decideBy D false SameAsFixed (leftOf c) arg (piecesOf ws)) arg ws out)) where
       pub argument-answered : r ≡ argumentAnswer c arg ws out
       unfolding argumentAnswer
       argument-answered =
-          accepted-answer c arg ws out n en _ z _ (argument-agrees (described (c .abi)) (leftOf c) arg (piecesOf ws)) r (rw (ed, el) at (e .0))
+          e .0 ∙ (ap (λ (d : Decided). parts.performed c d arg ws out) (dots-choice SameAsFixed D (leftOf c) arg (piecesOf ws))
+          ∙ performed-answer c arg ws out _ _ (λ (z : refusalOf c arg ws ≡ accepted). argument-agrees D (leftOf c) arg (piecesOf ws)))
 
       pub argument-written : out′ ≡ argumentWritten c arg ws out
       unfolding argumentWritten
       argument-written =
-          accepted-buffer c arg ws out n en _ z _ (argument-agrees (described (c .abi)) (leftOf c) arg (piecesOf ws)) out′ (rw (ed, el) at (e .1))
+          e .1 ∙ (ap (λ (d : Decided). parts.performedIn c d arg ws out) (dots-choice SameAsFixed D (leftOf c) arg (piecesOf ws))
+          ∙ performed-buffer c arg ws out _ _ (λ (z : refusalOf c arg ws ≡ accepted). argument-agrees D (leftOf c) arg (piecesOf ws)))
 
-    module _ (ed : d ≡ parts.decidedBy (rules.dotsChoice (described (c .abi)) left arg (piecesOf ws)) arg (piecesOf ws)) where
+    module _ (v : Variadic) (ev : v ≡ D .variadic)
+        (e : (r ≡ parts.performed c (parts.decideBy D false v (leftOf c) arg (piecesOf ws)) arg ws out) × (out′ ≡ parts.performedIn c (parts.decideBy D false v (leftOf c) arg (piecesOf ws)) arg ws out)) where
+      dots-chosen : parts.decideBy D false v (leftOf c) arg (piecesOf ws) ≡ parts.decidedBy (rules.dotsChoice D (leftOf c) arg (piecesOf ws)) arg (piecesOf ws)
+      unfolding rules.dotsChoice
+      dots-chosen = rw ev (dots-choice (D .variadic) D (leftOf c) arg (piecesOf ws))
+
       pub dots-answered : r ≡ dotsAnswer c arg ws out
       unfolding dotsAnswer
       dots-answered =
-          accepted-answer c arg ws out n en _ z _ (dots-agrees (described (c .abi)) (leftOf c) arg (piecesOf ws) (unmarked c arg ws n en z)) r (rw (ed, el) at (e .0))
+          e .0 ∙ (ap (λ (d : Decided). parts.performed c d arg ws out) dots-chosen
+          ∙ performed-answer c arg ws out _ _ (λ (z : refusalOf c arg ws ≡ accepted). dots-agrees D (leftOf c) arg (piecesOf ws) (unmarked c arg ws _ refl z)))
 
       pub dots-written : out′ ≡ dotsWritten c arg ws out
       unfolding dotsWritten
       dots-written =
-          accepted-buffer c arg ws out n en _ z _ (dots-agrees (described (c .abi)) (leftOf c) arg (piecesOf ws) (unmarked c arg ws n en z)) out′ (rw (ed, el) at (e .1))
+          e .1 ∙ (ap (λ (d : Decided). parts.performedIn c d arg ws out) dots-chosen
+          ∙ performed-buffer c arg ws out _ _ (λ (z : refusalOf c arg ws ≡ accepted). dots-agrees D (leftOf c) arg (piecesOf ws) (unmarked c arg ws _ refl z)))

@@ -82,6 +82,11 @@ module _ (c : Call) (arg : args.Arg) (ws : List ℕ) (r : ℕ) (er : r ≡ callR
   unfolding refusalOf
   refusal-arg z q eq = rw (← er, z, eq)
 
+module _ (c : Call) (shape : Shape) (ws : List ℕ) (r : ℕ) (er : r ≡ callRefusal c) where
+  pub refusal-shape : r ≡ accepted → (q : ℕ) → q ≡ shapeRefusal shape ws → q ≡ refusalOf c (parts.aggregateArg shape) ws
+  unfolding refusalOf argRefusal
+  refusal-shape z q eq = rw (← er, z, eq)
+
 -- ---- fresh and variadic
 
 pub fresh-refused : (abi : ℕ) → descriptions ≤ abi → (r : Answer) → r ≡ refused (callOf 0 (leaves 0 0 false)) bad-abi → r ≡ freshAnswer abi

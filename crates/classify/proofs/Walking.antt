@@ -129,7 +129,7 @@ take-apart (r ∷ later) ends h =
     }
 
 module _ (abi : ℕ) (returning : Bool) (left : Left) (shape : Shape) (ps : List Piece)
-    (B : Banks) (bank : B ≡ described abi .banks) (pointer : ReturnPointer) (point : pointer ≡ described abi .«return_pointer»)
+    (B : Banks) (bank : B ≡ described abi .banks)
     (R : Rules) (inv : Remaining (described abi) returning left shape ps R)
     (rule : Rule) (el : rule ≡ firstRule R) (R′ : Rules) (er : R′ ≡ laterRules R) (s : Searched) (es : s ≡ searchedBy B (rule .when) shape ps) where
   taken : Taken (inv .rules) rule R′
@@ -189,7 +189,7 @@ module _ (abi : ℕ) (returning : Bool) (left : Left) (shape : Shape) (ps : List
           let t : skipped left returning (floatsIn []) ≡ true = rw q at skip in no-float (left .«integers_only» && not returning) t)
           (step-skipped (described abi) returning left shape ps rule _ (some .ss) (some .is) skip)
 
-    module _ (h : skipped left returning m ≡ false) (t : steps.Step)
+    module _ (h : skipped left returning m ≡ false) (pointer : ReturnPointer) (point : pointer ≡ described abi .«return_pointer») (t : steps.Step)
         (et : t ≡ travelOf B pointer returning left rule (shape .size) (record { count = n; floats = m; source = s .source })) where
       kept : skipped left returning (floatsIn (some .ss)) ≡ false
       kept = rw (← some .floats) h

@@ -2,13 +2,15 @@
 -- what an operation means is in Classify.antt and Spending.antt, and proofs/Agree.antt has this meet that.
 use Prim.Native.Nat.{ℕ, _-_, _/_, max}
 use mathlib.Core.List.{List, [], _∷_}
-use mathlib.Core.Bool.{Bool, cond}
+use mathlib.Core.Bool.{Bool, true, false, cond}
 use mathlib.Core.Option.{Option}
 use mathlib.Core.Option.Option.{none, some}
 use lib.Dec.{ltb}
 use lib.ListN.{length, replicate}
 use Rattle.shape.specs.declared.Piece.{Piece}
+use Rattle.shape.specs.declared.Scalar.{Scalar}
 use Rattle.shape.specs.declared.Shape.{Shape}
+use Rattle.shape.specs.Words.{piecesOf}
 use Rattle.shape.specs.Numbers as numbers
 use Rattle.slots.specs.declared.Slot.{Slot}
 use Rattle.slots.specs.declared.Found.{Found}
@@ -20,14 +22,18 @@ use Rattle.describe.specs.declared.Banks.{Banks}
 use Rattle.describe.specs.declared.Rule.{Rule}
 use Rattle.describe.specs.declared.Test.{Test}
 use Rattle.describe.specs.declared.Test.the-variants.{Anything, Empty, SizeOneOf, SizeAtMost, Homogeneous, FloatPair, X87Stack, LoneFloat, FloatingMode, ComplexFloat, Eightbytes}
+use Rattle.describe.specs.declared.Variadic.{Variadic}
+use Rattle.describe.specs.declared.Variadic.the-variants.{SameAsFixed, AlwaysMemory, BothBanks, IntegersOnly, UnnamedIntegers}
 use Rattle.describe.specs.Description.{Description}
 use Rattle.find.specs.Find.{eachPiece}
 use Rattle.eightbytes.specs.Eightbytes as eight
 use Rattle.spend.specs.declared.Left.{Left}
 use Rattle.spend.specs.declared.Way.{Way}
+use Rattle.spend.specs.declared.Way as ways
 use Rattle.spend.specs.declared.Source as sources
 use Rattle.spend.specs.declared.Decision.{Decision}
 use Rattle.spend.specs.Ways as made
+use Rattle.spend.specs.Spending.{scalarArgument, scalarReturn}
 use Rattle.classify.specs.declared.Arg as args
 use Rattle.classify.specs.declared.Call.{Call}
 use Rattle.classify.specs.declared.Answer.{Answer}
@@ -37,8 +43,8 @@ use Rattle.classify.specs.declared.Limit as limits
 use Rattle.classify.specs.Pass.{matches}
 use Rattle.classify.specs.Classify as rust
 use Rattle.classify.specs.Classify.{leaves, homogeneousLimit, isHomogeneousBy}
-use Rattle.classify.specs.Spending.{Chosen, sourceOf, aggregate}
-use Rattle.classify.specs.Answers.{answered, callOf, refused}
+use Rattle.classify.specs.Spending.{Chosen, ignored, sourceOf, aggregate}
+use Rattle.classify.specs.Answers.{answered, callOf, refused, refusalOf, orAnswer, unlessRefused}
 
 -- ---- the search
 
@@ -104,6 +110,38 @@ spendsNothing way source count = record { way = way; slots = source; count = cou
 abbrev pub freelyDecided : Decided → Decided
 freelyDecided d = decided (spendsNothing (d .decision .way) (d .decision .slots) (d .decision .count)) (d .classes)
 
+-- what an argument finds left after the dots: emptied banks where it is always in memory, integers-only where unnamed are integers
+abbrev pub leftFor : Variadic → Left → Left
+leftFor SameAsFixed left = left
+leftFor AlwaysMemory left = leaves 0 0 (left .«integers_only»)
+leftFor BothBanks left = left
+leftFor IntegersOnly left = left
+leftFor UnnamedIntegers left = leaves (left .integer) (left .float) true
+
+abbrev pub isAlwaysMemory : Variadic → Bool
+isAlwaysMemory SameAsFixed = false
+isAlwaysMemory AlwaysMemory = true
+isAlwaysMemory BothBanks = false
+isAlwaysMemory IntegersOnly = false
+isAlwaysMemory UnnamedIntegers = false
+
+-- what decides a return, a fixed argument (variadic as SameAsFixed) and one after the dots
+unfoldable pub scalarBy : Description → Bool → Variadic → Left → Scalar → Decision
+scalarBy D returning variadic left s =
+    cond returning (scalarReturn (D .scalars) (D .«return_pointer») left s)
+    (cond (isAlwaysMemory variadic) (spendsNothing ways.the-variants.Direct noSource 0)
+    (scalarArgument (D .banks) (D .scalars) (leftFor variadic left) s))
+
+unfoldable pub aggregateBy : Description → Bool → Variadic → Left → Shape → List Piece → Decided
+aggregateBy D returning variadic left shape ps =
+    cond (isAlwaysMemory variadic) (freelyDecided (walked D returning (leftFor variadic left) (rulesOf D returning) shape ps))
+    (walked D returning (leftFor variadic left) (rulesOf D returning) shape ps)
+
+abbrev pub decideBy : Description → Bool → Variadic → Left → args.Arg → List Piece → Decided
+decideBy D returning variadic left args.the-variants.Void ps = decided (ignored .decision) noClasses
+decideBy D returning variadic left (args.the-variants.Scalar s) ps = decided (scalarBy D returning variadic left s) noClasses
+decideBy D returning variadic left (args.the-variants.Aggregate shape) ps = aggregateBy D returning variadic left shape ps
+
 -- ---- the writing and the answer
 
 -- the slots of a decision, from where they stand
@@ -137,7 +175,17 @@ unfoldable pub finishedIn : Decided → List Piece → List ℕ → List ℕ
 finishedIn d ps out =
     cond (ltb (length out / slotSize) (d .decision .count)) out (written (slotsIn (d .decision .slots) (d .classes) ps) out)
 
+-- a whole operation, from what decides it
+unfoldable pub performed : Call → Decided → args.Arg → List ℕ → List ℕ → Answer
+performed c d arg ws out = orAnswer (refusalOf c arg ws) c (finished c (d .decision) out)
+
+unfoldable pub performedIn : Call → Decided → args.Arg → List ℕ → List ℕ → List ℕ
+performedIn c d arg ws out = unlessRefused (refusalOf c arg ws) (finishedIn d (piecesOf ws) out) out
+
 -- ---- in_memory
+
+abbrev pub aggregateArg : Shape → args.Arg
+aggregateArg shape = args.the-variants.Aggregate shape
 
 abbrev pub limitOption : Option ℕ → limits.Limit
 limitOption none = limits.the-variants.Nothing

@@ -110,43 +110,28 @@ impl Call {
     pub fn returns(self, arg: Arg, words: &[u64], out: &mut [u64]) -> Answer
         ensures { λ r. ⌜ (r ≡ returnsAnswer self arg (now (words .entry)) (now (out .entry))) × (now (out .exit) ≡ returnsWritten self arg (now (words .entry)) (now (out .entry))) ⌝ }
     {
-        let refusal = check(self, arg, words);
-        if refusal != shape::ACCEPTED {
-            return refused(self, refusal);
-        }
-        let decided = decide_return(self.abi, left_of(self), arg, words);
-        finish(self, decided, words, out)
+        perform(self, true, Variadic::SameAsFixed, arg, words, out)
     }
 
     // How the next fixed argument travels.
     pub fn argument(self, arg: Arg, words: &[u64], out: &mut [u64]) -> Answer
         ensures { λ r. ⌜ (r ≡ argumentAnswer self arg (now (words .entry)) (now (out .entry))) × (now (out .exit) ≡ argumentWritten self arg (now (words .entry)) (now (out .entry))) ⌝ }
     {
-        let refusal = check(self, arg, words);
-        if refusal != shape::ACCEPTED {
-            return refused(self, refusal);
-        }
-        let decided = decide_argument(self.abi, left_of(self), arg, words);
-        finish(self, decided, words, out)
+        perform(self, false, Variadic::SameAsFixed, arg, words, out)
     }
 
     // How the next argument after the dots travels.
     pub fn variadic_argument(self, arg: Arg, words: &[u64], out: &mut [u64]) -> Answer
         ensures { λ r. ⌜ (r ≡ dotsAnswer self arg (now (words .entry)) (now (out .entry))) × (now (out .exit) ≡ dotsWritten self arg (now (words .entry)) (now (out .entry))) ⌝ }
     {
-        let refusal = check(self, arg, words);
-        if refusal != shape::ACCEPTED {
-            return refused(self, refusal);
-        }
-        let decided = decide_after_dots(self.abi, left_of(self), arg, words);
-        finish(self, decided, words, out)
+        perform(self, false, abis::variadic(self.abi), arg, words, out)
     }
 
     // What a fixed argument that travels as Memory is aligned to in the argument area.
     pub fn in_memory(self, shape: Shape, words: &[u64]) -> InMemory
         ensures { λ r. ⌜ r ≡ inMemoryAnswer self shape (now (words .entry)) ⌝ }
     {
-        let refusal = check(self, Arg::Aggregate(shape), words);
+        let refusal = check_aggregate(self, shape, words);
         if refusal != shape::ACCEPTED {
             return InMemory { refusal, align: 0 };
         }
@@ -173,6 +158,26 @@ impl Call {
     {
         self.float
     }
+}
+
+// One operation, in its parts: check, decide, then room, writing and the answer. A fixed argument and a return are variadic as
+// SameAsFixed, an argument after the dots as its description says.
+fn perform(
+    call: Call,
+    returning: bool,
+    variadic: Variadic,
+    arg: Arg,
+    words: &[u64],
+    out: &mut [u64],
+) -> Answer
+    ensures { λ r. ⌜ (r ≡ parts.performed call (parts.decideBy (described (call .abi)) returning variadic (leftOf call) arg (piecesOf (now (words .entry)))) arg (now (words .entry)) (now (out .entry))) × (now (out .exit) ≡ parts.performedIn call (parts.decideBy (described (call .abi)) returning variadic (leftOf call) arg (piecesOf (now (words .entry)))) arg (now (words .entry)) (now (out .entry))) ⌝ }
+{
+    let refusal = check(call, arg, words);
+    if refusal != shape::ACCEPTED {
+        return refused(call, refusal);
+    }
+    let decided = decide(call.abi, returning, variadic, left_of(call), arg, words);
+    finish(call, decided, words, out)
 }
 
 // ---- check
@@ -232,80 +237,90 @@ struct Decided {
     classes: [u8; 8],
 }
 
-fn decide_return(abi: u64, left: Left, arg: Arg, words: &[u64]) -> Decided
+fn decide(
+    abi: u64,
+    returning: bool,
+    variadic: Variadic,
+    left: Left,
+    arg: Arg,
+    words: &[u64],
+) -> Decided
     requires { ⌜ abi < descriptions ⌝ }
-    ensures { λ r. ⌜ r ≡ parts.decidedBy (rules.returnChoice (described abi) left arg (piecesOf (now (words .entry)))) arg (piecesOf (now (words .entry))) ⌝ }
+    ensures { λ r. ⌜ r ≡ parts.decideBy (described abi) returning variadic left arg (piecesOf (now (words .entry))) ⌝ }
 {
     match arg {
         Arg::Void => unclassed(ignored()),
-        Arg::Scalar(s) => unclassed(spend::scalar_return(
-            abis::scalars(abi),
-            abis::return_pointer(abi),
-            left,
-            s,
-        )),
-        Arg::Aggregate(shape) => walk(abi, true, left, shape, words),
+        Arg::Scalar(s) => unclassed(decide_scalar(abi, returning, variadic, left, s)),
+        Arg::Aggregate(shape) => decide_aggregate(abi, returning, variadic, left, shape, words),
     }
 }
 
-fn decide_argument(abi: u64, left: Left, arg: Arg, words: &[u64]) -> Decided
-    requires { ⌜ abi < descriptions ⌝ }
-    ensures { λ r. ⌜ r ≡ parts.decidedBy (rules.argumentChoice (described abi) left arg (piecesOf (now (words .entry)))) arg (piecesOf (now (words .entry))) ⌝ }
+fn decide_scalar(abi: u64, returning: bool, variadic: Variadic, left: Left, s: Scalar) -> Decision
+    ensures { λ r. ⌜ r ≡ parts.scalarBy (described abi) returning variadic left s ⌝ }
 {
-    match arg {
-        Arg::Void => unclassed(ignored()),
-        Arg::Scalar(s) => unclassed(spend::scalar_argument(
-            abis::banks(abi),
-            abis::scalars(abi),
-            left,
-            s,
-        )),
-        Arg::Aggregate(shape) => walk(abi, false, left, shape, words),
+    if returning {
+        return spend::scalar_return(abis::scalars(abi), abis::return_pointer(abi), left, s);
     }
+    if always_memory(variadic) {
+        return spends_nothing(Way::Direct, Source::Empty, 0);
+    }
+    spend::scalar_argument(
+        abis::banks(abi),
+        abis::scalars(abi),
+        left_for(variadic, left),
+        s,
+    )
 }
 
-fn decide_after_dots(abi: u64, left: Left, arg: Arg, words: &[u64]) -> Decided
+fn decide_aggregate(
+    abi: u64,
+    returning: bool,
+    variadic: Variadic,
+    left: Left,
+    shape: Shape,
+    words: &[u64],
+) -> Decided
     requires { ⌜ abi < descriptions ⌝ }
-    ensures { λ r. ⌜ r ≡ parts.decidedBy (rules.dotsChoice (described abi) left arg (piecesOf (now (words .entry)))) arg (piecesOf (now (words .entry))) ⌝ }
+    ensures { λ r. ⌜ r ≡ parts.aggregateBy (described abi) returning variadic left shape (piecesOf (now (words .entry))) ⌝ }
 {
-    let variadic = abis::variadic(abi);
+    let decided = walk(abi, returning, left_for(variadic, left), shape, words);
+    if always_memory(variadic) {
+        return freely(decided);
+    }
+    decided
+}
+
+// Always in memory: nothing is spent.
+fn always_memory(variadic: Variadic) -> bool
+    ensures { λ r. ⌜ r ≡ parts.isAlwaysMemory variadic ⌝ }
+{
     match variadic {
-        Variadic::SameAsFixed => decide_argument(abi, left, arg, words),
-        Variadic::BothBanks => decide_argument(abi, left, arg, words),
-        Variadic::IntegersOnly => decide_argument(abi, left, arg, words),
-        Variadic::UnnamedIntegers => decide_argument(
-            abi,
-            Left {
-                integer: left.integer,
-                float: left.float,
-                integers_only: true,
-            },
-            arg,
-            words,
-        ),
-        Variadic::AlwaysMemory => decide_in_memory(abi, left, arg, words),
+        Variadic::SameAsFixed => false,
+        Variadic::AlwaysMemory => true,
+        Variadic::BothBanks => false,
+        Variadic::IntegersOnly => false,
+        Variadic::UnnamedIntegers => false,
     }
 }
 
-// After the dots, always in memory: an aggregate is classified on emptied banks, and nothing is spent.
-fn decide_in_memory(abi: u64, left: Left, arg: Arg, words: &[u64]) -> Decided
-    requires { ⌜ abi < descriptions ⌝ }
-    ensures { λ r. ⌜ r ≡ parts.decidedBy (rules.memoryChoice (described abi) left arg (piecesOf (now (words .entry)))) arg (piecesOf (now (words .entry))) ⌝ }
+// What such an argument finds left: in memory an aggregate is classified on emptied banks, and unnamed integers are integers-only.
+fn left_for(variadic: Variadic, left: Left) -> Left
+    ensures { λ r. ⌜ r ≡ parts.leftFor variadic left ⌝ }
 {
-    match arg {
-        Arg::Void => unclassed(ignored()),
-        Arg::Scalar(_) => unclassed(spends_nothing(Way::Direct, Source::Empty, 0)),
-        Arg::Aggregate(shape) => freely(walk(
-            abi,
-            false,
-            Left {
-                integer: 0,
-                float: 0,
-                integers_only: left.integers_only,
-            },
-            shape,
-            words,
-        )),
+    match variadic {
+        Variadic::SameAsFixed => left,
+        Variadic::AlwaysMemory => Left {
+            integer: 0,
+            float: 0,
+            integers_only: left.integers_only,
+        },
+        Variadic::BothBanks => left,
+        Variadic::IntegersOnly => left,
+        Variadic::UnnamedIntegers => Left {
+            integer: left.integer,
+            float: left.float,
+            integers_only: true,
+        },
     }
 }
 
@@ -361,7 +376,6 @@ fn walk(abi: u64, returning: bool, left: Left, shape: Shape, words: &[u64]) -> D
     ensures { λ r. ⌜ r ≡ parts.walked (described abi) returning left (parts.rulesOf (described abi) returning) shape (piecesOf (now (words .entry))) ⌝ }
 {
     let banks = abis::banks(abi);
-    let pointer = abis::return_pointer(abi);
     let mut rules = rules_of(abi, returning);
     loop {
         let rule = describe::first_rule(rules);
@@ -379,7 +393,7 @@ fn walk(abi: u64, returning: bool, left: Left, shape: Shape, words: &[u64]) -> D
         let source = searched.source;
         let step = spend::travel(
             banks,
-            pointer,
+            abis::return_pointer(abi),
             returning,
             left,
             rule,
@@ -594,6 +608,16 @@ fn minus(a: u64, b: u64) -> u64
 }
 
 // ---- in_memory
+
+fn check_aggregate(call: Call, shape: Shape, words: &[u64]) -> u64
+    ensures { λ r. ⌜ r ≡ refusalOf call (parts.aggregateArg shape) (now (words .entry)) ⌝ }
+{
+    let refusal = check_call(call);
+    if refusal != shape::ACCEPTED {
+        return refusal;
+    }
+    shape::check_shape(shape, words)
+}
 
 fn memory_align(abi: u64, shape: Shape, words: &[u64]) -> u64
     ensures { λ r. ⌜ r ≡ inMemory (described abi) shape (piecesOf (now (words .entry))) ⌝ }

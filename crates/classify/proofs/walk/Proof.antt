@@ -7,17 +7,14 @@ use Rattle.classify.proofs.walk.Statement.{statement}
 use Rattle.classify.proofs.walk.Tie as tie
 
 abbrev Inv-loop : tie.InvT-loop
-Inv-loop abi returning left shape words banks pointer rules₀ rules =
+Inv-loop abi returning left shape words banks rules₀ rules =
     Remaining (described abi) returning left shape (piecesOf words) rules
 
 abbrev μ-loop : tie.MeasureT-loop
-μ-loop abi returning left shape words banks pointer rules₀ rules = rules .tests
+μ-loop abi returning left shape words banks rules₀ rules = rules .tests
 
 banks-requires : tie.Need-banks-requires Inv-loop μ-loop
 banks-requires c κs = search needs
-
-return-pointer-requires : tie.Need-return-pointer-requires Inv-loop μ-loop
-return-pointer-requires c κs = search needs
 
 rules-of-requires : tie.Need-rules-of-requires Inv-loop μ-loop
 rules-of-requires c κs = search needs
@@ -52,6 +49,9 @@ loop-less-2 c = search (falls)
 loop-again-2 : tie.Need-loop-again-2 Inv-loop μ-loop
 loop-again-2 c = search (skipped-next)
 
+return-pointer-requires : tie.Need-return-pointer-requires Inv-loop μ-loop
+return-pointer-requires c κs = search needs
+
 travel-requires : tie.Need-travel-requires Inv-loop μ-loop
 travel-requires c κs = search needs
 
@@ -70,12 +70,12 @@ loop-again-3 c = search (short-next)
 returns : tie.Need-returns Inv-loop μ-loop
 returns c =
     let travel = c .before .before .before .before in
-    let search = travel .before .before .before .before .before .before in
+    let pointer = travel .before in
+    let search = pointer .before .before .before .before .before .before in
     let later = search .before in
     let first = later .before in
     let loop = first .before in
-    let pointer = loop .before .before in
-    decided-here _ _ _ _ _ _ (pointer .before .banks .ensures) _ (pointer .return-pointer .ensures) _ (loop .loop .inv) _ (first .first-rule .ensures) _ (later .later-rules .ensures) _ (search .search .ensures) _ _ (travel .before .before .before .before .found .given .1) (travel .before .if1 .left) _ (travel .travel .ensures) _ (c .before .before .step .given .1)
+    decided-here _ _ _ _ _ _ (loop .before .before .banks .ensures) _ (loop .loop .inv) _ (first .first-rule .ensures) _ (later .later-rules .ensures) _ (search .search .ensures) _ _ (pointer .before .before .before .before .found .given .1) (pointer .before .if1 .left) _ (pointer .return-pointer .ensures) _ (travel .travel .ensures) _ (c .before .before .step .given .1)
 
 pub walk-spec : {M : Type 1} → statement M
 walk-spec =
@@ -84,7 +84,6 @@ walk-spec =
     Inv-loop
     μ-loop
     banks-requires
-    return-pointer-requires
     rules-of-requires
     loop-holds
     first-rule-requires
@@ -96,6 +95,7 @@ walk-spec =
     loop-again
     loop-less-2
     loop-again-2
+    return-pointer-requires
     travel-requires
     enum-known-step
     enum-told-2

@@ -1,50 +1,13 @@
--- `argument` refuses what the checks refuse, and else answers what decides the value. Assumes nothing.
-use Rattle.classify.proofs.Operations.{argument-refused, argument-kept, known, argument-answered, argument-written}
+-- `argument` performs an operation by the rules for arguments. Assumes nothing.
 use borrow.Author.Needs.{needs}
+use Rattle.classify.proofs.Operations.{argument-answered, argument-written}
 use Rattle.classify.proofs.Call.argument.Statement.{statement}
 use Rattle.classify.proofs.Call.argument.Tie as tie
-
-check-requires : tie.Need-check-requires
-check-requires c κs = search needs
-
-refused-requires : tie.Need-refused-requires
-refused-requires c κs = search needs
-
-returns : tie.Need-returns
-returns c = (search (argument-refused), search (argument-kept))
-
-left-of-requires : tie.Need-left-of-requires
-left-of-requires c κs = search needs
-
-decide-argument-requires : tie.Need-decide-argument-requires
-decide-argument-requires c κs = search (known)
-
-finish-requires : tie.Need-finish-requires
-finish-requires c κs = search needs
-
-same-length : tie.Need-same-length
-same-length c = search needs
-
-returns-2 : tie.Need-returns-2
-returns-2 c =
-    let finish = c .before .before in
-    let decide = finish .before .before in
-    let left = decide .before in
-    let check = left .before .before in
-    let made = left .before .if1 .left in (
-      argument-answered _ _ _ _ _ (check .check .ensures) made _ (left .left-of .ensures) _ _ _ (finish .finish .ensures) (decide .decide-argument .ensures),
-      argument-written _ _ _ _ _ (check .check .ensures) made _ (left .left-of .ensures) _ _ _ (finish .finish .ensures) (decide .decide-argument .ensures),
-    )
 
 pub argument-spec : {M : Type 1} → statement M
 argument-spec =
     tie.close
     (tie.spec
-    check-requires
-    refused-requires
-    returns
-    left-of-requires
-    decide-argument-requires
-    finish-requires
-    same-length
-    returns-2)
+    (λ c κs. search needs)
+    (λ c. search needs)
+    (λ c. (argument-answered _ _ _ _ _ _ (c .before .before .perform .ensures), argument-written _ _ _ _ _ _ (c .before .before .perform .ensures))))

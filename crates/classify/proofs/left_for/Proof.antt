@@ -1,0 +1,20 @@
+-- `left_for` empties the banks or sets the mark. Assumes nothing.
+use borrow.Author.Needs.{needs}
+use Rattle.classify.proofs.Operations.{left-emptied, left-marked}
+use Rattle.classify.proofs.left_for.Statement.{statement}
+use Rattle.classify.proofs.left_for.Tie as tie
+
+pub left-for-spec : {M : Type 1} → statement M
+left-for-spec =
+    tie.close
+    (tie.spec
+    (λ c. search needs)
+    (λ c. search needs)
+    (λ c. search needs)
+    (λ c. search needs)
+    (λ c. search needs)
+    (λ c. search needs)
+    (λ c. search (left-emptied))
+    (λ c. search needs)
+    (λ c. search needs)
+    (λ c. search (left-marked)))
