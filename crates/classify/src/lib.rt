@@ -30,6 +30,7 @@ ghost use Rattle.classify.specs.Answers as answers;
 ghost use Rattle.classify.specs.Parts as parts;
 
 // The registers that one call has left: its description, integers, floats, and whether floats go in integer registers alone.
+#[repr(C)]
 pub struct Call {
     pub abi: u64,
     pub integer: u64,

@@ -1,0 +1,50 @@
+-- The argument that a question stands for, one law for each form, and an answer in numbers. Assumes nothing.
+use mathlib.Core.Path.{_≡_, refl}
+use mathlib.Core.Bool.{not}
+use lib.Dec.{eqb}
+use borrow.Author.Tests.{eq-eqb, ne-eqb}
+use Prim.Native.Nat.{ℕ}
+use Rattle.spend.specs.Ways.{wayNumber}
+use Rattle.classify.specs.declared.Arg.{Arg}
+use Rattle.classify.specs.declared.Arg.the-variants.{Void, Scalar, Aggregate}
+use Rattle.classify.specs.declared.Answer.{Answer}
+use Rattle.bridge.specs.declared.What.{What}
+use Rattle.bridge.specs.declared.Answered.{Answered}
+use Rattle.bridge.specs.Lent.{argOf, lent}
+
+module _ (w : What) where
+  pub of-void : w .form ≡ 0 → Void ≡ argOf w
+  unfolding argOf
+  of-void h = rw (eq-eqb (w .form) 0 h)
+
+  module _ (h0 : (w .form ≡ 0) → ⊥) where
+    pub of-scalar : w .form ≡ 1 → Scalar (record { kind = w .kind; size = w .size; align = w .align }) ≡ argOf w
+    unfolding argOf
+    of-scalar h = rw (ne-eqb (w .form) 0 h0, eq-eqb (w .form) 1 h)
+
+    module _ (h1 : (w .form ≡ 1) → ⊥) where
+      pub of-aggregate : w .form ≡ 2
+          → Aggregate (record { size = w .size; align = w .align; complex = not (eqb (w .complex) 0); floating = not (eqb (w .floating) 0) }) ≡ argOf w
+      unfolding argOf
+      of-aggregate h = rw (ne-eqb (w .form) 0 h0, ne-eqb (w .form) 1 h1, eq-eqb (w .form) 2 h)
+
+      pub of-unknown : ((w .form ≡ 2) → ⊥) → Scalar (record { kind = 5; size = 0; align = 0 }) ≡ argOf w
+      unfolding argOf
+      of-unknown h = rw (ne-eqb (w .form) 0 h0, ne-eqb (w .form) 1 h1, ne-eqb (w .form) 2 h)
+
+pub in-numbers : (a : Answer) (n : ℕ) → n ≡ wayNumber (a .outcome .way)
+    → _≡_ {A = Answered}
+    (record {
+      next = a .next;
+      outcome = record {
+        refusal = a .outcome .refusal;
+        way = n;
+        «integers_passed» = a .outcome .spent .«integers_passed»;
+        «integers_given» = a .outcome .spent .«integers_given»;
+        «floats_passed» = a .outcome .spent .«floats_passed»;
+        «floats_given» = a .outcome .spent .«floats_given»;
+        slots = a .outcome .slots;
+      };
+    })
+    (lent a)
+in-numbers a n h = rw h

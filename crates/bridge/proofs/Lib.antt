@@ -1,0 +1,5 @@
+pub mod Laws
+pub mod Asking
+pub mod Alone
+pub mod Promised
+mod Unique

@@ -1,0 +1,40 @@
+-- No second outcome, no other call behind the reference and no other words in the lent slot buffer meet the promise of a public function, as
+-- Promised.antt reads it from the contract. Assumes nothing.
+use mathlib.Core.Path.{sym, _∙_}
+use contract.Lifetimes.{Lfts}
+use denote.Ref.{now}
+use Rattle.shape.proofs.OneAnswer.{OneAnswer, OneExit}
+use Rattle.bridge.proofs.Promised.{Marks, Returns, Passes, PassesAfterDots}
+
+variadic-decides : (κs : Lfts 1) → OneAnswer (Marks κs)
+variadic-decides κs a r q s t p p′ = p .0 ∙ sym (p′ .0)
+
+variadic-call : (κs : Lfts 1) → OneExit (Marks κs) (λ s. now (s .0))
+variadic-call κs a r q s t p p′ = p .1 ∙ sym (p′ .1)
+
+returns-decides : (κs : Lfts 3) → OneAnswer (Returns κs)
+returns-decides κs a r q s t p p′ = p .0 ∙ sym (p′ .0)
+
+returns-call : (κs : Lfts 3) → OneExit (Returns κs) (λ s. now (s .0))
+returns-call κs a r q s t p p′ = p .1 ∙ sym (p′ .1)
+
+returns-words : (κs : Lfts 3) → OneExit (Returns κs) (λ s. now (s .1 .1 .1 .0))
+returns-words κs a r q s t p p′ = p .2 ∙ sym (p′ .2)
+
+argument-decides : (κs : Lfts 3) → OneAnswer (Passes κs)
+argument-decides κs a r q s t p p′ = p .0 ∙ sym (p′ .0)
+
+argument-call : (κs : Lfts 3) → OneExit (Passes κs) (λ s. now (s .0))
+argument-call κs a r q s t p p′ = p .1 ∙ sym (p′ .1)
+
+argument-words : (κs : Lfts 3) → OneExit (Passes κs) (λ s. now (s .1 .1 .1 .0))
+argument-words κs a r q s t p p′ = p .2 ∙ sym (p′ .2)
+
+variadic-argument-decides : (κs : Lfts 3) → OneAnswer (PassesAfterDots κs)
+variadic-argument-decides κs a r q s t p p′ = p .0 ∙ sym (p′ .0)
+
+variadic-argument-call : (κs : Lfts 3) → OneExit (PassesAfterDots κs) (λ s. now (s .0))
+variadic-argument-call κs a r q s t p p′ = p .1 ∙ sym (p′ .1)
+
+variadic-argument-words : (κs : Lfts 3) → OneExit (PassesAfterDots κs) (λ s. now (s .1 .1 .1 .0))
+variadic-argument-words κs a r q s t p p′ = p .2 ∙ sym (p′ .2)

@@ -1,0 +1,22 @@
+-- `returns_of` answers what the call's method answers, in numbers, and leaves what that leaves in the buffer. Assumes nothing.
+use borrow.Author.Needs.{needs}
+use Rattle.bridge.proofs.returns_of.Statement.{statement}
+use Rattle.bridge.proofs.returns_of.Tie as tie
+
+arg-of-requires : tie.Need-arg-of-requires
+arg-of-requires c κs = search needs
+
+returns-requires : tie.Need-returns-requires
+returns-requires c κs = search needs
+
+told-requires : tie.Need-told-requires
+told-requires c κs = search needs
+
+same-length : tie.Need-same-length
+same-length c = search needs
+
+returns : tie.Need-returns
+returns c = (cc, cc)
+
+pub returns-of-spec : {M : Type 1} → statement M
+returns-of-spec = tie.close (tie.spec arg-of-requires returns-requires told-requires same-length returns)

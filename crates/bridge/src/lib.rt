@@ -1,0 +1,195 @@
+// The bridge's forms of a call's operations (docs/REFERENCE.md, 14): the call is lent and updated where it stands, and what is asked and what
+// is answered are numbers. Each form over a lent call is a thin one over a value form, which does all the work.
+use classify::Arg;
+use classify::Call;
+use shape::Scalar;
+use shape::Shape;
+use spend::Way;
+ghost use mathlib.Core.Path.{_≡_};
+ghost use Rattle.spend.specs.Ways.{wayNumber};
+ghost use Rattle.classify.specs.Answers.{variadicAnswer, returnsAnswer, returnsWritten, argumentAnswer, argumentWritten, dotsAnswer, dotsWritten};
+ghost use Rattle.bridge.specs.Lent.{argOf, outcomeIn, lent};
+
+// What is asked about: void, a scalar of this kind, size and alignment, or an aggregate of this size and alignment, which is complex and
+// has the floating mode where those aren't 0. An aggregate's pieces stand beside it, as words.
+#[repr(C)]
+pub struct What {
+    pub form: u64,
+    pub kind: u64,
+    pub size: u64,
+    pub align: u64,
+    pub complex: u64,
+    pub floating: u64,
+}
+
+pub const VOID: u64 = 0;
+
+pub const SCALAR: u64 = 1;
+
+pub const AGGREGATE: u64 = 2;
+
+// A kind that no scalar has.
+const NO_KIND: u64 = 5;
+
+// A value form's outcome, in numbers.
+#[repr(C)]
+pub struct Outcome {
+    pub refusal: u64,
+    pub way: u64,
+    pub integers_passed: u64,
+    pub integers_given: u64,
+    pub floats_passed: u64,
+    pub floats_given: u64,
+    pub slots: u64,
+}
+
+// The next call beside the outcome.
+struct Answered {
+    next: Call,
+    outcome: Outcome,
+}
+
+// ---- over a call that is lent
+
+// The same call, to a function whose parameters end in dots.
+#[no_mangle]
+pub extern "C" fn barkpaddle_bridge_variadic(call: &mut Call) -> Outcome
+    ensures { λ r. ⌜ (r ≡ outcomeIn (variadicAnswer (now (call .entry)) .outcome)) × (now (call .exit) ≡ variadicAnswer (now (call .entry)) .next) ⌝ }
+{
+    let answer = variadic_of(*call);
+    *call = answer.next;
+    answer.outcome
+}
+
+// How the return value comes back.
+#[no_mangle]
+pub extern "C" fn barkpaddle_bridge_returns(
+    call: &mut Call,
+    what: What,
+    words: &[u64],
+    slots: &mut [u64],
+) -> Outcome
+    ensures { λ r. ⌜ (r ≡ outcomeIn (returnsAnswer (now (call .entry)) (argOf what) (now (words .entry)) (now (slots .entry)) .outcome)) × (now (call .exit) ≡ returnsAnswer (now (call .entry)) (argOf what) (now (words .entry)) (now (slots .entry)) .next) × (now (slots .exit) ≡ returnsWritten (now (call .entry)) (argOf what) (now (words .entry)) (now (slots .entry))) ⌝ }
+{
+    let answer = returns_of(*call, what, words, slots);
+    *call = answer.next;
+    answer.outcome
+}
+
+// How the next fixed argument travels.
+#[no_mangle]
+pub extern "C" fn barkpaddle_bridge_argument(
+    call: &mut Call,
+    what: What,
+    words: &[u64],
+    slots: &mut [u64],
+) -> Outcome
+    ensures { λ r. ⌜ (r ≡ outcomeIn (argumentAnswer (now (call .entry)) (argOf what) (now (words .entry)) (now (slots .entry)) .outcome)) × (now (call .exit) ≡ argumentAnswer (now (call .entry)) (argOf what) (now (words .entry)) (now (slots .entry)) .next) × (now (slots .exit) ≡ argumentWritten (now (call .entry)) (argOf what) (now (words .entry)) (now (slots .entry))) ⌝ }
+{
+    let answer = argument_of(*call, what, words, slots);
+    *call = answer.next;
+    answer.outcome
+}
+
+// How the next argument after the dots travels.
+#[no_mangle]
+pub extern "C" fn barkpaddle_bridge_variadic_argument(
+    call: &mut Call,
+    what: What,
+    words: &[u64],
+    slots: &mut [u64],
+) -> Outcome
+    ensures { λ r. ⌜ (r ≡ outcomeIn (dotsAnswer (now (call .entry)) (argOf what) (now (words .entry)) (now (slots .entry)) .outcome)) × (now (call .exit) ≡ dotsAnswer (now (call .entry)) (argOf what) (now (words .entry)) (now (slots .entry)) .next) × (now (slots .exit) ≡ dotsWritten (now (call .entry)) (argOf what) (now (words .entry)) (now (slots .entry))) ⌝ }
+{
+    let answer = variadic_argument_of(*call, what, words, slots);
+    *call = answer.next;
+    answer.outcome
+}
+
+// ---- the value forms
+
+fn variadic_of(call: Call) -> Answered
+    ensures { λ r. ⌜ r ≡ lent (variadicAnswer call) ⌝ }
+{
+    told(call.variadic())
+}
+
+fn returns_of(call: Call, what: What, words: &[u64], slots: &mut [u64]) -> Answered
+    ensures { λ r. ⌜ (r ≡ lent (returnsAnswer call (argOf what) (now (words .entry)) (now (slots .entry)))) × (now (slots .exit) ≡ returnsWritten call (argOf what) (now (words .entry)) (now (slots .entry))) ⌝ }
+{
+    told(call.returns(arg_of(what), words, slots))
+}
+
+fn argument_of(call: Call, what: What, words: &[u64], slots: &mut [u64]) -> Answered
+    ensures { λ r. ⌜ (r ≡ lent (argumentAnswer call (argOf what) (now (words .entry)) (now (slots .entry)))) × (now (slots .exit) ≡ argumentWritten call (argOf what) (now (words .entry)) (now (slots .entry))) ⌝ }
+{
+    told(call.argument(arg_of(what), words, slots))
+}
+
+fn variadic_argument_of(call: Call, what: What, words: &[u64], slots: &mut [u64]) -> Answered
+    ensures { λ r. ⌜ (r ≡ lent (dotsAnswer call (argOf what) (now (words .entry)) (now (slots .entry)))) × (now (slots .exit) ≡ dotsWritten call (argOf what) (now (words .entry)) (now (slots .entry))) ⌝ }
+{
+    told(call.variadic_argument(arg_of(what), words, slots))
+}
+
+// A form that isn't known is refused as a scalar of no kind, in the order of the other refusals.
+fn arg_of(what: What) -> Arg
+    ensures { λ r. ⌜ r ≡ argOf what ⌝ }
+{
+    if what.form == VOID {
+        return Arg::Void;
+    }
+    if what.form == SCALAR {
+        return Arg::Scalar(Scalar {
+            kind: what.kind,
+            size: what.size,
+            align: what.align,
+        });
+    }
+    if what.form == AGGREGATE {
+        return Arg::Aggregate(Shape {
+            size: what.size,
+            align: what.align,
+            complex: what.complex != 0,
+            floating: what.floating != 0,
+        });
+    }
+    Arg::Scalar(Scalar {
+        kind: NO_KIND,
+        size: 0,
+        align: 0,
+    })
+}
+
+fn told(answer: classify::Answer) -> Answered
+    ensures { λ r. ⌜ r ≡ lent answer ⌝ }
+{
+    let next = answer.next;
+    let outcome = answer.outcome;
+    let way = outcome.way;
+    let spent = outcome.spent;
+    Answered {
+        next,
+        outcome: Outcome {
+            refusal: outcome.refusal,
+            way: way_number(way),
+            integers_passed: spent.integers_passed,
+            integers_given: spent.integers_given,
+            floats_passed: spent.floats_passed,
+            floats_given: spent.floats_given,
+            slots: outcome.slots,
+        },
+    }
+}
+
+fn way_number(way: Way) -> u64
+    ensures { λ r. ⌜ r ≡ wayNumber way ⌝ }
+{
+    match way {
+        Way::Ignore => 0,
+        Way::Direct => 1,
+        Way::Pieces => 2,
+        Way::Reference => 3,
+        Way::Memory => 4,
+    }
+}
