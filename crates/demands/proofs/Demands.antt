@@ -4,11 +4,15 @@
 -- dots). Each is a total function of its inputs, proved to answer exactly what its definition says, `freshAnswer`, `variadicAnswer`,
 -- `returnsAnswer`, `argumentAnswer` and `dotsAnswer` of classify/specs/Answers.antt, and to leave the lent slot buffer as `returnsWritten`,
 -- `argumentWritten` and `dotsWritten` say: so what is said of these definitions here is said of the code. That no second answer meets those
--- promises is in each crate's proofs/Unique.antt. Assumes nothing.
+-- promises is in each crate's proofs/Unique.antt. The forms over a lent call (crate bridge) have their own lines below. Assumes nothing.
 use Prim.Native.Nat.{ℕ, _/_, _≤_, _<_}
 use mathlib.Core.Path.{_≡_}
 use mathlib.Core.List.{List, [], map}
 use mathlib.Core.Option.Option.{some}
+use contract.Lifetimes.{Lfts}
+use denote.Ref.{now}
+use denote.Triple.Clauses.{AtExit}
+use borrow.Fn.World.{ArgsD}
 use lib.ListN.{length, take}
 use Rattle.shape.specs.declared.Shape.{Shape}
 use Rattle.shape.specs.Numbers.{accepted}
@@ -27,6 +31,13 @@ use Rattle.classify.specs.Answers.{leftOf, refusalOf, variadicAnswer, returnsAn
 use Rattle.ledger.specs.Ledger.{Operation, history, Ledger}
 use Rattle.ledger.specs.Performed.{Started, AllPerformed}
 use Rattle.ledger.specs.Twelve.{twelve, answerTo, expected}
+use Rattle.bridge.specs.declared.Outcome as bridge
+use Rattle.bridge.specs.Lent.{lent}
+use Rattle.bridge.proofs.barkpaddle_bridge_variadic as on-mark
+use Rattle.bridge.proofs.barkpaddle_bridge_argument as on-value
+use Rattle.bridge.proofs.Promised.{Marks, Returns, Passes, PassesAfterDots}
+use Rattle.bridge.proofs.Kept as kept
+use Rattle.bridge.proofs.Histories as lending
 use Rattle.psabi.specs.Domain as psabi
 use Rattle.psabi.specs.Psabi.{psabiArgument, psabiResult}
 use Rattle.psabi.specs.Reading.{freeAt, results}
@@ -62,6 +73,22 @@ dots-refused = refusing.dots-refused
 
 pub mark-refused : (c : Call) → (variadicAnswer c .outcome .refusal ≡ accepted → ⊥) → Refused c [] (variadicAnswer c) []
 mark-refused = refusing.mark-refused
+
+-- the same of the forms over a lent call: `Marks`, `Returns`, `Passes` and `PassesAfterDots` are their contracts, and where the outcome refuses, the
+-- call and the words behind the references are afterwards those that stood there
+pub lent-mark-refused : (κs : Lfts 1) (a : ArgsD on-mark.signature κs) (r : bridge.Outcome) (e : AtExit on-mark.ended κs) → Marks κs a r e
+    → (r .refusal ≡ accepted → ⊥) → now (e .0) ≡ now (a .0)
+lent-mark-refused = kept.variadic-refused
+
+module _ (κs : Lfts 3) (a : ArgsD on-value.signature κs) (r : bridge.Outcome) (e : AtExit on-value.ended κs) where
+  pub lent-return-refused : Returns κs a r e → (r .refusal ≡ accepted → ⊥) → (now (e .0) ≡ now (a .0)) × (now (e .1 .1 .1 .0) ≡ now (a .1 .1 .1 .0))
+  lent-return-refused = kept.returns-refused κs a r e
+
+  pub lent-argument-refused : Passes κs a r e → (r .refusal ≡ accepted → ⊥) → (now (e .0) ≡ now (a .0)) × (now (e .1 .1 .1 .0) ≡ now (a .1 .1 .1 .0))
+  lent-argument-refused = kept.argument-refused κs a r e
+
+  pub lent-dots-refused : PassesAfterDots κs a r e → (r .refusal ≡ accepted → ⊥) → (now (e .0) ≡ now (a .0)) × (now (e .1 .1 .1 .0) ≡ now (a .1 .1 .1 .0))
+  lent-dots-refused = kept.variadic-argument-refused κs a r e
 
 -- ---- Demand 2: what is accepted is answered as the Rust answers, with the counts of the spending rules
 
@@ -132,6 +159,13 @@ every-register-once = ledger
 pub every-register-once-performed : (d : ℕ) → d < 30 → (first : Answer) → Started d first → (ops : List Operation) (past : List Answer)
     → AllPerformed (first .next) ops past → (n : ℕ) → Ledger d (take n past)
 every-register-once-performed = ledger-performed
+
+-- and of one call that is lent to each operation in turn: `AllLent` says that each form's contract is met on the call as the one before left it.
+-- The outcomes, in numbers, and the calls are those of a history, and its ledger holds
+pub every-register-once-lent : (d : ℕ) → d < 30 → (first : Answer) → Started d first → (ops : List lending.Operation) (past : List lending.After)
+    → lending.AllLent (first .next) ops past
+    → (past ≡ map lent (history d (map lending.operationOf ops))) × ((n : ℕ) → Ledger d (take n (history d (map lending.operationOf ops))))
+every-register-once-lent = lending.ledger-lent
 
 -- ---- The table of twelve calls
 
