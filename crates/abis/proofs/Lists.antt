@@ -1,11 +1,10 @@
--- Each list of rules ends with one that decides (REFERENCE 5.6), so that a walk that isn't decided yet has a rule left: one test that
--- antt computes over all descriptions.
+-- Each list of rules ends with one that decides (REFERENCE 5.6): one test that antt computes over all descriptions.
 use mathlib.Core.Bool.{_&&_}
-use Prim.Native.Nat.{ℕ, _+_, _<_, _≤_}
+use Prim.Native.Nat.{ℕ, _<_, _≤_}
 use lib.Dec.{T, leb, leb→le}
-use lib.ListN.{length, getD}
-use Rattle.describe.specs.Description.{Description, Decides, Ends, past}
-use Rattle.describe.proofs.Ends.{isEnding, ends, goes-on}
+use lib.ListN.{length}
+use Rattle.describe.specs.Description.{Description, Ends}
+use Rattle.describe.proofs.Ends.{isEnding, ends}
 use Rattle.describe.proofs.Numbers.{and-left, and-right}
 use Rattle.abis.specs.Abis.{described, descriptions, blank, description-count}
 use Rattle.abis.proofs.Every.{within, anywhere}
@@ -22,19 +21,10 @@ pub arguments-end : (d : ℕ) → d < description-count → Ends (described d .a
 arguments-end d h =
     ends (described d .arguments) (and-right (isEnding (described d .returns)) (isEnding (described d .arguments)) (both-ending d h))
 
-pub returns-go-on : (d : ℕ) → d < description-count → (i : ℕ) → i < length (described d .returns) → (Decides (getD (described d .returns) i past) → ⊥) → i + 1 < length (described d .returns)
-returns-go-on d h = goes-on (described d .returns) (returns-end d h)
-
-pub arguments-go-on : (d : ℕ) → d < description-count → (i : ℕ) → i < length (described d .arguments) → (Decides (getD (described d .arguments) i past) → ⊥) → i + 1 < length (described d .arguments)
-arguments-go-on d h = goes-on (described d .arguments) (arguments-end d h)
-
--- No list has more than four rules. A walk doesn't stand on this.
-both-few : (d : ℕ) → T (leb (length (described d .returns)) 4 && leb (length (described d .arguments)) 4)
+-- No list for arguments has more than four rules. A walk doesn't stand on this; `in_memory`, which looks through a row, does.
+few : (d : ℕ) → T (leb (length (described d .arguments)) 4)
 unfolding described descriptions
-both-few = anywhere (λ (D : Description). leb (length (D .returns)) 4 && leb (length (D .arguments)) 4) descriptions blank tt tt
-
-pub returns-few : (d : ℕ) → length (described d .returns) ≤ 4
-returns-few d = leb→le (length (described d .returns)) 4 (and-left (leb (length (described d .returns)) 4) (leb (length (described d .arguments)) 4) (both-few d))
+few = anywhere (λ (D : Description). leb (length (D .arguments)) 4) descriptions blank tt tt
 
 pub arguments-few : (d : ℕ) → length (described d .arguments) ≤ 4
-arguments-few d = leb→le (length (described d .arguments)) 4 (and-right (leb (length (described d .returns)) 4) (leb (length (described d .arguments)) 4) (both-few d))
+arguments-few d = leb→le (length (described d .arguments)) 4 (few d)

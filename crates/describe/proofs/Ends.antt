@@ -1,12 +1,8 @@
--- A list that ends with a rule that decides: a walk that is at a rule that doesn't decide has a rule left. The test that a list
--- ends so is one that antt computes.
+-- A list that ends with a rule that decides: the test for it is one that antt computes.
 use mathlib.Core.Path.{_≡_, refl}
 use mathlib.Core.Bool.{Bool, true, false, _&&_}
-use mathlib.Core.Logic.{_⊎_, ⊎-elim}
 use mathlib.Core.List.{List}
-use Prim.Native.Nat.{ℕ, _+_, _-_, _<_, _≤_}
-use native.Mathlib.Nat.{eq-or-lt-of-le}
-use native.Mathlib.Omega.{arith}
+use Prim.Native.Nat.{_-_}
 use lib.Dec.{T, ltb, ltb→lt}
 use lib.ListN.{length, getD}
 use Rattle.describe.specs.declared.Rule.{Rule}
@@ -18,15 +14,6 @@ use Rattle.describe.specs.declared.Travel.the-variants.{Ignore, AsFound,
 use Rattle.describe.specs.declared.Short.the-variants.{Unchanged, Memory, MemoryAndDrain, TryNextRule}
 use Rattle.describe.specs.Description.{Decides, Ends, past}
 use Rattle.describe.proofs.Numbers.{and-left, and-right}
-
-pub goes-on : (rules : List Rule) → Ends rules → (i : ℕ) → i < length rules → (Decides (getD rules i past) → ⊥) → i + 1 < length rules
-goes-on rules ends i h open-still =
-    ⊎-elim
-    (λ (e : i + 1 ≡ length rules).
-    let last : length rules - 1 ≡ i = omega arith in
-    absurd (open-still (rw last at (ends .last))))
-    (λ (l : i + 1 < length rules). l)
-    (eq-or-lt-of-le (let b : i + 1 ≤ length rules = omega arith in b))
 
 -- The test of a rule, part by part.
 abbrev isAnything : Test → Bool
