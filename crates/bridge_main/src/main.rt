@@ -1,0 +1,549 @@
+// Performs one long history of operations twice, on a call by value and on a call that is lent, and compares call, outcome and slot buffer after
+// each operation. The history is drawn from a fixed seed: all thirty descriptions, late and repeated marks, and every
+// refusal, which the line that is printed counts.
+use bridge::Outcome;
+use bridge::What;
+use classify::Answer;
+use classify::Arg;
+use classify::Call;
+use libc::STDOUT_FILENO;
+use shape::Scalar;
+use shape::Shape;
+use spend::Way;
+use text::append;
+ghost use mathlib.Core.Path.{_≡_};
+ghost use Rattle.classify.specs.Answers.{variadicAnswer, returnsAnswer, returnsWritten, argumentAnswer, argumentWritten, dotsAnswer, dotsWritten};
+ghost use Rattle.bridge.specs.Lent.{argOf, outcomeIn};
+
+const OPERATIONS: u64 = 60000;
+
+const SEED: u64 = 88172645463325252;
+
+// What one operation leaves.
+struct Left {
+    next: Call,
+    outcome: Outcome,
+}
+
+// Both calls behind an operation, the seed of the next one, whether the two forms agreed, and which place of the tally it counts in.
+struct Turn {
+    value: Call,
+    lent: Call,
+    seed: u64,
+    same: bool,
+    place: usize,
+}
+
+fn main() {
+    let mut words = [0u64; 32];
+    let mut first = [0u64; 24];
+    let mut second = [0u64; 24];
+    let mut tally = [0u64; 16];
+    run(&mut words, &mut first, &mut second, &mut tally);
+}
+
+fn run(words: &mut [u64], first: &mut [u64], second: &mut [u64], tally: &mut [u64]) {
+    let mut turn = start();
+    let mut done = 0;
+    while done < OPERATIONS {
+        let next = one(turn, words, first, second);
+        if !next.same {
+            say(done, b" operations agree, and the next one differs", tally);
+            return;
+        }
+        count(tally, next.place);
+        turn = next;
+        done += 1;
+    }
+    say(done, b" operations agree, by value and lent", tally);
+}
+
+// The refusals stand in the tally at their numbers, and the ways behind them.
+fn place_of(told: Outcome) -> usize {
+    if told.refusal > 0 {
+        return (told.refusal % 8) as usize;
+    }
+    (8 + told.way % 8) as usize
+}
+
+fn count(tally: &mut [u64], place: usize) {
+    if place >= tally.len() {
+        return;
+    }
+    let n = tally[place];
+    if n >= OPERATIONS {
+        return;
+    }
+    tally[place] = n + 1;
+}
+
+fn start() -> Turn {
+    let answer = Call::fresh(0);
+    let call = answer.next;
+    Turn {
+        value: call,
+        lent: call,
+        seed: SEED,
+        same: true,
+        place: 0,
+    }
+}
+
+// One operation in both forms.
+fn one(turn: Turn, words: &mut [u64], first: &mut [u64], second: &mut [u64]) -> Turn {
+    let drawn = draw(turn.seed);
+    let value = turn.value;
+    let lent = turn.lent;
+    fill(words, drawn);
+    both(value, lent, drawn, words, first, second)
+}
+
+fn both(
+    value: Call,
+    lent: Call,
+    drawn: Drawn,
+    words: &[u64],
+    first: &mut [u64],
+    second: &mut [u64],
+) -> Turn {
+    let answer = pass(value, drawn, words, first);
+    let left = lend(lent, drawn, words, second);
+    compared(answer, left, first, second, drawn.c)
+}
+
+// ---- the history
+
+// The next three numbers of the generator, xorshift of 64 bits.
+struct Drawn {
+    a: u64,
+    b: u64,
+    c: u64,
+}
+
+fn draw(seed: u64) -> Drawn {
+    let a = after(seed);
+    let b = after(a);
+    Drawn { a, b, c: after(b) }
+}
+
+fn after(seed: u64) -> u64 {
+    let a = seed ^ (seed << 13);
+    let b = a ^ (a >> 7);
+    b ^ (b << 17)
+}
+
+// The call that an operation is performed on: the one before left it, or a fresh one, or now and then one of any numbers.
+fn renewed(call: Call, drawn: Drawn) -> Call {
+    let a = drawn.a;
+    let b = drawn.b;
+    if (a >> 8) % 16 == 0 {
+        let answer = Call::fresh((b >> 9) % 30);
+        let fresh = answer.next;
+        return fresh;
+    }
+    if (a >> 20) % 128 == 0 {
+        return Call {
+            abi: b % 32,
+            integer: (b >> 8) % 12,
+            float: (b >> 16) % 12,
+            integers_only: (b >> 24) % 2 == 1,
+        };
+    }
+    call
+}
+
+fn what_of(drawn: Drawn) -> What {
+    let b = drawn.b;
+    let c = drawn.c;
+    let form = form_of(b % 16);
+    What {
+        form,
+        kind: kind_of((b >> 4) % 64),
+        size: size_of(form, b, c),
+        align: align_of(c),
+        complex: flag((c >> 24) % 8),
+        floating: flag((c >> 27) % 8),
+    }
+}
+
+fn form_of(k: u64) -> u64 {
+    if k == 0 {
+        return 0;
+    }
+    if k < 5 {
+        return 1;
+    }
+    if k < 15 {
+        return 2;
+    }
+    k
+}
+
+// Mostly an integer, a Single or a Double; now and then any other, or the first number that is no kind.
+fn kind_of(k: u64) -> u64 {
+    if k < 6 {
+        return k;
+    }
+    k % 3
+}
+
+fn size_of(form: u64, b: u64, c: u64) -> u64 {
+    if form == 1 {
+        return scalar_size((b >> 10) % 64);
+    }
+    if (c >> 6) % 32 == 0 {
+        return 33554432;
+    }
+    if (c >> 6) % 32 < 6 {
+        return (c >> 12) % 70;
+    }
+    spread((c >> 2) % 6, c % 3)
+}
+
+fn scalar_size(k: u64) -> u64 {
+    if k < 12 {
+        return 1;
+    }
+    if k < 24 {
+        return 2;
+    }
+    if k < 36 {
+        return 4;
+    }
+    if k < 48 {
+        return 8;
+    }
+    if k < 60 {
+        return 16;
+    }
+    if k < 62 {
+        return 3;
+    }
+    if k == 62 {
+        return 64;
+    }
+    65
+}
+
+fn align_of(c: u64) -> u64 {
+    if (c >> 18) % 64 == 0 {
+        return 8192;
+    }
+    if (c >> 18) % 64 < 5 {
+        return 1;
+    }
+    width(c % 3)
+}
+
+fn flag(k: u64) -> u64 {
+    if k < 3 {
+        return k;
+    }
+    0
+}
+
+// How wide a piece is, and so many times that.
+fn width(k: u64) -> u64 {
+    if k == 0 {
+        return 4;
+    }
+    if k == 1 {
+        return 8;
+    }
+    16
+}
+
+fn spread(n: u64, k: u64) -> u64 {
+    if k == 0 {
+        return n << 2;
+    }
+    if k == 1 {
+        return n << 3;
+    }
+    n << 4
+}
+
+// How many words of pieces are read: whole pieces but for now and then.
+fn words_of(c: u64) -> usize {
+    let n = ((c >> 2) % 6) << 2;
+    if (c >> 50) % 64 == 0 {
+        return (n | 1) as usize;
+    }
+    n as usize
+}
+
+// How many words the slot buffer has: mostly room for eight slots.
+fn room_of(c: u64) -> usize {
+    if (c >> 40) % 4 == 0 {
+        return ((c >> 44) % 25) as usize;
+    }
+    24
+}
+
+// The pieces, side by side.
+fn fill(words: &mut [u64], drawn: Drawn) {
+    let n = words.len();
+    let mut i = 0;
+    while i < n {
+        words[i] = word(i as u64, drawn.b, drawn.c);
+        i += 1;
+    }
+}
+
+fn word(i: u64, b: u64, c: u64) -> u64 {
+    if i % 4 == 0 {
+        return piece_kind(i / 4, b);
+    }
+    if i % 4 == 3 {
+        return spread(i / 4, c % 3);
+    }
+    width(c % 3)
+}
+
+fn piece_kind(piece: u64, b: u64) -> u64 {
+    if (b >> 36) % 64 == piece {
+        return 5;
+    }
+    if (b >> 30) % 2 == 0 {
+        return (b >> 31) % 5;
+    }
+    ((b >> 31) ^ piece) % 3
+}
+
+// ---- the value form
+
+// Where the words or the room aren't there, nothing is asked, and the two forms differ.
+fn pass(call: Call, drawn: Drawn, words: &[u64], slots: &mut [u64]) -> Answer {
+    let n = words_of(drawn.c);
+    if n > words.len() {
+        return Call::fresh(30);
+    }
+    let room = room_of(drawn.c);
+    if room > slots.len() {
+        return Call::fresh(30);
+    }
+    answered(
+        drawn.a % 16,
+        renewed(call, drawn),
+        arg_of(what_of(drawn)),
+        &words[..n],
+        &mut slots[..room],
+    )
+}
+
+fn answered(op: u64, call: Call, arg: Arg, words: &[u64], slots: &mut [u64]) -> Answer {
+    if op == 0 {
+        return call.variadic();
+    }
+    if op < 5 {
+        return call.returns(arg, words, slots);
+    }
+    if op < 11 {
+        return call.argument(arg, words, slots);
+    }
+    call.variadic_argument(arg, words, slots)
+}
+
+fn arg_of(what: What) -> Arg {
+    if what.form == 0 {
+        return Arg::Void;
+    }
+    if what.form == 1 {
+        return Arg::Scalar(Scalar {
+            kind: what.kind,
+            size: what.size,
+            align: what.align,
+        });
+    }
+    if what.form == 2 {
+        return Arg::Aggregate(Shape {
+            size: what.size,
+            align: what.align,
+            complex: what.complex > 0,
+            floating: what.floating > 0,
+        });
+    }
+    Arg::Scalar(Scalar {
+        kind: 255,
+        size: 1,
+        align: 1,
+    })
+}
+
+// ---- the forms over a lent call
+
+fn lend(call: Call, drawn: Drawn, words: &[u64], slots: &mut [u64]) -> Left {
+    let n = words_of(drawn.c);
+    if n > words.len() {
+        return mark(call);
+    }
+    let room = room_of(drawn.c);
+    if room > slots.len() {
+        return mark(call);
+    }
+    lent(
+        drawn.a % 16,
+        renewed(call, drawn),
+        what_of(drawn),
+        &words[..n],
+        &mut slots[..room],
+    )
+}
+
+fn lent(op: u64, call: Call, what: What, words: &[u64], slots: &mut [u64]) -> Left {
+    if op == 0 {
+        return mark(call);
+    }
+    if op < 5 {
+        return returns(call, what, words, slots);
+    }
+    if op < 11 {
+        return argument(call, what, words, slots);
+    }
+    after_dots(call, what, words, slots)
+}
+
+fn mark(call: Call) -> Left
+    ensures { λ r. ⌜ (r .outcome ≡ outcomeIn (variadicAnswer call .outcome)) × (r .next ≡ variadicAnswer call .next) ⌝ }
+{
+    let mut lent = call;
+    let outcome = bridge::barkpaddle_bridge_variadic(&mut lent);
+    Left {
+        next: lent,
+        outcome,
+    }
+}
+
+fn returns(call: Call, what: What, words: &[u64], slots: &mut [u64]) -> Left
+    ensures { λ r. ⌜ (r .outcome ≡ outcomeIn (returnsAnswer call (argOf what) (now (words .entry)) (now (slots .entry)) .outcome)) × (r .next ≡ returnsAnswer call (argOf what) (now (words .entry)) (now (slots .entry)) .next) × (now (slots .exit) ≡ returnsWritten call (argOf what) (now (words .entry)) (now (slots .entry))) ⌝ }
+{
+    let mut lent = call;
+    let outcome = bridge::barkpaddle_bridge_returns(&mut lent, what, words, slots);
+    Left {
+        next: lent,
+        outcome,
+    }
+}
+
+fn argument(call: Call, what: What, words: &[u64], slots: &mut [u64]) -> Left
+    ensures { λ r. ⌜ (r .outcome ≡ outcomeIn (argumentAnswer call (argOf what) (now (words .entry)) (now (slots .entry)) .outcome)) × (r .next ≡ argumentAnswer call (argOf what) (now (words .entry)) (now (slots .entry)) .next) × (now (slots .exit) ≡ argumentWritten call (argOf what) (now (words .entry)) (now (slots .entry))) ⌝ }
+{
+    let mut lent = call;
+    let outcome = bridge::barkpaddle_bridge_argument(&mut lent, what, words, slots);
+    Left {
+        next: lent,
+        outcome,
+    }
+}
+
+fn after_dots(call: Call, what: What, words: &[u64], slots: &mut [u64]) -> Left
+    ensures { λ r. ⌜ (r .outcome ≡ outcomeIn (dotsAnswer call (argOf what) (now (words .entry)) (now (slots .entry)) .outcome)) × (r .next ≡ dotsAnswer call (argOf what) (now (words .entry)) (now (slots .entry)) .next) × (now (slots .exit) ≡ dotsWritten call (argOf what) (now (words .entry)) (now (slots .entry))) ⌝ }
+{
+    let mut lent = call;
+    let outcome = bridge::barkpaddle_bridge_variadic_argument(&mut lent, what, words, slots);
+    Left {
+        next: lent,
+        outcome,
+    }
+}
+
+// ---- the comparison
+
+fn compared(answer: Answer, left: Left, first: &[u64], second: &[u64], seed: u64) -> Turn {
+    let value = answer.next;
+    let lent = left.next;
+    let outcome = answer.outcome;
+    let told = left.outcome;
+    Turn {
+        value,
+        lent,
+        seed,
+        same: same_calls(value, lent) & same_outcomes(outcome, told) & same_words(first, second),
+        place: place_of(told),
+    }
+}
+
+fn same_calls(a: Call, b: Call) -> bool {
+    (a.abi == b.abi)
+        & (a.integer == b.integer)
+        & (a.float == b.float)
+        & ((a.integers_only & b.integers_only) | (!a.integers_only & !b.integers_only))
+}
+
+fn same_outcomes(outcome: classify::Outcome, told: Outcome) -> bool {
+    let way = outcome.way;
+    let spent = outcome.spent;
+    (outcome.refusal == told.refusal)
+        & (way_number(way) == told.way)
+        & (spent.integers_passed == told.integers_passed)
+        & (spent.integers_given == told.integers_given)
+        & (spent.floats_passed == told.floats_passed)
+        & (spent.floats_given == told.floats_given)
+        & (outcome.slots == told.slots)
+}
+
+fn way_number(way: Way) -> u64 {
+    match way {
+        Way::Ignore => 0,
+        Way::Direct => 1,
+        Way::Pieces => 2,
+        Way::Reference => 3,
+        Way::Memory => 4,
+    }
+}
+
+fn same_words(first: &[u64], second: &[u64]) -> bool {
+    let n = first.len();
+    if n != second.len() {
+        return false;
+    }
+    let mut i = 0;
+    while i < n {
+        if first[i] != second[i] {
+            return false;
+        }
+        i += 1;
+    }
+    true
+}
+
+// ---- the line
+
+fn say(done: u64, words: &[u8], tally: &[u64]) {
+    let mut space = [0u8; 512];
+    let out: &mut [u8] = &mut space;
+    let a = put_number(out, 0, done);
+    let b = append(out, a, words);
+    let c = append(out, b, b"; refused with 1 to 7:");
+    let d = put_counts(out, c, tally, 1, 8);
+    let e = append(out, d, b"; ways 0 to 4:");
+    let f = put_counts(out, e, tally, 8, 13);
+    let g = append(out, f, b"\n");
+    flush(out, g);
+}
+
+fn put_counts(out: &mut [u8], from: usize, tally: &[u64], first: usize, end: usize) -> usize {
+    let mut at = from;
+    let mut i = first;
+    while i < end {
+        if i >= tally.len() {
+            return at;
+        }
+        at = append(out, at, b" ");
+        at = put_number(out, at, tally[i]);
+        i += 1;
+    }
+    at
+}
+
+fn flush(out: &[u8], at: usize) {
+    if at <= out.len() {
+        io::write_all(STDOUT_FILENO, &out[..at]);
+    }
+}
+
+fn put_number(out: &mut [u8], at: usize, n: u64) -> usize {
+    let mut digits = [0u8; 20];
+    let k = io::decimal(n, &mut digits);
+    append(out, at, &digits[..k])
+}
