@@ -12,7 +12,6 @@ use borrow.Fn.World.{ArgsD}
 use lib.Dec.{ltb}
 use lib.ListN.{length}
 use Rattle.shape.specs.Numbers.{accepted, no-room}
-use Rattle.shape.specs.Words.{piecesOf}
 use Rattle.slots.specs.Words.{slotSize, written}
 use Rattle.slots.proofs.Words.{written-short}
 use Rattle.spend.specs.declared.Spent.{Spent}
@@ -25,7 +24,7 @@ use Rattle.classify.specs.Answers.{callRefusal, refusalOf, answered, refused, d
 use Rattle.bridge.specs.declared.Outcome.{Outcome}
 use Rattle.bridge.proofs.barkpaddle_bridge_variadic as variadic
 use Rattle.bridge.proofs.barkpaddle_bridge_argument as argument
-use Rattle.bridge.proofs.Promised.{Marks, Asks, Returns, Passes, PassesAfterDots}
+use Rattle.bridge.proofs.Promised.{Marks, Returns, Passes, PassesAfterDots}
 
 -- ---- of the definitions
 

@@ -1,11 +1,10 @@
 -- The argument that a question stands for, one law for each form, and an answer in numbers. Assumes nothing.
-use mathlib.Core.Path.{_≡_, refl}
+use mathlib.Core.Path.{_≡_}
 use mathlib.Core.Bool.{not}
 use lib.Dec.{eqb}
 use borrow.Author.Tests.{eq-eqb, ne-eqb}
 use Prim.Native.Nat.{ℕ}
 use Rattle.spend.specs.Ways.{wayNumber}
-use Rattle.classify.specs.declared.Arg.{Arg}
 use Rattle.classify.specs.declared.Arg.the-variants.{Void, Scalar, Aggregate}
 use Rattle.classify.specs.declared.Answer.{Answer}
 use Rattle.bridge.specs.declared.What.{What}
