@@ -21,10 +21,13 @@ pub arguments-end : (d : ℕ) → d < description-count → Ends (described d .a
 arguments-end d h =
     ends (described d .arguments) (and-right (isEnding (described d .returns)) (isEnding (described d .arguments)) (both-ending d h))
 
--- No list for arguments has more than four rules. A walk doesn't stand on this; `in_memory`, which looks through a row, does.
-few : (d : ℕ) → T (leb (length (described d .arguments)) 4)
+-- No list has more than four rules. A walk doesn't stand on this; what looks through a row does.
+both-few : (d : ℕ) → T (leb (length (described d .returns)) 4 && leb (length (described d .arguments)) 4)
 unfolding described descriptions
-few = anywhere (λ (D : Description). leb (length (D .arguments)) 4) descriptions blank tt tt
+both-few = anywhere (λ (D : Description). leb (length (D .returns)) 4 && leb (length (D .arguments)) 4) descriptions blank tt tt
+
+pub returns-few : (d : ℕ) → length (described d .returns) ≤ 4
+returns-few d = leb→le (length (described d .returns)) 4 (and-left (leb (length (described d .returns)) 4) (leb (length (described d .arguments)) 4) (both-few d))
 
 pub arguments-few : (d : ℕ) → length (described d .arguments) ≤ 4
-arguments-few d = leb→le (length (described d .arguments)) 4 (few d)
+arguments-few d = leb→le (length (described d .arguments)) 4 (and-right (leb (length (described d .returns)) 4) (leb (length (described d .arguments)) 4) (both-few d))
