@@ -1,0 +1,5 @@
+/* fastcall: a _Complex float, then an int. Looked at: the int, in ecx or on the stack.
+ * sheet: 0 22 / 3 2 8 4 3 2 / 5 1 4 4 0 / 5 1 4 4 4 / 3 1 0 4 4
+ */
+int seen;
+__attribute__((fastcall)) void probe(_Complex float value, int next) { seen = next; }

@@ -1,0 +1,6 @@
+/* regparm(3): a record of a long double, then an int. Looked at: the int, in eax or, behind three words, on the stack.
+ * sheet: 0 9 / 3 2 12 4 2 1 / 5 3 12 4 0 / 3 1 0 4 4
+ */
+int seen;
+struct record { long double value; };
+__attribute__((regparm(3))) void probe(struct record record, int next) { seen = next; }
