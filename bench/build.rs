@@ -9,7 +9,7 @@ fn main() {
     let folder = env::var_os("BARKPADDLE_LIB_DIR")
         .map_or_else(|| here.join("../target/staticlib"), PathBuf::from);
     let folder = folder.canonicalize().unwrap_or_else(|why| {
-        panic!("{}: {why}; make it with `rt staticlib barkpaddle`", folder.display())
+        panic!("{}: {why}; make it with `tools/staticlib`", folder.display())
     });
     println!("cargo::rerun-if-changed={}", folder.join("libbarkpaddle.a").display());
     println!("cargo::rustc-link-search=native={}", folder.display());

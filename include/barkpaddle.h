@@ -1,9 +1,9 @@
 /*
  * Barkpaddle: how each value of a call travels, on thirty calling conventions.
  *
- * Everything comes in and goes out as 64-bit numbers, called words. docs/REFERENCE.md has the rules; its section 13 is about these
- * entries. They are proved: every entry answers every input, traps on none, allocates nothing, keeps no state and touches no memory but
- * the buffers that it is lent, so that calls from several threads need no care.
+ * Everything comes in and goes out as 64-bit numbers, called words. docs/REFERENCE.md has the rules; its sections 13 and 14 are about
+ * these entries. They are proved: every entry answers every input, traps on none, allocates nothing, keeps no state and touches no memory
+ * but what it is lent, so that calls from several threads need no care.
  *
  * Lists and buffers. A list of words or bytes is a pointer and how many there are; NULL may be handed over with the number 0, and
  * otherwise the pointer has to point to that many. A buffer that an entry writes to may not overlap another that the same call is
@@ -25,6 +25,8 @@
 
 #ifdef __cplusplus
 extern "C" {
+#else
+#include <stdbool.h>
 #endif
 
 /* ---- numbers ---- */
@@ -88,6 +90,11 @@ extern "C" {
 /* No result needs more slots than this, so a buffer of 24 words is never too small. */
 #define BARKPADDLE_MOST_SLOTS 8
 #define BARKPADDLE_MOST_SLOT_WORDS (BARKPADDLE_MOST_SLOTS * BARKPADDLE_SLOT_WORDS)
+
+/* Forms of what is asked about a lent call: what a barkpaddle_what is. */
+#define BARKPADDLE_FORM_VOID UINT64_C(0)
+#define BARKPADDLE_FORM_SCALAR UINT64_C(1)
+#define BARKPADDLE_FORM_AGGREGATE UINT64_C(2)
 
 /* Limits: each of these numbers is still accepted. */
 #define BARKPADDLE_LARGEST_SCALAR UINT64_C(64)       /* size of a scalar or a piece */
@@ -194,6 +201,17 @@ typedef struct barkpaddle_answer {
     uint64_t slots; /* how many slots were written */
 } barkpaddle_answer;
 
+/* What an operation on a lent call answers: the same without the call. */
+typedef struct barkpaddle_outcome {
+    uint64_t refusal;
+    uint64_t way;
+    uint64_t integers_passed;
+    uint64_t integers_given;
+    uint64_t floats_passed;
+    uint64_t floats_given;
+    uint64_t slots;
+} barkpaddle_outcome;
+
 /* A refusal, or one number. */
 typedef struct barkpaddle_told {
     uint64_t refusal;
@@ -298,6 +316,54 @@ barkpaddle_answer barkpaddle_variadic_argument_aggregate(
 barkpaddle_told barkpaddle_in_memory(
     uint64_t abi, uint64_t integer, uint64_t float_, uint64_t integers_only, uint64_t size, uint64_t align, uint64_t complex_,
     uint64_t floating, const uint64_t *words, uint64_t words_length);
+
+/* ---- a lent call (REFERENCE 14) ----
+ *
+ * A call that is kept in one place and updated there. It starts as barkpaddle_fresh says:
+ *
+ *     barkpaddle_answer start = barkpaddle_fresh(BARKPADDLE_SYSV_AMD64);
+ *     barkpaddle_call call = {start.abi, start.integer, start.float_, start.integers_only != 0};
+ *
+ * Each entry is lent the call and stores the next one in its place. It answers and refuses what the entry above that takes the same call
+ * and the same value answers and refuses, writes the same slots, and calls of both forms can be mixed. A refused operation leaves the call
+ * and the slots as they were. The call's bytes behind the mark, which fill it up, mean nothing and may change.
+ *
+ * What is asked has a form, and the fields that the form doesn't read may hold anything: VOID reads none, SCALAR kind, size and align,
+ * AGGREGATE size, align, complex_ and floating. An aggregate's pieces are `words`, which no other form looks at. A form of another number
+ * is refused BAD_KIND, after BAD_ABI and BAD_CALL.
+ *
+ * `call` has to point to a call. Neither it nor what `slots` points to may overlap anything else that is lent.
+ */
+typedef struct barkpaddle_call {
+    uint64_t abi;
+    uint64_t integer;
+    uint64_t float_;
+    bool integers_only; /* a bool, where an answer has a number: set it by `!= 0` */
+} barkpaddle_call;
+
+typedef struct barkpaddle_what {
+    uint64_t form;
+    uint64_t kind;
+    uint64_t size;
+    uint64_t align;
+    uint64_t complex_;
+    uint64_t floating;
+} barkpaddle_what;
+
+/* The call becomes one to a function whose parameters end in dots: barkpaddle_variadic. Where it is accepted, all of the outcome is 0. */
+barkpaddle_outcome barkpaddle_bridge_variadic(barkpaddle_call *call);
+
+/* How the return value comes back: barkpaddle_return_void, _scalar and _aggregate, by the form. */
+barkpaddle_outcome barkpaddle_bridge_returns(
+    barkpaddle_call *call, barkpaddle_what what, const uint64_t *words, uint64_t words_length, uint64_t *slots, uint64_t slots_length);
+
+/* How the next fixed argument travels: barkpaddle_argument_void, _scalar and _aggregate. */
+barkpaddle_outcome barkpaddle_bridge_argument(
+    barkpaddle_call *call, barkpaddle_what what, const uint64_t *words, uint64_t words_length, uint64_t *slots, uint64_t slots_length);
+
+/* How the next argument after the dots travels: barkpaddle_variadic_argument_void, _scalar and _aggregate. */
+barkpaddle_outcome barkpaddle_bridge_variadic_argument(
+    barkpaddle_call *call, barkpaddle_what what, const uint64_t *words, uint64_t words_length, uint64_t *slots, uint64_t slots_length);
 
 /* ---- records from their members ---- */
 

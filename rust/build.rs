@@ -1,4 +1,4 @@
-//! Finds libbarkpaddle.a: in the folder that BARKPADDLE_LIB_DIR names, or where `rt staticlib` puts it.
+//! Finds libbarkpaddle.a: in the folder that BARKPADDLE_LIB_DIR names, or where tools/staticlib puts it.
 
 use std::env;
 use std::path::PathBuf;
@@ -18,7 +18,7 @@ fn main() {
     if !archive.is_file() {
         eprintln!(
             "barkpaddle: there is no {}.\n\
-             Make it with `rt staticlib barkpaddle` in the repository of Barkpaddle, \
+             Make it with `tools/staticlib` in the repository of Barkpaddle, \
              or set BARKPADDLE_LIB_DIR to the folder that has it.",
             archive.display()
         );

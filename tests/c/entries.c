@@ -3,13 +3,29 @@
  *
  * What is expected comes from the table of twelve calls and the rules of docs/REFERENCE.md, and from the lines that the original prints for
  * the same calls (oracle/tests/all/calls.rs), never from the library. lines.c beside this file holds it against the original's own answers.
+ * An operation over a lent call is expected to do what the one by value does: each operation here is performed both ways, and a random
+ * history, too.
  *
  * Prints how many checks passed. What fails is said with its place, and the exit status is 1.
  */
+#include <stddef.h>
 #include <stdio.h>
 #include <string.h>
 
 #include "barkpaddle.h"
+
+/* C99 has no static assertion: an array of -1 items isn't compiled. */
+#define HOLDS(name, fact) typedef char name[(fact) ? 1 : -1]
+
+/* The structs are laid out as the library has them. */
+HOLDS(a_bool_is_a_byte, sizeof(bool) == 1);
+HOLDS(call_has_32_bytes, sizeof(barkpaddle_call) == 32);
+HOLDS(call_abi_at_0, offsetof(barkpaddle_call, abi) == 0);
+HOLDS(call_integer_at_8, offsetof(barkpaddle_call, integer) == 8);
+HOLDS(call_float_at_16, offsetof(barkpaddle_call, float_) == 16);
+HOLDS(call_mark_at_24, offsetof(barkpaddle_call, integers_only) == 24);
+HOLDS(what_has_6_words, sizeof(barkpaddle_what) == 6 * 8);
+HOLDS(outcome_has_7_words, sizeof(barkpaddle_outcome) == 7 * 8);
 
 static unsigned long passed;
 static unsigned long failed;
@@ -91,7 +107,7 @@ typedef struct value {
     uint64_t words_length;
 } value;
 
-static barkpaddle_answer perform(enum operation operation, call c, value v, uint64_t *slots, uint64_t length)
+static barkpaddle_answer by_value(enum operation operation, call c, value v, uint64_t *slots, uint64_t length)
 {
     switch (operation) {
     case RETURN:
@@ -119,6 +135,112 @@ static barkpaddle_answer perform(enum operation operation, call c, value v, uint
         return barkpaddle_variadic_argument_aggregate(
             c.abi, c.integer, c.float_, c.integers_only, v.size, v.align, v.complex_, v.floating, v.words, v.words_length, slots, length);
     }
+}
+
+/* ---- the same over a lent call ---- */
+
+/* The bytes of a call that mean something. */
+#define CALL_BYTES (offsetof(barkpaddle_call, integers_only) + 1)
+
+static barkpaddle_call lendable(call c)
+{
+    barkpaddle_call kept;
+
+    memset(&kept, 0xA5, sizeof kept);
+    kept.abi = c.abi;
+    kept.integer = c.integer;
+    kept.float_ = c.float_;
+    kept.integers_only = c.integers_only != 0;
+    return kept;
+}
+
+static call by_numbers(const barkpaddle_call *kept)
+{
+    call c;
+
+    c.abi = kept->abi;
+    c.integer = kept->integer;
+    c.float_ = kept->float_;
+    c.integers_only = kept->integers_only;
+    return c;
+}
+
+/* A value as a lent call's operations take it. A field that its form doesn't read holds a number that would be refused, or a yes. */
+static barkpaddle_what what_of(value v)
+{
+    static const uint64_t forms[] = {BARKPADDLE_FORM_VOID, BARKPADDLE_FORM_SCALAR, BARKPADDLE_FORM_AGGREGATE};
+    barkpaddle_what what;
+
+    what.form = forms[v.what];
+    what.kind = v.what == SCALAR ? v.kind : 5;
+    what.size = v.what == VOID ? UINT64_MAX : v.size;
+    what.align = v.what == VOID ? UINT64_MAX : v.align;
+    what.complex_ = v.what == AGGREGATE ? v.complex_ : 1;
+    what.floating = v.what == AGGREGATE ? v.floating : UINT64_MAX;
+    return what;
+}
+
+static barkpaddle_outcome by_lending(
+    enum operation operation, barkpaddle_call *kept, barkpaddle_what what, const uint64_t *words, uint64_t words_length, uint64_t *slots,
+    uint64_t length)
+{
+    switch (operation) {
+    case RETURN:
+        return barkpaddle_bridge_returns(kept, what, words, words_length, slots, length);
+    case ARGUMENT:
+        return barkpaddle_bridge_argument(kept, what, words, words_length, slots, length);
+    default:
+        return barkpaddle_bridge_variadic_argument(kept, what, words, words_length, slots, length);
+    }
+}
+
+/* The outcome and the call that is stored are the answer's numbers, and a refusal leaves the call's bytes as they were. */
+static void check_stored(
+    const char *place, barkpaddle_answer a, barkpaddle_outcome outcome, const barkpaddle_call *before, const barkpaddle_call *kept)
+{
+    check_number(place, "the lent call's refusal", a.refusal, outcome.refusal);
+    check_number(place, "the lent call's way", a.way, outcome.way);
+    check_number(place, "the lent call's integers_passed", a.integers_passed, outcome.integers_passed);
+    check_number(place, "the lent call's integers_given", a.integers_given, outcome.integers_given);
+    check_number(place, "the lent call's floats_passed", a.floats_passed, outcome.floats_passed);
+    check_number(place, "the lent call's floats_given", a.floats_given, outcome.floats_given);
+    check_number(place, "the lent call's slots", a.slots, outcome.slots);
+    check_number(place, "the stored abi", a.abi, kept->abi);
+    check_number(place, "the stored integer", a.integer, kept->integer);
+    check_number(place, "the stored float_", a.float_, kept->float_);
+    check_number(place, "the stored integers_only", a.integers_only, ((const unsigned char *)kept)[CALL_BYTES - 1]);
+    if (a.refusal != BARKPADDLE_ACCEPTED)
+        check_number(place, "a difference in a refused call", 0, memcmp(before, kept, CALL_BYTES) != 0);
+}
+
+/* The lent call's own buffer, with the same words in it as the other. */
+static uint64_t lent_again[ROOM];
+
+/* An operation by value on `c`, and on `kept`, which is the same call. The answer is the value's; `slots` is NULL or `lent`. */
+static barkpaddle_answer both_ways(
+    const char *place, enum operation operation, call c, barkpaddle_call *kept, value v, uint64_t *slots, uint64_t length)
+{
+    /* words that are for no aggregate, so that nobody looks at them: no whole pieces, and of no kind */
+    static const uint64_t no_pieces[] = {UINT64_MAX, UINT64_MAX, UINT64_MAX};
+    const uint64_t *words = v.what == AGGREGATE ? v.words : no_pieces;
+    uint64_t words_length = v.what == AGGREGATE ? v.words_length : COUNT(no_pieces);
+    barkpaddle_call before = *kept;
+    barkpaddle_answer a;
+    barkpaddle_outcome outcome;
+
+    memcpy(lent_again, lent, sizeof lent);
+    a = by_value(operation, c, v, slots, length);
+    outcome = by_lending(operation, kept, what_of(v), words, words_length, slots == NULL ? NULL : lent_again, length);
+    check_stored(place, a, outcome, &before, kept);
+    check_number(place, "a difference in the lent call's buffer", 0, memcmp(lent, lent_again, sizeof lent) != 0);
+    return a;
+}
+
+static barkpaddle_answer perform(enum operation operation, call c, value v, uint64_t *slots, uint64_t length)
+{
+    barkpaddle_call kept = lendable(c);
+
+    return both_ways("lent", operation, c, &kept, v, slots, length);
 }
 
 static value scalar(uint64_t kind, uint64_t size, uint64_t align)
@@ -412,6 +534,23 @@ static void refusals_of(enum operation operation)
 
 /* ---- the start and the mark ---- */
 
+/* The mark by value on `c`, and on `kept`, which is the same call. */
+static barkpaddle_answer mark_both_ways(const char *place, call c, barkpaddle_call *kept)
+{
+    barkpaddle_call before = *kept;
+    barkpaddle_answer a = barkpaddle_variadic(c.abi, c.integer, c.float_, c.integers_only);
+
+    check_stored(place, a, barkpaddle_bridge_variadic(kept), &before, kept);
+    return a;
+}
+
+static barkpaddle_answer mark(call c)
+{
+    barkpaddle_call kept = lendable(c);
+
+    return mark_both_ways("the mark, lent", c, &kept);
+}
+
 static void starts(void)
 {
     /* registers of the thirty rows */
@@ -425,22 +564,287 @@ static void starts(void)
 
         check_answer("fresh", barkpaddle_fresh(i), 0, 0, c, no_spending, 0);
         marked.integers_only = i == BARKPADDLE_WINDOWS_ARM64;
-        check_answer("variadic", barkpaddle_variadic(c.abi, c.integer, c.float_, 0), 0, 0, marked, no_spending, 0);
+        check_answer("variadic", mark(c), 0, 0, marked, no_spending, 0);
         if (marked.integers_only)
-            check_answer("variadic twice", barkpaddle_variadic(c.abi, c.integer, c.float_, 6), 0, 0, marked, no_spending, 0);
+            check_answer("variadic twice", mark(call_of(i, c.integer, c.float_, 6)), 0, 0, marked, no_spending, 0);
         else
-            check_answer("mark", barkpaddle_variadic(i, 0, 0, 6), BARKPADDLE_BAD_CALL, 0, call_of(i, 0, 0, 1), no_spending, 0);
+            check_answer("mark", mark(call_of(i, 0, 0, 6)), BARKPADDLE_BAD_CALL, 0, call_of(i, 0, 0, 1), no_spending, 0);
         check_answer(
-            "variadic, too many", barkpaddle_variadic(i, c.integer + 1, 0, 0), BARKPADDLE_BAD_CALL, 0, call_of(i, c.integer + 1, 0, 0),
+            "variadic, too many", mark(call_of(i, c.integer + 1, 0, 0)), BARKPADDLE_BAD_CALL, 0, call_of(i, c.integer + 1, 0, 0),
             no_spending, 0);
     }
     for (i = 0; i < COUNT(numbers_past); i++) {
         uint64_t abi = 30 + numbers_past[i];
 
         check_answer("fresh, BAD_ABI", barkpaddle_fresh(abi), BARKPADDLE_BAD_ABI, 0, call_of(0, 0, 0, 0), no_spending, 0);
-        check_answer(
-            "variadic, BAD_ABI", barkpaddle_variadic(abi, 9, 9, 9), BARKPADDLE_BAD_ABI, 0, call_of(abi, 9, 9, 1), no_spending, 0);
+        check_answer("variadic, BAD_ABI", mark(call_of(abi, 9, 9, 9)), BARKPADDLE_BAD_ABI, 0, call_of(abi, 9, 9, 1), no_spending, 0);
     }
+}
+
+/* ---- a lent call ---- */
+
+/* A lent call whose operation is refused: its number, all else 0, and the call and the buffer as they were. */
+static void check_form_refused(enum operation operation, call c, uint64_t form, uint64_t refusal)
+{
+    static const uint64_t no_pieces[] = {UINT64_MAX, UINT64_MAX, UINT64_MAX};
+    barkpaddle_call kept = lendable(c);
+    barkpaddle_call before = kept;
+    barkpaddle_what what = what_of(nothing);
+    barkpaddle_outcome outcome;
+    int empty;
+
+    what.form = form;
+    for (empty = 0; empty < 2; empty++) {
+        fill();
+        outcome = by_lending(
+            operation, &kept, what, empty ? NULL : no_pieces, empty ? 0 : COUNT(no_pieces), empty ? NULL : lent, empty ? 0 : ROOM);
+        check_number("form", "refusal", refusal, outcome.refusal);
+        check_number("form", "way", 0, outcome.way);
+        check_number("form", "integers spent", 0, outcome.integers_passed | outcome.integers_given);
+        check_number("form", "floats spent", 0, outcome.floats_passed | outcome.floats_given);
+        check_number("form", "slots", 0, outcome.slots);
+        check_number("form", "a difference in the call", 0, memcmp(&before, &kept, CALL_BYTES) != 0);
+        check_lent("form", NULL, 0);
+    }
+}
+
+/* A form that isn't known is BAD_KIND, whatever stands in the other fields; the call is refused before it. */
+static void forms_of(enum operation operation)
+{
+    static const uint64_t unknown[] = {
+        3, 4, 5, 255, 256, 257, UINT64_C(1) << 32, (UINT64_C(1) << 32) + 1, (UINT64_C(1) << 32) + 2, UINT64_C(1) << 63, UINT64_MAX};
+    uint64_t i;
+
+    for (i = 0; i < COUNT(unknown); i++) {
+        check_form_refused(operation, call_of(0, 6, 8, 0), unknown[i], BARKPADDLE_BAD_KIND);
+        check_form_refused(operation, call_of(3, 0, 0, 1), unknown[i], BARKPADDLE_BAD_KIND);
+        check_form_refused(operation, call_of(30, 9, 9, 1), unknown[i], BARKPADDLE_BAD_ABI);
+        check_form_refused(operation, call_of(0, 7, 8, 0), unknown[i], BARKPADDLE_BAD_CALL);
+        check_form_refused(operation, call_of(0, 6, 8, 1), unknown[i], BARKPADDLE_BAD_CALL);
+    }
+    /* void is refused for its call alone */
+    check_form_refused(operation, call_of(30, 0, 0, 0), BARKPADDLE_FORM_VOID, BARKPADDLE_BAD_ABI);
+}
+
+/* README's record, then README's call that broke: here the numbers are expected, not another entry's answers. */
+static void lent_calls(void)
+{
+    static const uint64_t slots[] = {0, 0, 8, 2, 8, 0};
+    barkpaddle_answer start = barkpaddle_fresh(BARKPADDLE_SYSV_AMD64);
+    barkpaddle_call kept;
+    barkpaddle_what what = what_of(aggregate(16, 8, NULL, 0));
+    barkpaddle_what word = what_of(scalar(BARKPADDLE_INTEGER, 8, 8));
+    barkpaddle_outcome outcome;
+    uint64_t i;
+
+    kept.abi = start.abi;
+    kept.integer = start.integer;
+    kept.float_ = start.float_;
+    kept.integers_only = start.integers_only != 0;
+    fill();
+    outcome = barkpaddle_bridge_argument(&kept, what, int8_double, COUNT(int8_double), lent, ROOM);
+    check_number("lent record", "refusal", BARKPADDLE_ACCEPTED, outcome.refusal);
+    check_number("lent record", "way", BARKPADDLE_PIECES, outcome.way);
+    check_number("lent record", "integers_passed", 0, outcome.integers_passed);
+    check_number("lent record", "integers_given", 1, outcome.integers_given);
+    check_number("lent record", "floats_passed", 0, outcome.floats_passed);
+    check_number("lent record", "floats_given", 1, outcome.floats_given);
+    check_number("lent record", "slots", 2, outcome.slots);
+    check_lent("lent record", slots, COUNT(slots));
+    for (i = 0; i < 4; i++) {
+        check_number("lent record", "integers left", 5 - i, kept.integer);
+        outcome = barkpaddle_bridge_argument(&kept, word, NULL, 0, NULL, 0);
+        check_number("lent word", "way", BARKPADDLE_DIRECT, outcome.way);
+        check_number("lent word", "integers_given", 1, outcome.integers_given);
+    }
+    outcome = barkpaddle_bridge_argument(&kept, what, two_int8, COUNT(two_int8), NULL, 0);
+    check_number("the call that broke", "refusal", BARKPADDLE_ACCEPTED, outcome.refusal);
+    check_number("the call that broke", "way", BARKPADDLE_MEMORY, outcome.way);
+    check_number("the call that broke", "integers left", 1, kept.integer);
+    check_number("the call that broke", "floats left", 7, kept.float_);
+    what.size = 100;
+    outcome = barkpaddle_bridge_returns(&kept, what, NULL, 0, NULL, 0);
+    check_number("a pointer for a result", "way", BARKPADDLE_REFERENCE, outcome.way);
+    check_number("a pointer for a result", "integers left", 0, kept.integer);
+
+    kept = lendable(call_of(BARKPADDLE_WINDOWS_ARM64, 8, 8, 0));
+    outcome = barkpaddle_bridge_variadic(&kept);
+    check_number("lent mark", "refusal", BARKPADDLE_ACCEPTED, outcome.refusal);
+    check_number("lent mark", "integers_only", 1, kept.integers_only);
+    fill();
+    outcome = barkpaddle_bridge_variadic_argument(&kept, what_of(scalar(BARKPADDLE_DOUBLE, 8, 8)), NULL, 0, lent, 3);
+    check_number("after the lent mark", "way", BARKPADDLE_PIECES, outcome.way);
+    check_number("after the lent mark", "integers left", 7, kept.integer);
+    check_number("after the lent mark", "floats left", 8, kept.float_);
+    check_lent("after the lent mark", slots, 3);
+}
+
+/* ---- a random history ---- */
+
+#define OPERATIONS 100000
+#define CALL_LASTS 8
+
+static uint64_t state = 20;
+
+/* The next random number below `limit`: splitmix64. */
+static uint64_t below(uint64_t limit)
+{
+    uint64_t z;
+
+    state += UINT64_C(0x9E3779B97F4A7C15);
+    z = state;
+    z = (z ^ (z >> 30)) * UINT64_C(0xBF58476D1CE4E5B9);
+    z = (z ^ (z >> 27)) * UINT64_C(0x94D049BB133111EB);
+    return (z ^ (z >> 31)) % limit;
+}
+
+static const uint64_t sizes[] = {0, 1, 2, 4, 8, 8, 8, 10, 16, 16, 32};
+static const uint64_t format_sizes[] = {0, 4, 8, 16, 16};
+
+/* A scalar's three words, now and then one of them past its limit; a float has its format's size and alignment mostly. */
+static void random_scalar(uint64_t words[3], int odd)
+{
+    uint64_t kind = below(5);
+
+    words[0] = kind;
+    words[1] = kind == 0 || below(8) == 0 ? sizes[below(COUNT(sizes))] : format_sizes[kind];
+    words[2] = below(8) == 0 ? UINT64_C(1) << below(5) : words[1];
+    if (odd && below(3) == 0)
+        words[0] = 5 + below(2);
+    if (odd && below(3) == 0)
+        words[1] = 65;
+    if (odd && below(3) == 0)
+        words[2] = 4097;
+}
+
+static value random_value(void)
+{
+    static uint64_t words[4 * 9];
+    int odd = below(8) == 0;
+    uint64_t end = 0;
+    uint64_t align = 1;
+    uint64_t one_kind = below(2);
+    uint64_t count;
+    uint64_t i;
+    value v;
+
+    if (below(12) == 0)
+        return nothing;
+    if (below(2) == 0) {
+        random_scalar(words, odd);
+        return scalar(words[0], words[1], words[2]);
+    }
+    count = below(3) == 0 ? below(10) : below(4);
+    for (i = 0; i < count; i++) {
+        uint64_t *piece = words + BARKPADDLE_PIECE_WORDS * i;
+
+        if (i > 0 && one_kind)
+            memcpy(piece, piece - BARKPADDLE_PIECE_WORDS, 3 * sizeof *piece);
+        else
+            random_scalar(piece, odd && below(3) == 0);
+        if (piece[2] > 0 && piece[2] <= 16)
+            end = (end + piece[2] - 1) / piece[2] * piece[2];
+        piece[3] = below(16) == 0 ? below(24) : end;
+        if (piece[1] <= 64)
+            end += piece[1];
+        if (piece[2] <= 16 && piece[2] > align)
+            align = piece[2];
+    }
+    end = (end + align - 1) / align * align;
+    v = aggregate(below(8) == 0 ? below(40) : end, align, words, BARKPADDLE_PIECE_WORDS * count);
+    if (odd && below(4) == 0 && count > 0)
+        v.words_length -= 1 + below(3);
+    if (odd && below(6) == 0)
+        v.size = BARKPADDLE_LARGEST_SHAPE + 1;
+    if (odd && below(6) == 0)
+        v.align = BARKPADDLE_LARGEST_ALIGN + 1;
+    v.complex_ = below(4) == 0 ? UINT64_C(1) << below(64) : 0;
+    v.floating = below(4) == 0 ? UINT64_C(1) << below(64) : 0;
+    return v;
+}
+
+/* A call that can't be: another description, more registers than it has, or a mark that isn't its own. */
+static call spoilt(call c)
+{
+    switch (below(4)) {
+    case 0:
+        c.abi = below(2) ? BARKPADDLE_DESCRIPTIONS + below(3) : c.abi + (UINT64_C(1) << 32);
+        break;
+    case 1:
+        c.integer = 9 + below(3);
+        break;
+    case 2:
+        c.float_ = UINT64_MAX - below(3);
+        break;
+    default:
+        c.integers_only = 1;
+    }
+    return c;
+}
+
+/*
+ * Calls that are kept and lent, operation after operation, on all rows in turn. What the library keeps in them is held against the answers
+ * by value, and no answer by value is ever put into them.
+ */
+static void history(void)
+{
+    static unsigned long of_refusal[8], of_way[5], of_row[30], of_operation[4], marked;
+    barkpaddle_call kept = lendable(call_of(0, 6, 8, 0));
+    uint64_t n;
+    uint64_t i;
+
+    for (n = 0; n < OPERATIONS; n++) {
+        uint64_t row = n / CALL_LASTS % BARKPADDLE_DESCRIPTIONS;
+        uint64_t which = below(10);
+        barkpaddle_call aside;
+        barkpaddle_answer a;
+
+        if (n % CALL_LASTS == 0) {
+            a = barkpaddle_fresh(row);
+            kept = lendable(call_of(a.abi, a.integer, a.float_, a.integers_only));
+            if (below(3) == 0)
+                mark_both_ways("history, marked", by_numbers(&kept), &kept);
+        }
+        aside = kept;
+        if (below(24) == 0)
+            kept = lendable(spoilt(by_numbers(&kept)));
+        if (which == 0) {
+            a = mark_both_ways("history, the mark", by_numbers(&kept), &kept);
+            of_operation[3]++;
+        } else {
+            enum operation operation = which == 1 ? RETURN : which < 7 ? ARGUMENT : AFTER_DOTS;
+            uint64_t length = below(4) == 0 ? below(3 * BARKPADDLE_SLOT_WORDS) : BARKPADDLE_MOST_SLOT_WORDS;
+
+            fill();
+            a = both_ways("history", operation, by_numbers(&kept), &kept, random_value(), length == 0 ? NULL : lent, length);
+            of_operation[operation]++;
+            for (i = a.slots * BARKPADDLE_SLOT_WORDS; i < ROOM; i++)
+                if (lent_again[i] != untouched(i))
+                    check_number("history", "a word behind the slots", untouched(i), lent_again[i]);
+        }
+        check_number("history", "a refusal or a way past the last", 1, a.refusal < COUNT(of_refusal) && a.way < COUNT(of_way));
+        if (a.refusal >= COUNT(of_refusal) || a.way >= COUNT(of_way))
+            continue;
+        of_refusal[a.refusal]++;
+        of_row[row]++;
+        marked += kept.integers_only;
+        if (a.refusal == BARKPADDLE_ACCEPTED && which != 0)
+            of_way[a.way]++;
+        else if (a.refusal == BARKPADDLE_BAD_ABI || a.refusal == BARKPADDLE_BAD_CALL)
+            kept = aside;
+    }
+
+    /* every refusal, way, row and operation was among them, or this compares less than it says */
+    for (i = 0; i < COUNT(of_refusal); i++)
+        check_number("history", "a refusal that was seen often", 1, of_refusal[i] >= 100);
+    for (i = 0; i < COUNT(of_way); i++)
+        check_number("history", "a way that was seen often", 1, of_way[i] >= 1000);
+    for (i = 0; i < COUNT(of_row); i++)
+        check_number("history", "a row that was seen often", 1, of_row[i] >= 3000);
+    for (i = 0; i < COUNT(of_operation); i++)
+        check_number("history", "an operation that was seen often", 1, of_operation[i] >= 5000);
+    check_number("history", "marked calls that were seen often", 1, marked >= 500);
+    printf("history: %d operations, by value and lent, of which %lu refused\n", OPERATIONS, OPERATIONS - of_refusal[0]);
 }
 
 /* ---- answers of two numbers ---- */
@@ -764,6 +1168,11 @@ int main(void)
     refusals_of(RETURN);
     refusals_of(ARGUMENT);
     refusals_of(AFTER_DOTS);
+    forms_of(RETURN);
+    forms_of(ARGUMENT);
+    forms_of(AFTER_DOTS);
+    lent_calls();
+    history();
     in_memory();
     records();
     descriptions();
