@@ -9,6 +9,7 @@ use crate::raw;
 
 /// The number of a description of a calling convention.
 #[derive(Debug, Clone, Copy, PartialEq, Eq, Hash, PartialOrd, Ord)]
+#[repr(transparent)]
 pub struct Abi(pub u64);
 
 impl Abi {

@@ -13,7 +13,9 @@ use crate::values::{Aggregate, Value};
 /// A call: its description, the registers left, and the integers-only mark.
 ///
 /// It is a value: each operation hands back the next call, and a refused one leaves this as it was.
+/// [`Bridge`](crate::Bridge) is one that is updated where it stands.
 #[derive(Debug, Clone, Copy, PartialEq, Eq)]
+#[repr(C)]
 pub struct Call {
     pub(crate) abi: Abi,
     pub(crate) integer: u64,
@@ -169,7 +171,7 @@ impl<'b> Passed<'b> {
     /// The slots that were written to the buffer: none unless the way is [`Way::Pieces`].
     #[must_use]
     pub fn slots(&self) -> Slots<'b> {
-        Slots { words: self.slots.chunks_exact(SLOT_WORDS) }
+        Slots::of(self.slots)
     }
 }
 
@@ -204,6 +206,13 @@ pub struct Slot {
 #[derive(Debug, Clone)]
 pub struct Slots<'b> {
     words: ChunksExact<'b, u64>,
+}
+
+impl<'b> Slots<'b> {
+    /// The slots that these words are.
+    pub(crate) fn of(words: &'b [u64]) -> Self {
+        Self { words: words.chunks_exact(SLOT_WORDS) }
+    }
 }
 
 impl Iterator for Slots<'_> {

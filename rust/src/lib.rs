@@ -24,12 +24,16 @@
 //! # Ok::<(), barkpaddle::Refusal>(())
 //! ```
 //!
+//! A [`Call`] is a value. Whoever keeps one for each bridge to a foreign function lends a [`Bridge`]
+//! instead, which each operation updates where it stands.
+//!
 //! The numbers behind the names are those of docs/REFERENCE.md. Enums are non-exhaustive, and a
 //! number without a name here comes back as `Unnamed`: a newer library may have more of them.
 
 #![no_std]
 
 mod abi;
+mod bridge;
 mod call;
 mod numbers;
 mod raw;
@@ -37,6 +41,7 @@ mod targets;
 mod values;
 
 pub use abi::{Abi, Description, Rule, Rules, Test};
+pub use bridge::{Bridge, Outcome};
 pub use call::{Call, Passed, Room, Slot, Slots, Spent};
 pub use numbers::{
     Architecture, BitInts, Cleanup, Kind, Narrow, Refusal, ReturnPointer, Short, StackArgs, System,

@@ -7,8 +7,12 @@
 //! inside its mutable one alone, keeps neither, allocates nothing and doesn't unwind. A mutable slice
 //! and a shared one of the same call can't overlap: both are borrowed at once. `Scalar` and `Piece` are
 //! `repr(C)` structs of three and four `u64`, so a slice of them is a slice of that many words, any
-//! of which may hold any number.
+//! of which may hold any number. A lent `Call` is borrowed mutably beside the slices, so it overlaps
+//! neither; it is a `repr(C)` struct of three words and a `bool`, laid out as the library's, which
+//! stores no `bool` but 0 or 1.
 #![allow(unsafe_code)]
+
+use core::mem::offset_of;
 
 use crate::call::Call;
 use crate::values::{Aggregate, Piece, Scalar, Value};
@@ -28,6 +32,34 @@ pub struct Answer {
     pub floats_given: u64,
     pub slots: u64,
 }
+
+/// What an operation on a lent call is asked about.
+#[repr(C)]
+struct What {
+    form: u64,
+    kind: u64,
+    size: u64,
+    align: u64,
+    complex: u64,
+    floating: u64,
+}
+
+/// What an operation on a lent call answers.
+#[repr(C)]
+pub struct Outcome {
+    pub refusal: u64,
+    pub way: u64,
+    pub integers_passed: u64,
+    pub integers_given: u64,
+    pub floats_passed: u64,
+    pub floats_given: u64,
+    pub slots: u64,
+}
+
+// The library's layout of a call (include/barkpaddle.h).
+const _: () = assert!(size_of::<Call>() == 32 && align_of::<Call>() == align_of::<u64>());
+const _: () = assert!(offset_of!(Call, abi) == 0 && offset_of!(Call, integer) == 8);
+const _: () = assert!(offset_of!(Call, float) == 16 && offset_of!(Call, integers_only) == 24);
 
 /// A refusal, or one number.
 #[repr(C)]
@@ -95,6 +127,7 @@ unsafe extern "C" {
     pub safe fn barkpaddle_for_target(architecture: u64, system: u64, msvc: u64) -> u64;
     pub safe fn barkpaddle_for_convention(architecture: u64, system: u64, msvc: u64, convention: u64) -> u64;
     pub safe fn barkpaddle_callee_pops(convention: u64) -> u64;
+    pub safe fn barkpaddle_bridge_variadic(call: &mut Call) -> Outcome;
 
     fn barkpaddle_return_void(abi: u64, integer: u64, float: u64, integers_only: u64, slots: *mut u64, slots_length: u64) -> Answer;
     fn barkpaddle_argument_void(abi: u64, integer: u64, float: u64, integers_only: u64, slots: *mut u64, slots_length: u64) -> Answer;
@@ -105,6 +138,9 @@ unsafe extern "C" {
     fn barkpaddle_return_aggregate(abi: u64, integer: u64, float: u64, integers_only: u64, size: u64, align: u64, complex: u64, floating: u64, words: *const u64, words_length: u64, slots: *mut u64, slots_length: u64) -> Answer;
     fn barkpaddle_argument_aggregate(abi: u64, integer: u64, float: u64, integers_only: u64, size: u64, align: u64, complex: u64, floating: u64, words: *const u64, words_length: u64, slots: *mut u64, slots_length: u64) -> Answer;
     fn barkpaddle_variadic_argument_aggregate(abi: u64, integer: u64, float: u64, integers_only: u64, size: u64, align: u64, complex: u64, floating: u64, words: *const u64, words_length: u64, slots: *mut u64, slots_length: u64) -> Answer;
+    fn barkpaddle_bridge_returns(call: &mut Call, what: What, words: *const u64, words_length: u64, slots: *mut u64, slots_length: u64) -> Outcome;
+    fn barkpaddle_bridge_argument(call: &mut Call, what: What, words: *const u64, words_length: u64, slots: *mut u64, slots_length: u64) -> Outcome;
+    fn barkpaddle_bridge_variadic_argument(call: &mut Call, what: What, words: *const u64, words_length: u64, slots: *mut u64, slots_length: u64) -> Outcome;
     fn barkpaddle_in_memory(abi: u64, integer: u64, float: u64, integers_only: u64, size: u64, align: u64, complex: u64, floating: u64, words: *const u64, words_length: u64) -> Told;
     fn barkpaddle_pieces(members: *const u64, members_length: u64, pieces: *mut u64, pieces_length: u64) -> Told;
     fn barkpaddle_record(words: *const u64, words_length: u64) -> Record;
@@ -173,6 +209,37 @@ pub fn place(operation: Operation, call: Call, value: &Value<'_>, slots: &mut [u
             }
         }
     }
+}
+
+/// Performs an operation on a call that is updated where it stands.
+pub fn place_lent(
+    operation: Operation,
+    call: &mut Call,
+    value: &Value<'_>,
+    slots: &mut [u64],
+) -> Outcome {
+    let nothing = What { form: 0, kind: 0, size: 0, align: 0, complex: 0, floating: 0 };
+    let (what, pieces): (What, &[Piece]) = match value {
+        Value::Void => (nothing, &[]),
+        Value::Scalar(scalar) => {
+            let (kind, size, align) = (scalar.kind().number(), scalar.size(), scalar.align());
+            (What { form: 1, kind, size, align, ..nothing }, &[])
+        }
+        Value::Aggregate(shape) => {
+            let (complex, floating) = (u64::from(shape.complex), u64::from(shape.floating));
+            let Aggregate { size, align, pieces, .. } = *shape;
+            (What { form: 2, size, align, complex, floating, ..nothing }, pieces)
+        }
+    };
+    let entry = match operation {
+        Operation::Return => barkpaddle_bridge_returns,
+        Operation::Argument => barkpaddle_bridge_argument,
+        Operation::AfterDots => barkpaddle_bridge_variadic_argument,
+    };
+    let (words, count) = (pieces.as_ptr().cast(), words_in(pieces));
+    let (room, length) = (slots.as_mut_ptr(), slots.len() as u64);
+    // SAFETY: the call is `call`, the list is `pieces`, the buffer is `slots`.
+    unsafe { entry(call, what, words, count, room, length) }
 }
 
 /// What a fixed argument that travels as Memory is aligned to.

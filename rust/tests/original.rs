@@ -14,8 +14,8 @@ use std::thread;
 use std::time::SystemTime;
 
 use barkpaddle::{
-    Abi, Aggregate, Architecture, Call, Convention, Kind, Passed, Piece, Refusal, Room, Rule,
-    Rules, Scalar, System, Target, Test, Value, limits,
+    Abi, Aggregate, Architecture, Bridge, Call, Convention, Kind, Passed, Piece, Refusal, Room,
+    Rule, Rules, Scalar, System, Target, Test, Value, limits,
 };
 
 /// Tells the reader of a test's output, also where the test passes.
@@ -119,17 +119,20 @@ fn aggregate<'a>(record: &Record, pieces: &'a [Piece]) -> Aggregate<'a> {
     aggregate
 }
 
-/// The lines of a good sheet.
+/// The lines of a good sheet. Its calls are kept as bridges, too, which say the same.
 fn lines(sheet: &[u8]) -> String {
     let mut out = String::new();
     let mut records = records(sheet);
     let mut open = None;
-    let mut room = Room::new();
+    let mut bridge = None;
+    let (mut room, mut lent_room) = (Room::new(), Room::new());
     while let Some(record) = records.next() {
         let word = match record[0] {
             0 => {
                 let fresh = Call::fresh(Abi(record[1]));
                 open = fresh.ok();
+                bridge = Bridge::fresh(Abi(record[1])).ok();
+                assert_eq!(bridge.as_ref().map(Bridge::call), open);
                 print_left(&mut out, "fresh", open, fresh.err());
                 continue;
             }
@@ -137,6 +140,8 @@ fn lines(sheet: &[u8]) -> String {
                 let call = open.expect("a call is open");
                 let marked = call.variadic();
                 open = Some(marked.unwrap_or(call));
+                let bridge = bridge.as_mut().expect("a call is open");
+                assert_eq!((bridge.variadic().err(), Some(bridge.call())), (marked.err(), open));
                 print_left(&mut out, "marked", open, marked.err());
                 continue;
             }
@@ -157,6 +162,20 @@ fn lines(sheet: &[u8]) -> String {
             3 => call.argument(value, &mut room),
             _ => call.variadic_argument(value, &mut room),
         };
+        let bridge = bridge.as_mut().expect("a call is open");
+        let outcome = match word {
+            2 => bridge.returns(value, &mut lent_room),
+            3 => bridge.argument(value, &mut lent_room),
+            _ => bridge.variadic_argument(value, &mut lent_room),
+        };
+        match (passed, outcome) {
+            (Ok(passed), Ok(outcome)) => {
+                assert_eq!((outcome.way, outcome.spent), (passed.way, passed.spent));
+                assert!(outcome.slots().eq(passed.slots()));
+            }
+            (passed, outcome) => assert_eq!(outcome.err(), passed.err()),
+        }
+        assert_eq!(bridge.call(), passed.map_or(call, |passed| passed.next));
         match passed {
             Ok(passed) => {
                 print_passed(&mut out, &passed);

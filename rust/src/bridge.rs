@@ -1,0 +1,150 @@
+//! A call that is lent and updated where it stands (REFERENCE 14).
+
+use crate::abi::Abi;
+use crate::call::{Call, Slots, Spent};
+use crate::limits::SLOT_WORDS;
+use crate::numbers::{Refusal, Way};
+use crate::raw::{self, Operation};
+use crate::values::Value;
+
+/// A call that each operation updates where it stands: one for each bridge to a foreign function.
+///
+/// It answers what [`Call`] answers, without the next call, which it has become. A refused operation
+/// leaves it, and the lent buffer, as they were. To go back to an earlier call, keep what
+/// [`call`](Self::call) says.
+///
+/// ```
+/// use barkpaddle::{Abi, Aggregate, Bridge, Kind, Piece, Refusal, Room, Scalar, Way};
+///
+/// let pieces = [Piece::new(Kind::Integer, 8, 8, 0), Piece::new(Kind::Double, 8, 8, 8)];
+/// let mut room = Room::new();
+/// let mut bridge = Bridge::fresh(Abi::SYSV_AMD64)?;
+/// let outcome = bridge.argument(Aggregate::new(16, 8, &pieces), &mut room)?;
+/// assert_eq!((outcome.way, outcome.slots().len()), (Way::Pieces, 2));
+///
+/// // The next argument is asked of the same bridge; a refused one changes nothing.
+/// let kept = bridge.call();
+/// assert_eq!(bridge.argument(Scalar::integer(65), &mut room), Err(Refusal::BadSize));
+/// assert_eq!(bridge.call(), kept);
+/// bridge.argument(Scalar::integer(8), &mut room)?;
+/// assert_eq!((bridge.call().integer_left(), bridge.call().float_left()), (4, 7));
+/// # Ok::<(), barkpaddle::Refusal>(())
+/// ```
+// It isn't Copy: a copy that is updated in the bridge's stead would go unnoticed.
+#[derive(Debug, Clone, PartialEq, Eq)]
+#[repr(C)]
+pub struct Bridge {
+    call: Call,
+}
+
+impl Bridge {
+    /// The start of a call: both banks whole, no mark.
+    ///
+    /// # Errors
+    ///
+    /// There is no such description.
+    pub fn fresh(abi: Abi) -> Result<Self, Refusal> {
+        Call::fresh(abi).map(Self::from)
+    }
+
+    /// The call as it is now.
+    #[must_use]
+    pub const fn call(&self) -> Call {
+        self.call
+    }
+
+    /// Becomes the call to a function whose parameters end in dots. It may come late and more than
+    /// once.
+    ///
+    /// # Errors
+    ///
+    /// The description, then the call.
+    pub fn variadic(&mut self) -> Result<(), Refusal> {
+        Refusal::check(raw::barkpaddle_bridge_variadic(&mut self.call).refusal)
+    }
+
+    /// How the return value comes back.
+    ///
+    /// # Errors
+    ///
+    /// The description, the call, the value, then no room in `slots`; likewise below.
+    pub fn returns<'v, 'b>(
+        &mut self,
+        value: impl Into<Value<'v>>,
+        slots: &'b mut [u64],
+    ) -> Result<Outcome<'b>, Refusal> {
+        self.place(Operation::Return, value.into(), slots)
+    }
+
+    /// How the next fixed argument travels.
+    ///
+    /// # Errors
+    ///
+    /// As for `returns`.
+    pub fn argument<'v, 'b>(
+        &mut self,
+        value: impl Into<Value<'v>>,
+        slots: &'b mut [u64],
+    ) -> Result<Outcome<'b>, Refusal> {
+        self.place(Operation::Argument, value.into(), slots)
+    }
+
+    /// How the next argument after the dots travels.
+    ///
+    /// # Errors
+    ///
+    /// As for `returns`.
+    pub fn variadic_argument<'v, 'b>(
+        &mut self,
+        value: impl Into<Value<'v>>,
+        slots: &'b mut [u64],
+    ) -> Result<Outcome<'b>, Refusal> {
+        self.place(Operation::AfterDots, value.into(), slots)
+    }
+
+    fn place<'b>(
+        &mut self,
+        operation: Operation,
+        value: Value<'_>,
+        slots: &'b mut [u64],
+    ) -> Result<Outcome<'b>, Refusal> {
+        let outcome = raw::place_lent(operation, &mut self.call, &value, slots);
+        Refusal::check(outcome.refusal)?;
+        Ok(Outcome {
+            way: Way::from_number(outcome.way),
+            spent: Spent {
+                integers_passed: outcome.integers_passed,
+                integers_given: outcome.integers_given,
+                floats_passed: outcome.floats_passed,
+                floats_given: outcome.floats_given,
+            },
+            slots: &slots[..SLOT_WORDS * outcome.slots as usize],
+        })
+    }
+}
+
+impl From<Call> for Bridge {
+    /// A bridge that goes on from this call. Each operation checks it.
+    fn from(call: Call) -> Self {
+        Self { call }
+    }
+}
+
+/// How a value travels, where the next call is the bridge's.
+#[derive(Debug, Clone, Copy, PartialEq, Eq)]
+#[non_exhaustive]
+pub struct Outcome<'b> {
+    /// The way.
+    pub way: Way,
+    /// What this operation spent.
+    pub spent: Spent,
+    slots: &'b [u64],
+}
+
+impl<'b> Outcome<'b> {
+    /// The slots that were written to the buffer: none unless the way is [`Way::Pieces`].
+    #[must_use]
+    pub fn slots(&self) -> Slots<'b> {
+        Slots::of(self.slots)
+    }
+}

@@ -1,0 +1,222 @@
+//! A lent call by itself, and beside the calls that are values.
+
+use barkpaddle::{
+    Abi, Aggregate, Bridge, Call, Kind, Piece, Refusal, Room, Scalar, Value, Way, limits,
+};
+
+const SYSV: Abi = Abi::SYSV_AMD64;
+
+#[test]
+fn the_record_that_goes_to_memory() {
+    let mut bridge = Bridge::fresh(SYSV).expect("a description");
+    let mut room = Room::new();
+    for left in (1..6).rev() {
+        let outcome = bridge.argument(Scalar::integer(8), &mut room).expect("accepted");
+        assert_eq!((outcome.way, outcome.spent.integers_given), (Way::Direct, 1));
+        assert_eq!(bridge.call(), Call::from_parts(SYSV, left, 8, false));
+    }
+    let two = [Piece::new(Kind::Integer, 8, 8, 0), Piece::new(Kind::Integer, 8, 8, 8)];
+    let outcome = bridge.argument(Aggregate::new(16, 8, &two), &mut room).expect("accepted");
+    assert_eq!((outcome.way, outcome.slots().len()), (Way::Memory, 0));
+    assert_eq!(bridge.call().integer_left(), 1);
+    // A result's address takes the last one.
+    let outcome = bridge.returns(Aggregate::new(100, 8, &[]), &mut []).expect("accepted");
+    assert_eq!((outcome.way, bridge.call().integer_left()), (Way::Reference, 0));
+}
+
+#[test]
+fn the_mark_is_stored() {
+    let mut bridge = Bridge::fresh(Abi::WINDOWS_ARM64).expect("a description");
+    for _ in 0..2 {
+        assert_eq!(bridge.variadic(), Ok(()));
+        assert!(bridge.call().integers_only());
+    }
+    let mut slots = [9; 5];
+    let double = Scalar::new(Kind::Double, 8, 8);
+    let outcome = bridge.variadic_argument(double, &mut slots).expect("accepted");
+    assert_eq!((outcome.way, outcome.spent.integers_given), (Way::Pieces, 1));
+    assert_eq!(slots, [0, 0, 8, 9, 9]);
+    assert_eq!(bridge.call(), Call::from_parts(Abi::WINDOWS_ARM64, 7, 8, true));
+}
+
+#[test]
+fn a_refusal_leaves_the_call_and_the_buffer() {
+    let two = [Piece::new(Kind::Integer, 8, 8, 0), Piece::new(Kind::Integer, 8, 8, 8)];
+    let both = Value::Aggregate(Aggregate::new(16, 8, &two));
+    let good = Call::fresh(SYSV).expect("a description");
+    let refused = [
+        (Call::from_parts(Abi(Abi::COUNT), 9, 9, true), both, Refusal::BadAbi),
+        (Call::from_parts(SYSV, 7, 8, false), Value::Void, Refusal::BadCall),
+        (Call::from_parts(SYSV, 6, 8, true), both, Refusal::BadCall),
+        (good, Scalar::new(Kind::Unnamed(5), 65, 1).into(), Refusal::BadKind),
+        (good, Scalar::integer(65).into(), Refusal::BadSize),
+        (good, both, Refusal::NoRoom),
+    ];
+    for (call, value, refusal) in refused {
+        let mut bridge = Bridge::from(call);
+        let mut slots = [9; 5];
+        assert_eq!(bridge.returns(value, &mut slots), Err(refusal));
+        assert_eq!(bridge.argument(value, &mut slots), Err(refusal));
+        assert_eq!(bridge.variadic_argument(value, &mut slots), Err(refusal));
+        if matches!(refusal, Refusal::BadAbi | Refusal::BadCall) {
+            assert_eq!(bridge.variadic(), Err(refusal));
+        }
+        assert_eq!((bridge.call(), slots), (call, [9; 5]));
+    }
+    assert_eq!(Bridge::fresh(Abi(Abi::COUNT)), Err(Refusal::BadAbi));
+}
+
+// ---- random histories
+
+/// Splitmix64.
+struct Random(u64);
+
+impl Random {
+    fn below(&mut self, limit: u64) -> u64 {
+        self.0 = self.0.wrapping_add(0x9E37_79B9_7F4A_7C15);
+        let mut z = self.0;
+        z = (z ^ (z >> 30)).wrapping_mul(0xBF58_476D_1CE4_E5B9);
+        z = (z ^ (z >> 27)).wrapping_mul(0x94D0_49BB_1331_11EB);
+        (z ^ (z >> 31)) % limit
+    }
+
+    fn once_in(&mut self, times: u64) -> bool {
+        self.below(times) == 0
+    }
+
+    /// A scalar, now and then past a limit.
+    fn scalar(&mut self) -> Scalar {
+        let kinds = if self.once_in(30) { 7 } else { 5 };
+        let kind = self.below(kinds);
+        let size = match kind {
+            1 => 4,
+            2 => 8,
+            3 | 4 => 16,
+            _ => [0, 1, 2, 4, 8, 8, 16, 32][self.below(8) as usize],
+        };
+        let size = if self.once_in(30) { limits::LARGEST_SCALAR + 1 } else { size };
+        let align = match self.below(30) {
+            0 => limits::LARGEST_ALIGN + 1,
+            1..4 => 1 << self.below(5),
+            _ => size,
+        };
+        Scalar::new(Kind::from_number(kind), size, align)
+    }
+
+    /// Pieces one behind the other, mostly, and often alike.
+    fn pieces(&mut self, room: &mut [Piece]) -> usize {
+        let count = if self.once_in(3) { self.below(10) } else { self.below(4) } as usize;
+        let alike = self.once_in(2).then(|| self.scalar());
+        let mut offset = 0;
+        for piece in &mut room[..count] {
+            let scalar = alike.unwrap_or_else(|| self.scalar());
+            let at = if self.once_in(16) { self.below(24) } else { offset };
+            *piece = Piece::new(scalar.kind(), scalar.size(), scalar.align(), at);
+            offset += scalar.size();
+        }
+        count
+    }
+
+    /// A call that can't be, where it isn't the mark of Windows arm64.
+    fn spoil(&mut self, call: Call) -> Call {
+        let (abi, integer, float) = (call.abi(), call.integer_left(), call.float_left());
+        match self.below(4) {
+            0 => Call::from_parts(Abi(Abi::COUNT + self.below(3)), integer, float, false),
+            1 => Call::from_parts(abi, 9, float, call.integers_only()),
+            2 => Call::from_parts(abi, integer, u64::MAX, call.integers_only()),
+            _ => Call::from_parts(abi, integer, float, true),
+        }
+    }
+}
+
+/// The same operations on a bridge and on calls that are values: the bridge goes its own way, and
+/// after each its call is the other's. What the bridge is lent is as long as what the call is.
+#[test]
+fn random_histories_are_the_same_by_value() {
+    const HISTORIES: u64 = 10_000;
+    const OPERATIONS: u64 = 10;
+    let mut random = Random(26);
+    let too_many = [Piece::default(); limits::MOST_PIECES + 1];
+    let mut refusals = [0; 8];
+    let mut ways = [0; 5];
+    for history in 0..HISTORIES {
+        let abi = Abi(history % Abi::COUNT);
+        let mut bridge = Bridge::fresh(abi).expect("a description");
+        let mut call = Call::fresh(abi).expect("a description");
+        for operation in 0..OPERATIONS {
+            let kept = call;
+            let spoilt = random.once_in(20);
+            if spoilt {
+                call = random.spoil(call);
+                bridge = Bridge::from(call);
+            }
+            let refusal = if random.once_in(8) {
+                let marked = call.variadic();
+                assert_eq!(bridge.variadic().err(), marked.err());
+                call = marked.unwrap_or(call);
+                marked.err()
+            } else {
+                let mut pieces = [Piece::default(); 10];
+                let value = match random.below(12) {
+                    0 => Value::Void,
+                    1..6 => random.scalar().into(),
+                    _ => {
+                        let count = random.pieces(&mut pieces);
+                        let end = pieces[..count].iter().map(|piece| piece.size()).sum();
+                        let size = if random.once_in(8) { random.below(40) } else { end };
+                        let mut shape = Aggregate::new(size, 8, &pieces[..count]);
+                        shape.complex = random.once_in(4);
+                        shape.floating = random.once_in(4);
+                        match random.below(60) {
+                            0 | 1 => shape.size = limits::LARGEST_SHAPE + 1,
+                            2 => shape.pieces = &too_many,
+                            _ => {}
+                        }
+                        shape.into()
+                    }
+                };
+                let length = if random.once_in(4) { random.below(9) } else { 26 } as usize;
+                let (mut by_value, mut lent) = ([7; 26], [7; 26]);
+                let (room, lent_room) = (&mut by_value[..length], &mut lent[..length]);
+                let (passed, outcome) = match random.below(10) {
+                    0 | 1 => (call.returns(value, room), bridge.returns(value, lent_room)),
+                    2..7 => (call.argument(value, room), bridge.argument(value, lent_room)),
+                    _ => (
+                        call.variadic_argument(value, room),
+                        bridge.variadic_argument(value, lent_room),
+                    ),
+                };
+                let place = format!("operation {operation} of history {history}: {value:?}");
+                let refusal = match (passed, outcome) {
+                    (Ok(passed), Ok(outcome)) => {
+                        assert_eq!(outcome.way, passed.way, "{place}");
+                        assert_eq!(outcome.spent, passed.spent, "{place}");
+                        assert!(outcome.slots().eq(passed.slots()), "{place}");
+                        ways[passed.way.number() as usize] += 1;
+                        call = passed.next;
+                        None
+                    }
+                    (passed, outcome) => {
+                        assert_eq!(outcome.err(), passed.err(), "{place}");
+                        passed.err()
+                    }
+                };
+                assert_eq!(lent, by_value, "{place}");
+                if refusal.is_some() {
+                    assert_eq!(lent, [7; 26], "{place}");
+                }
+                refusal
+            };
+            assert_eq!(bridge.call(), call, "operation {operation} of history {history}");
+            refusals[refusal.map_or(0, Refusal::number) as usize] += 1;
+            if spoilt && matches!(refusal, Some(Refusal::BadAbi | Refusal::BadCall)) {
+                call = kept;
+                bridge = Bridge::from(kept);
+            }
+        }
+    }
+    assert_eq!(refusals.iter().sum::<u64>(), HISTORIES * OPERATIONS);
+    // Each refusal and each way was among them, or this compares less than it says.
+    assert!(refusals.iter().all(|&count| count >= 100), "{refusals:?}");
+    assert!(ways.iter().all(|&count| count >= 1_000), "{ways:?}");
+}
