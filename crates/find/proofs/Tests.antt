@@ -205,11 +205,24 @@ pair-none iw fw ws h k = go (piecesOf ws) (length-pieces ws)
 -- ---- x87_stack
 
 module _ (shape : Shape) (ws : List ℕ) where
-  pub x87-count : not (eqb (length ws / 4) 1 || eqb (length ws / 4) 2 && shape .complex) ≡ true → Nothing ≡ foundOf (x87Stack shape (piecesOf ws))
+  x87-not : eqb (length ws / 4) 1 || eqb (length ws / 4) 2 && shape .complex ≡ false → Nothing ≡ foundOf (x87Stack shape (piecesOf ws))
   unfolding x87Stack foundIf foundOf
-  x87-count h = rw (length-pieces, and-false (isAllOf x87-extended (piecesOf ws)) _ (not-true _ h))
+  x87-not h = rw (length-pieces, and-false (isAllOf x87-extended (piecesOf ws)) _ h)
 
-  module _ (n : not (eqb (length ws / 4) 1 || eqb (length ws / 4) 2 && shape .complex) ≡ false) (b : Bool) (eb : b ≡ isAllOf x87-extended (piecesOf ws)) where
+  pub x87-count : (length ws / 4 ≡ 1 → ⊥) → (length ws / 4 ≡ 2 → ⊥) → Nothing ≡ foundOf (x87Stack shape (piecesOf ws))
+  x87-count h k = x87-not (rw (ne-eqb _ _ h, ne-eqb _ _ k))
+
+  pub x87-two : length ws / 4 ≡ 2 → not (shape .complex) ≡ true → Nothing ≡ foundOf (x87Stack shape (piecesOf ws))
+  x87-two h k = x87-not (rw (h, not-true (shape .complex) k))
+
+  -- the two ways to one value
+  pub one-value : length ws / 4 ≡ 1 → eqb (length ws / 4) 1 || eqb (length ws / 4) 2 && shape .complex ≡ true
+  one-value h = rw h
+
+  pub two-values : length ws / 4 ≡ 2 → not (shape .complex) ≡ false → eqb (length ws / 4) 1 || eqb (length ws / 4) 2 && shape .complex ≡ true
+  two-values h k = rw (h, not-false (shape .complex) k)
+
+  module _ (n : eqb (length ws / 4) 1 || eqb (length ws / 4) 2 && shape .complex ≡ true) (b : Bool) (eb : b ≡ isAllOf x87-extended (piecesOf ws)) where
     pub x87-other : not b ≡ true → Nothing ≡ foundOf (x87Stack shape (piecesOf ws))
     unfolding x87Stack foundIf foundOf
     x87-other h = rw (← eb, not-true b h)
@@ -217,7 +230,7 @@ module _ (shape : Shape) (ws : List ℕ) where
     pub x87-found : not b ≡ false → Slots (length ws / 4) (length ws / 4) ≡ foundOf (x87Stack shape (piecesOf ws))
     unfolding x87Stack foundIf foundOf
     x87-found h =
-        rw (← eb, not-false b h, length-pieces, not-false (eqb (length ws / 4) 1 || eqb (length ws / 4) 2 && shape .complex) n, floats-at x87-extended (piecesOf ws) refl, length-at, length-pieces)
+        rw (← eb, not-false b h, length-pieces, n, floats-at x87-extended (piecesOf ws) refl, length-at, length-pieces)
 
 -- ---- lone_float
 
@@ -251,13 +264,17 @@ outer-false true b c h = and-false b c (not-true c h)
 outer-false false b c h = refl
 
 module _ (shape : Shape) where
-  pub mode-none : not (shape .complex || shape .floating) ≡ true → Nothing ≡ foundOf (floatingMode shape)
-  unfolding floatingMode foundIf foundOf
-  mode-none h = rw (not-true (shape .complex || shape .floating) h)
-
-  pub mode-found : not (shape .complex || shape .floating) ≡ false → Slots 0 0 ≡ foundOf (floatingMode shape)
+  pub mode-complex : shape .complex ≡ true → Slots 0 0 ≡ foundOf (floatingMode shape)
   unfolding floatingMode foundIf foundOf floatsIn
-  mode-found h = rw (not-false (shape .complex || shape .floating) h)
+  mode-complex h = rw h
+
+  pub mode-none : shape .complex ≡ false → not (shape .floating) ≡ true → Nothing ≡ foundOf (floatingMode shape)
+  unfolding floatingMode foundIf foundOf
+  mode-none h k = rw (h, not-true (shape .floating) k)
+
+  pub mode-found : shape .complex ≡ false → not (shape .floating) ≡ false → Slots 0 0 ≡ foundOf (floatingMode shape)
+  unfolding floatingMode foundIf foundOf floatsIn
+  mode-found h k = rw (h, not-false (shape .floating) k)
 
   module _ (ws : List ℕ) where
     pub complex-none : not (shape .complex && eqb (shape .size) 8) ≡ true → Nothing ≡ foundOf (complexFloat shape (piecesOf ws))

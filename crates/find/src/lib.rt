@@ -137,9 +137,13 @@ pub fn x87_stack(shape: Shape, words: &[u64]) -> Found
     ensures { λ r. ⌜ r ≡ foundOf (find.x87Stack shape (piecesOf (now (words .entry)))) ⌝ }
 {
     let count = (words.len() / shape::PIECE) as u64;
-    let one_value = (count == 1) | ((count == 2) & shape.complex);
-    if !one_value {
-        return Found::Nothing;
+    if count != 1 {
+        if count != 2 {
+            return Found::Nothing;
+        }
+        if !shape.complex {
+            return Found::Nothing;
+        }
     }
     if !shape::is_all_of(words, shape::X87_EXTENDED) {
         return Found::Nothing;
@@ -172,8 +176,13 @@ pub fn lone_float(words: &[u64]) -> Found
 pub fn floating_mode(shape: Shape) -> Found
     ensures { λ r. ⌜ r ≡ foundOf (find.floatingMode shape) ⌝ }
 {
-    let found = shape.complex | shape.floating;
-    if !found {
+    if shape.complex {
+        return Found::Slots {
+            count: 0,
+            floats: 0,
+        };
+    }
+    if !shape.floating {
         return Found::Nothing;
     }
     Found::Slots {

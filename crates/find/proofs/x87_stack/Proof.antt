@@ -1,5 +1,6 @@
 -- `x87_stack` answers what the definition finds: the count decides first, then the formats. Assumes nothing.
-use Rattle.find.proofs.Tests.{x87-count, x87-other, x87-found}
+use mathlib.Core.Logic.{⊎-elim}
+use Rattle.find.proofs.Tests.{x87-count, x87-two, one-value, two-values, x87-other, x87-found}
 use borrow.Author.Needs.{needs}
 use Rattle.find.proofs.x87_stack.Statement.{statement}
 use Rattle.find.proofs.x87_stack.Tie as tie
@@ -7,14 +8,23 @@ use Rattle.find.proofs.x87_stack.Tie as tie
 returns : tie.Need-returns
 returns c = search (x87-count)
 
+returns-2 : tie.Need-returns-2
+returns-2 c = search (x87-two)
+
 is-all-of-requires : tie.Need-is-all-of-requires
 is-all-of-requires c κs = search needs
 
-returns-2 : tie.Need-returns-2
-returns-2 c = search (x87-other)
-
 returns-3 : tie.Need-returns-3
-returns-3 c = search (x87-found)
+returns-3 c =
+    let a = c .before .before .before .before .args in
+    let n = ⊎-elim (λ w. two-values (a .shape) (a .words .now) (w .1 .left) (w .3 .left)) (λ w. one-value (a .shape) (a .words .now) (w .left)) (c .before .before .if1 .came) in
+    x87-other (a .shape) (a .words .now) n _ (c .before .is-all-of .ensures) (c .if4 .taken)
+
+returns-4 : tie.Need-returns-4
+returns-4 c =
+    let a = c .before .before .before .before .args in
+    let n = ⊎-elim (λ w. two-values (a .shape) (a .words .now) (w .1 .left) (w .3 .left)) (λ w. one-value (a .shape) (a .words .now) (w .left)) (c .before .before .if1 .came) in
+    x87-found (a .shape) (a .words .now) n _ (c .before .is-all-of .ensures) (c .if4 .left)
 
 pub x87-stack-spec : {M : Type 1} → statement M
-x87-stack-spec = tie.close (tie.spec returns is-all-of-requires returns-2 returns-3)
+x87-stack-spec = tie.close (tie.spec returns returns-2 is-all-of-requires returns-3 returns-4)
