@@ -8,7 +8,7 @@ use borrow.Author.Tests.{eq-eqb, ne-eqb}
 use lib.Dec.{eqb}
 use lib.ListN.{List·getD-eq-default}
 use Rattle.shape.specs.Numbers.{integer, x87-extended}
-use Rattle.eightbytes.specs.Class.{Class, None, Integer, Sse, SseUp, X87, Memory, code, classOf, same}
+use Rattle.eightbytes.specs.Class.{Class, None, Integer, Sse, SseUp, X87, Memory, code, classOf, same, merge}
 use Rattle.eightbytes.specs.Eightbytes.{kindClass, later, mended}
 
 pub class-code : (c : Class) → classOf (code c) ≡ c
@@ -125,3 +125,18 @@ mended-high b Sse class e h = absurd (omega arith)
 mended-high b SseUp class e h = absurd (omega (arith, up-or-sse (not (same b Sse || same b SseUp))))
 mended-high b X87 class e h = refl
 mended-high b Memory class e h = refl
+
+-- what stands nowhere gives way
+none-first : (b : ℕ) → b < 6 → b ≡ code (merge None (classOf b))
+unfolding code classOf same merge
+none-first zero h = refl
+none-first (suc zero) h = refl
+none-first (suc (suc zero)) h = refl
+none-first (suc (suc (suc zero))) h = refl
+none-first (suc (suc (suc (suc zero)))) h = refl
+none-first (suc (suc (suc (suc (suc zero))))) h = refl
+none-first (suc (suc (suc (suc (suc (suc n)))))) h = absurd (omega arith)
+
+pub merge-none : (a b : ℕ) → a ≡ 0 → b < 6 → b ≡ code (merge (classOf a) (classOf b))
+unfolding classOf
+merge-none a b e h = rw e (none-first b h)

@@ -105,7 +105,7 @@ classes-are limit shape ps cs e = go (ltb (min limit most-limit) (shape .size)) 
     go true t x = let z : _≡_ {A = ℕ} 0 1 = cc in absurd (omega arith)
     go false t x = record { size≤ = ltb-false _ _ t; one-each = some-cs _ refl x }
 
-few-slots : (cs : List Class) → slotsIn cs ≤ length cs
+pub few-slots : (cs : List Class) → slotsIn cs ≤ length cs
 unfolding slotsIn
 few-slots [] = omega arith
 few-slots (c ∷ cs) = go (same c SseUp) (few-slots cs)

@@ -6,4 +6,5 @@ pub mod Counts
 pub mod Put
 pub mod Found
 pub mod At
+pub mod Pair
 mod Unique

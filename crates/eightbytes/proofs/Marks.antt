@@ -17,8 +17,8 @@ use Rattle.shape.specs.Words.{piecesOf, pieceAt}
 use Rattle.shape.proofs.Words.{pieces-step, pieces-end}
 use Rattle.eightbytes.specs.Class.{Class, None, code, classOf, merge}
 use Rattle.eightbytes.specs.Eightbytes.{lastOf, aligned, kindClass, later, cover, mark, fits, marked, Coded}
-use Rattle.eightbytes.proofs.Class.{class-code}
-use Rattle.eightbytes.proofs.Codes.{map-set, map-drop, class-at, codes-classes, classes-codes}
+use Rattle.eightbytes.proofs.Class.{class-code, coded-lt}
+use Rattle.eightbytes.proofs.Codes.{map-set, map-drop, class-at, codes-classes, classes-codes, coded-set}
 
 -- ---- the loop over the eightbytes of a piece
 
@@ -49,6 +49,17 @@ module _ (total : List Class) (xs : List ℕ) (at class last : ℕ) (inv : cover
       let m : last + 1 - at ≡ suc (last + 1 - (at + 1)) = omega arith in
       let s = cover-suc (map classOf xs) at (classOf class) (last + 1 - at) (last + 1 - (at + 1)) m in
       rw (ev, ec, map-set, class-code, class-code) (rw (class-at xs at) at (sym s) ∙ inv)
+
+pub cover-less : (at last : ℕ) → at ≤ last → last + 1 - (at + 1) < last + 1 - at
+cover-less at last h = omega arith
+
+-- a piece inside one eightbyte: one turn is all
+pub cover-one : (xs : List ℕ) (at class last v : ℕ) → Coded xs → at ≡ last → v ≡ code (merge (classOf (getD xs at 0)) (classOf class))
+    → set xs at v ≡ map code (cover (map classOf xs) at (classOf class) (last + 1 - at))
+cover-one xs at class last v h e ev =
+    let total : List Class = cover (map classOf xs) at (classOf class) (last + 1 - at) in
+    let t = cover-turn total xs at class last refl v (code (later (classOf class))) (omega arith) ev refl in
+    cover-end total (set xs at v) (at + 1) (code (later (classOf class))) last t (coded-set xs at v h (coded-lt _ ev)) (omega arith)
 
 -- ---- the eightbytes of a shape are the first n of some
 

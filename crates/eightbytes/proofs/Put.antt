@@ -80,7 +80,7 @@ count-turn xs n i m count k e h l ek =
 abbrev pub left : ℕ → List ℕ → ℕ → ℕ → List Slot
 left size xs n i = slotsFrom (8 * i) (size - 8 * i) (rest xs n i)
 
-left-step : (size : ℕ) (xs : List ℕ) (n i : ℕ) → i < n → n ≤ length xs
+pub left-step : (size : ℕ) (xs : List ℕ) (n i : ℕ) → i < n → n ≤ length xs
     → left size xs n i ≡ slotOf (classOf (getD xs i 0)) (upFirst (rest xs n (i + 1))) (8 * i) (size - 8 * i) ++ left size xs n (i + 1)
 unfolding slotsFrom
 left-step size xs n i h l =
@@ -88,7 +88,7 @@ left-step size xs n i h l =
     let b : size - 8 * i - 8 ≡ size - 8 * (i + 1) = omega arith in
     rw (rest-step xs n i h l, a, b)
 
-left-end : (size : ℕ) (xs : List ℕ) (n i : ℕ) → n ≤ i → left size xs n i ≡ []
+pub left-end : (size : ℕ) (xs : List ℕ) (n i : ℕ) → n ≤ i → left size xs n i ≡ []
 unfolding slotsFrom
 left-end size xs n i h = rw (rest-end xs n i h)
 

@@ -8,6 +8,7 @@ ghost use lib.ListN.{length, take, drop, replicate};
 ghost use Rattle.shape.specs.Words.{piecesOf};
 ghost use Rattle.slots.specs.Search.{foundOf, oneIf};
 ghost use Rattle.slots.specs.Words.{wordsOf, putAt, written};
+ghost use lib.Dec.{leb};
 ghost use Rattle.eightbytes.specs.Class.{code, classOf, merge as merge·};
 ghost use Rattle.eightbytes.specs.Eightbytes.{most-limit, eightbytesIn, lastOf, aligned as aligned·, fits as fits·, kindClass, later as later·, mark as mark·};
 ghost use Rattle.eightbytes.specs.Eightbytes.{settled, mended as mended·, slotsFound, codes, upFirst, ownSlot, slotOf, formatOf, slotsIn};
@@ -40,6 +41,9 @@ const MERGE: [[u8; 6]; 6] = [
 
 const EIGHTBYTE: u64 = 8;
 
+// The bytes of two eightbytes. Most shapes that come in registers have no more, so both the counting and the writing take these first.
+const PAIR: u64 = 16;
+
 // A limit above eight eightbytes counts as eight.
 const MOST_LIMIT: u64 = 64;
 
@@ -57,7 +61,7 @@ pub fn eightbytes(shape: Shape, words: &[u64], limit: u64) -> Classified
     if size > shape::least(limit, MOST_LIMIT) {
         return nothing();
     }
-    let n = eightbytes_in(size);
+    let n = slots::parts(size, EIGHTBYTE) as usize;
     let mut classes = [NONE; 8];
     let mut at = 0;
     while words.len() - at >= shape::PIECE {
@@ -69,13 +73,17 @@ pub fn eightbytes(shape: Shape, words: &[u64], limit: u64) -> Classified
         classes = next;
         at += shape::PIECE;
     }
-    settle(classes, size)
+    settle(classes, size, n)
 }
 
 // Writes the slots that classes stand for in a shape of this size, at the front where they all fit.
 pub fn put_eightbytes(classes: [u8; 8], size: u64, out: &mut [u64])
     ensures { λ _. ⌜ now (out .exit) ≡ written (slotsOf size classes) (now (out .entry)) ⌝ }
 {
+    if size <= PAIR {
+        put_pair(classes, size, out);
+        return;
+    }
     let n = eightbytes_in(size);
     if slots::room(out.len()) < count_slots(classes, n) {
         return;
@@ -89,6 +97,26 @@ pub fn put_eightbytes(classes: [u8; 8], size: u64, out: &mut [u64])
         at = next;
         i += 1;
     }
+}
+
+// The same for at most two eightbytes, without a loop.
+fn put_pair(classes: [u8; 8], size: u64, out: &mut [u64])
+    requires { ⌜ size ≤ 16 ⌝ }
+    ensures { λ _. ⌜ now (out .exit) ≡ written (slotsOf size classes) (now (out .entry)) ⌝ }
+{
+    if size == 0 {
+        return;
+    }
+    if size <= EIGHTBYTE {
+        put_eightbyte(out, 0, classes[0], false, 0, size);
+        return;
+    }
+    if !has_room(classes, 2, slots::room(out.len())) {
+        return;
+    }
+    let up = classes[1] == SSE_UP;
+    let next = put_eightbyte(out, 0, classes[0], up, 0, size);
+    put_eightbyte(out, next, classes[1], false, EIGHTBYTE, size - EIGHTBYTE);
 }
 
 fn nothing() -> Classified
@@ -125,8 +153,12 @@ fn mark(classes: [u8; 8], p: Piece) -> [u8; 8]
     let mut at = (p.offset / EIGHTBYTE) as usize;
     let mut class = class_of(p.kind);
     let mut cs = classes;
+    if at == last {
+        cs[at] = joined(cs[at], class);
+        return cs;
+    }
     while at <= last {
-        cs[at] = merge(cs[at], class);
+        cs[at] = joined(cs[at], class);
         class = later(class);
         at += 1;
     }
@@ -156,6 +188,17 @@ fn later(class: u8) -> u8
     class
 }
 
+// What two classes make. Where nothing stands yet, the one that comes goes in as it is, and no table is read.
+fn joined(a: u8, b: u8) -> u8
+    requires { ⌜ (a < 6) × (b < 6) ⌝ }
+    ensures { λ r. ⌜ r ≡ code (merge· (classOf a) (classOf b)) ⌝ }
+{
+    if a == NONE {
+        return b;
+    }
+    merge(a, b)
+}
+
 fn merge(a: u8, b: u8) -> u8
     requires { ⌜ (a < 6) × (b < 6) ⌝ }
     ensures { λ r. ⌜ r ≡ code (merge· (classOf a) (classOf b)) ⌝ }
@@ -166,8 +209,32 @@ fn merge(a: u8, b: u8) -> u8
     table[row][column]
 }
 
-// The rule after the merge, and the counts, in one pass from the first eightbyte up.
-fn settle(classes: [u8; 8], size: u64) -> Classified
+// The rule after the merge, and the counts. At most two eightbytes whose classes come before SSE_UP stay as they are, a slot for each.
+fn settle(classes: [u8; 8], size: u64, n: usize) -> Classified
+    requires { ⌜ (Coded classes) × (size ≤ most-limit) × (drop (eightbytesIn size) classes ≡ replicate (8 - eightbytesIn size) 0) × (n ≡ eightbytesIn size) ⌝ }
+    ensures { λ r. ⌜ (r .found ≡ foundOf (slotsFound size (settled (take (eightbytesIn size) (map classOf classes))))) × (r .classes ≡ codes (settled (take (eightbytesIn size) (map classOf classes)))) ⌝ }
+{
+    if size > PAIR {
+        return settle_all(classes, size);
+    }
+    let first = classes[0];
+    if first >= SSE_UP {
+        return settle_all(classes, size);
+    }
+    let second = classes[1];
+    if second >= SSE_UP {
+        return settle_all(classes, size);
+    }
+    let count = n as u64;
+    let floats = one_if(first == SSE) + one_if(second == SSE);
+    Classified {
+        found: Found::Slots { count, floats },
+        classes,
+    }
+}
+
+// In one pass from the first eightbyte up.
+fn settle_all(classes: [u8; 8], size: u64) -> Classified
     requires { ⌜ (Coded classes) × (size ≤ most-limit) × (drop (eightbytesIn size) classes ≡ replicate (8 - eightbytesIn size) 0) ⌝ }
     ensures { λ r. ⌜ (r .found ≡ foundOf (slotsFound size (settled (take (eightbytesIn size) (map classOf classes))))) × (r .classes ≡ codes (settled (take (eightbytesIn size) (map classOf classes)))) ⌝ }
 {
@@ -209,6 +276,17 @@ fn one_if(b: bool) -> u64
     ensures { λ r. ⌜ (r ≡ oneIf b) × (r ≤ 1) ⌝ }
 {
     if b { 1 } else { 0 }
+}
+
+// Whether the slots of the first n classes are at most so many. They are at most n, so they are counted only where that is too many.
+fn has_room(classes: [u8; 8], n: usize, room: usize) -> bool
+    requires { ⌜ n ≤ 8 ⌝ }
+    ensures { λ r. ⌜ r ≡ leb (slotsIn (take n (map classOf classes))) room ⌝ }
+{
+    if n <= room {
+        return true;
+    }
+    count_slots(classes, n) <= room
 }
 
 // How many slots the first n classes stand for.

@@ -1,10 +1,11 @@
 -- `eightbytes` answers the search. The invariant: the classes as they are, and the pieces that are left, decide the classes of all. Assumes nothing.
-use Prim.Native.Nat.{_-_, _≤_, _<_}
+use Prim.Native.Nat.{_-_, _≤_, _<_, min}
 use mathlib.Core.Path.{_≡_, refl, _∙_}
 use mathlib.Core.List.{map}
 use mathlib.Core.Option.Option.{none, some}
 use lib.ListN.{length, take, drop, replicate}
 use Rattle.shape.specs.Words.{piecesOf}
+use Rattle.slots.proofs.Cut.{length-cut}
 use Rattle.eightbytes.specs.Class.{None, classOf}
 use Rattle.eightbytes.specs.Eightbytes.{eightbytesIn, lastOf, mark, marked, settled, classified, Coded}
 use Rattle.eightbytes.proofs.Codes.{coded-is, coded-zeros}
@@ -35,11 +36,13 @@ returns c =
     let e : classified (a .limit) (a .shape) (piecesOf (a .words .now)) ≡ none = search (over-limit) in
     (found-by _ _ _ _ e _ (nothing-by _ _ (c .nothing .ensures .0)), classes-by _ _ _ _ e _ (c .nothing .ensures .1))
 
-eightbytes-in-requires : tie.Need-eightbytes-in-requires Inv-loop μ-loop
-eightbytes-in-requires c κs = search needs
+parts-requires : tie.Need-parts-requires Inv-loop μ-loop
+parts-requires c κs = search needs
 
 loop-holds : tie.Need-loop-holds Inv-loop μ-loop
-loop-holds c = (omega arith, coded-zeros 8, refl, behind-start (c .eightbytes-in .result) (omega arith), marked-start (c .eightbytes-in .result) _ (omega arith))
+loop-holds c =
+    let k : c .parts .result ≤ 8 = omega (arith, length-cut (c .before .before .before .before .args .shape .size) 8) in
+    (omega arith, coded-zeros 8, refl, behind-start (c .parts .result) k, marked-start (c .parts .result) _ k)
 
 sub-loop : tie.Need-sub-loop Inv-loop μ-loop
 sub-loop c = search needs
@@ -56,7 +59,8 @@ nothing-requires-2 c κs = search needs
 returns-2 : tie.Need-returns-2 Inv-loop μ-loop
 returns-2 c =
     let a = c .before .before .before .before .before .before .before .before .before .before .args in
-    let n = c .before .before .before .before .before .before .eightbytes-in .result in
+    let n = c .before .before .before .before .before .before .parts .result in
+    let en : n ≡ min (eightbytesIn (a .shape .size)) 8 = omega (arith, length-cut (a .shape .size) 8) in
     let k : n ≤ length (c .before .before .before .before .before .loop .classes) = omega arith in
     let m : marked (replicate n None) (piecesOf (a .words .now)) ≡ none = search (marked-stop) in
     let e : classified (a .limit) (a .shape) (piecesOf (a .words .now)) ≡ none = search (unfit) in
@@ -64,7 +68,9 @@ returns-2 c =
 
 mark-requires : tie.Need-mark-requires Inv-loop μ-loop
 mark-requires c κs =
-    let n = c .before .before .before .before .before .eightbytes-in .result in
+    let s = c .before .before .before .before .before .before .before .before .before .args .shape .size in
+    let n = c .before .before .before .before .before .parts .result in
+    let en : n ≡ min (eightbytesIn s) 8 = omega (arith, length-cut s 8) in
     let k : n ≤ length (c .before .before .before .before .loop .classes) = omega arith in
     let i : lastOf (c .before .before .piece-at .result) < n = search (inside) in
     (c .before .before .before .before .loop .inv .1, omega arith)
@@ -78,22 +84,31 @@ loop-less c = omega arith
 loop-again : tie.Need-loop-again Inv-loop μ-loop
 loop-again c =
     let l = c .before .before .before .before .before .loop in
-    let n = c .before .before .before .before .before .before .eightbytes-in .result in
+    let s = c .before .before .before .before .before .before .before .before .before .before .args .shape .size in
+    let n = c .before .before .before .before .before .before .parts .result in
+    let en : n ≡ min (eightbytesIn s) 8 = omega (arith, length-cut s 8) in
     let k : n ≤ length (l .classes) = omega arith in
     let m : length (c .mark .result) ≡ length (l .classes) = search (marked-length) in
-    let d : drop n (c .mark .result) ≡ drop n (l .classes) = search (marked-behind) in
-    (omega arith, coded-is _ (mark (map classOf (l .classes)) (c .before .before .before .piece-at .result)) (c .mark .ensures), omega arith, d ∙ l .inv .3, search (marked-turn))
+    let d : drop n (c .mark .result) ≡ drop n (l .classes) = search (marked-behind) in (
+      omega arith,
+      coded-is _ (mark (map classOf (l .classes)) (c .before .before .before .piece-at .result)) (c .mark .ensures),
+      omega arith,
+      d ∙ l .inv .3,
+      marked-turn _ _ _ n (l .classes) (l .inv .4) (l .inv .0) (omega arith) k _ (c .before .before .before .piece-at .ensures) _ (c .before .before .fits2 .ensures) (c .before .if2 .left) _ (c .mark .ensures),
+    )
 
 settle-requires : tie.Need-settle-requires Inv-loop μ-loop
 settle-requires c κs =
     let s = c .before .before .before .before .before .before .args .shape .size in
+    let en : c .before .before .parts .result ≡ min (eightbytesIn s) 8 = omega (arith, length-cut s 8) in
     let d : drop (eightbytesIn s) (c .before .loop .classes) ≡ replicate (8 - eightbytesIn s) 0 = search (behind) in
-    (c .before .loop .inv .1, omega arith, d)
+    (c .before .loop .inv .1, omega arith, d, omega arith)
 
 returns-3 : tie.Need-returns-3 Inv-loop μ-loop
 returns-3 c =
     let a = c .before .before .before .before .before .before .before .args in
-    let m : marked (replicate (c .before .before .before .eightbytes-in .result) None) (piecesOf (a .words .now)) ≡ some (take (c .before .before .before .eightbytes-in .result) (map classOf (c .before .before .loop .classes))) = search (marked-end) in
+    let en : c .before .before .before .parts .result ≡ min (eightbytesIn (a .shape .size)) 8 = omega (arith, length-cut (a .shape .size) 8) in
+    let m : marked (replicate (c .before .before .before .parts .result) None) (piecesOf (a .words .now)) ≡ some (take (c .before .before .before .parts .result) (map classOf (c .before .before .loop .classes))) = search (marked-end) in
     let e : classified (a .limit) (a .shape) (piecesOf (a .words .now)) ≡ settled (take (eightbytesIn (a .shape .size)) (map classOf (c .before .before .loop .classes))) = search (fit) in
     (found-by _ _ _ _ e _ (c .settle .ensures .0), classes-by _ _ _ _ e _ (c .settle .ensures .1))
 
@@ -106,7 +121,7 @@ eightbytes-spec =
     least-requires
     nothing-requires
     returns
-    eightbytes-in-requires
+    parts-requires
     loop-holds
     sub-loop
     piece-at-requires

@@ -6,7 +6,7 @@ use Rattle.eightbytes.specs.Class.{code, classOf}
 use Rattle.eightbytes.specs.Eightbytes.{cover, Coded}
 use Rattle.eightbytes.proofs.Class.{coded-lt}
 use Rattle.eightbytes.proofs.Codes.{coded-set}
-use Rattle.eightbytes.proofs.Marks.{mark-start, cover-end, cover-turn}
+use Rattle.eightbytes.proofs.Marks.{mark-start, cover-end, cover-one, cover-less, cover-turn}
 use borrow.Author.Needs.{needs}
 use native.Mathlib.Omega.{arith}
 use Rattle.eightbytes.proofs.mark.Statement.{statement}
@@ -28,17 +28,32 @@ sub-last c = search needs
 class-of-requires : tie.Need-class-of-requires Inv-loop μ-loop
 class-of-requires c κs = search needs
 
-loop-holds : tie.Need-loop-holds Inv-loop μ-loop
-loop-holds c = (c .before .before .before .pre .0, coded-lt _ (c .class-of .ensures), refl)
+array-read-joined : tie.Need-array-read-joined Inv-loop μ-loop
+array-read-joined c = omega arith
 
-array-read-merge : tie.Need-array-read-merge Inv-loop μ-loop
-array-read-merge c = omega arith
-
-merge-requires : tie.Need-merge-requires Inv-loop μ-loop
-merge-requires c κs = (c .before .loop .inv .0 _, c .before .loop .inv .1)
+joined-requires : tie.Need-joined-requires Inv-loop μ-loop
+joined-requires c κs = (c .before .before .before .before .pre .0 _, coded-lt _ (c .before .class-of .ensures))
 
 array-write-cs : tie.Need-array-write-cs Inv-loop μ-loop
 array-write-cs c = omega arith
+
+returns : tie.Need-returns Inv-loop μ-loop
+returns c =
+    let a = c .before .before .before .before .before .args in
+    cover-one (a .classes) _ _ _ _ (c .before .before .before .before .before .pre .0) (c .before .if1 .taken) (c .joined .ensures)
+    ∙ ap (map code) (mark-start (a .classes) (a .p) _ _ (c .before .before .before .before .end .ensures) (c .before .before .class-of .ensures))
+
+loop-holds : tie.Need-loop-holds Inv-loop μ-loop
+loop-holds c = (c .before .before .before .before .pre .0, coded-lt _ (c .before .class-of .ensures), refl)
+
+array-read-joined-2 : tie.Need-array-read-joined-2 Inv-loop μ-loop
+array-read-joined-2 c = omega arith
+
+joined-requires-2 : tie.Need-joined-requires-2 Inv-loop μ-loop
+joined-requires-2 c κs = (c .before .loop .inv .0 _, c .before .loop .inv .1)
+
+array-write-cs-2 : tie.Need-array-write-cs-2 Inv-loop μ-loop
+array-write-cs-2 c = omega arith
 
 later-requires : tie.Need-later-requires Inv-loop μ-loop
 later-requires c κs = search needs
@@ -47,19 +62,19 @@ add-at : tie.Need-add-at Inv-loop μ-loop
 add-at c = omega arith
 
 loop-less : tie.Need-loop-less Inv-loop μ-loop
-loop-less c = omega arith
+loop-less c = cover-less _ _ (c .before .before .loop-test .taken)
 
 loop-again : tie.Need-loop-again Inv-loop μ-loop
 loop-again c =
     let l = c .before .before .before .loop in
-    (coded-set (l .cs) _ _ (l .inv .0) (coded-lt _ (c .before .merge .ensures)), coded-lt _ (c .later .ensures), search (cover-turn))
+    (coded-set (l .cs) _ _ (l .inv .0) (coded-lt _ (c .before .joined2 .ensures)), coded-lt _ (c .later .ensures), search (cover-turn))
 
-returns : tie.Need-returns Inv-loop μ-loop
-returns c =
+returns-2 : tie.Need-returns-2 Inv-loop μ-loop
+returns-2 c =
     let l = c .before .loop in
-    let a = c .before .before .before .before .before .args in
+    let a = c .before .before .before .before .before .before .args in
     cover-end _ (l .cs) _ (l .class) _ (l .inv .2) (l .inv .0) (omega arith)
-    ∙ ap (map code) (mark-start (a .classes) (a .p) _ _ (c .before .before .before .before .end .ensures) (c .before .before .class-of .ensures))
+    ∙ ap (map code) (mark-start (a .classes) (a .p) _ _ (c .before .before .before .before .before .end .ensures) (c .before .before .before .class-of .ensures))
 
 pub mark-spec : {M : Type 1} → statement M
 mark-spec =
@@ -70,12 +85,16 @@ mark-spec =
     end-requires
     sub-last
     class-of-requires
-    loop-holds
-    array-read-merge
-    merge-requires
+    array-read-joined
+    joined-requires
     array-write-cs
+    returns
+    loop-holds
+    array-read-joined-2
+    joined-requires-2
+    array-write-cs-2
     later-requires
     add-at
     loop-less
     loop-again
-    returns)
+    returns-2)

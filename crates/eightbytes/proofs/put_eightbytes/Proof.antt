@@ -18,6 +18,15 @@ Inv-loop size out₀ classes n at₀ i₀ out at i =
 abbrev μ-loop : tie.MeasureT-loop
 μ-loop size out₀ classes n at₀ i₀ out at i = n - i
 
+put-pair-requires : tie.Need-put-pair-requires Inv-loop μ-loop
+put-pair-requires c κs = omega arith
+
+same-length : tie.Need-same-length Inv-loop μ-loop
+same-length c = omega arith
+
+returns : tie.Need-returns Inv-loop μ-loop
+returns c = c .before .before .put-pair .ensures
+
 eightbytes-in-requires : tie.Need-eightbytes-in-requires Inv-loop μ-loop
 eightbytes-in-requires c κs = search needs
 
@@ -27,14 +36,14 @@ room-requires c κs = search needs
 count-slots-requires : tie.Need-count-slots-requires Inv-loop μ-loop
 count-slots-requires c κs = omega arith
 
-returns : tie.Need-returns Inv-loop μ-loop
-returns c =
-    let a = c .before .before .before .before .before .args in
+returns-2 : tie.Need-returns-2 Inv-loop μ-loop
+returns-2 c =
+    let a = c .before .before .before .before .before .before .args in
     put-short (a .size) _ _ _ (a .t1) _ (c .before .before .before .eightbytes-in .ensures) (omega arith) (c .before .count-slots .ensures) (c .before .before .room .ensures) (omega arith)
 
 loop-holds : tie.Need-loop-holds Inv-loop μ-loop
 loop-holds c =
-    let a = c .before .before .before .before .before .args in
+    let a = c .before .before .before .before .before .before .args in
     let n = c .before .before .before .eightbytes-in in
     (omega arith, refl, omega (arith, room-start (a .size) (n .result) (a .t1) _ _ (a .out .now) (c .before .count-slots .ensures) (c .before .before .room .ensures) (omega arith)), put-start (a .size) _ (a .t1) _ (n .ensures) (omega arith))
 
@@ -64,7 +73,7 @@ loop-less c = omega arith
 
 loop-again : tie.Need-loop-again Inv-loop μ-loop
 loop-again c =
-    let a = c .before .before .before .before .before .before .before .before .before .before .before .before .args in
+    let a = c .before .before .before .before .before .before .before .before .before .before .before .before .before .args in
     let n = c .before .before .before .before .before .before .before .before .before .before .eightbytes-in in
     let l = c .before .before .before .before .before .before .loop in
     let p = c .before .before .put-eightbyte in
@@ -75,12 +84,12 @@ loop-again c =
       put-turn (a .size) (n .result) (a .t1) (l .i) (omega arith) (omega arith) _ u (l .out) (l .at) (l .inv .2) _ (p .ensures .0) _ _ (l .inv .3) (p .ensures .1),
     )
 
-same-length : tie.Need-same-length Inv-loop μ-loop
-same-length c = omega arith
+same-length-2 : tie.Need-same-length-2 Inv-loop μ-loop
+same-length-2 c = omega arith
 
-returns-2 : tie.Need-returns-2 Inv-loop μ-loop
-returns-2 c =
-    let a = c .before .before .before .before .before .before .before .args in
+returns-3 : tie.Need-returns-3 Inv-loop μ-loop
+returns-3 c =
+    let a = c .before .before .before .before .before .before .before .before .args in
     let l = c .before .loop in
     put-end (a .size) (c .before .before .before .before .before .eightbytes-in .result) (a .t1) (l .i) (l .at) _ _ (omega arith) (l .inv .2) (l .inv .3)
 
@@ -90,10 +99,13 @@ put-eightbytes-spec =
     (tie.spec
     Inv-loop
     μ-loop
+    put-pair-requires
+    same-length
+    returns
     eightbytes-in-requires
     room-requires
     count-slots-requires
-    returns
+    returns-2
     loop-holds
     mul-offset
     add-up-at
@@ -104,5 +116,5 @@ put-eightbytes-spec =
     add-i
     loop-less
     loop-again
-    same-length
-    returns-2)
+    same-length-2
+    returns-3)

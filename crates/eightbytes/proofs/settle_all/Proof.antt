@@ -1,0 +1,127 @@
+-- `settle_all` mends the classes and counts their slots. The invariant: what is done and what is left make the whole, in classes and in counts. Assumes nothing.
+use Prim.Native.Nat.{_+_, _-_, _≤_, _<_}
+use mathlib.Core.Path.{_≡_, refl, sym, _∙_}
+use mathlib.Core.List.{map, _++_}
+use lib.ListN.{length, take, drop, length-set}
+use native.Mathlib.Nat.{zero-add}
+use lib.Seq.{drop-set-lt}
+use Rattle.eightbytes.specs.Class.{None, classOf}
+use Rattle.eightbytes.specs.Eightbytes.{spoiled, mend, slotsIn, Coded}
+use Rattle.eightbytes.proofs.Class.{coded-lt}
+use Rattle.eightbytes.proofs.Codes.{coded-set}
+use Rattle.eightbytes.proofs.Rest.{rest}
+use Rattle.eightbytes.proofs.Counts.{ssesIn, spoil-stop, spoil-step, mend-turn, count-turn, float-turn, stop-found, stop-classes, end-found, end-classes}
+use borrow.Author.Needs.{needs}
+use native.Mathlib.Omega.{arith}
+use Rattle.eightbytes.proofs.settle_all.Statement.{statement}
+use Rattle.eightbytes.proofs.settle_all.Tie as tie
+
+abbrev Inv-loop : tie.InvT-loop
+Inv-loop size n cs₀ below₀ count₀ floats₀ i₀ cs below count floats i =
+    (i ≤ n) × (count ≤ i) × (floats ≤ i) × (below < 6) × (Coded cs) × (length cs ≡ 8) × (drop n cs ≡ drop n cs₀)
+    × (spoiled (rest cs₀ n 0) ≡ spoiled (rest cs n i))
+    × (mend None (rest cs₀ n 0) ≡ take i (map classOf cs) ++ mend (classOf below) (rest cs n i))
+    × (slotsIn (mend None (rest cs₀ n 0)) ≡ count + slotsIn (mend (classOf below) (rest cs n i)))
+    × (ssesIn (mend None (rest cs₀ n 0)) ≡ floats + ssesIn (mend (classOf below) (rest cs n i)))
+
+abbrev μ-loop : tie.MeasureT-loop
+μ-loop size n cs₀ below₀ count₀ floats₀ i₀ cs below count floats i = n - i
+
+eightbytes-in-requires : tie.Need-eightbytes-in-requires Inv-loop μ-loop
+eightbytes-in-requires c κs = search needs
+
+loop-holds : tie.Need-loop-holds Inv-loop μ-loop
+unfolding classOf
+loop-holds c =
+    (omega arith, omega arith, omega arith, omega arith, c .before .pre .0, omega arith, refl, refl, refl, sym (zero-add _), sym (zero-add _))
+
+array-read-mended : tie.Need-array-read-mended Inv-loop μ-loop
+array-read-mended c = omega arith
+
+mended-requires : tie.Need-mended-requires Inv-loop μ-loop
+mended-requires c κs = (c .before .loop .inv .3, c .before .loop .inv .4 _)
+
+nothing-requires : tie.Need-nothing-requires Inv-loop μ-loop
+nothing-requires c κs = search needs
+
+returns : tie.Need-returns Inv-loop μ-loop
+returns c =
+    let l = c .before .before .before .before .loop in
+    let a = c .before .before .before .before .before .before .args in
+    let n = c .before .before .before .before .before .eightbytes-in in
+    let s = spoil-stop (l .cs) (n .result) (l .i) (l .below) (omega arith) (omega arith) _ (c .before .before .mended .ensures) _ (l .inv .7) (omega arith) in (
+      stop-found (a .size) _ (a .classes) (n .ensures) (omega arith) _ s (c .nothing .ensures .0),
+      stop-classes (a .size) _ (a .classes) (n .ensures) (omega arith) _ s (c .nothing .ensures .1),
+    )
+
+array-write-cs : tie.Need-array-write-cs Inv-loop μ-loop
+array-write-cs c = omega arith
+
+one-if-requires : tie.Need-one-if-requires Inv-loop μ-loop
+one-if-requires c κs = search needs
+
+add-count : tie.Need-add-count Inv-loop μ-loop
+add-count c = omega arith
+
+one-if-requires-2 : tie.Need-one-if-requires-2 Inv-loop μ-loop
+one-if-requires-2 c κs = search needs
+
+add-floats : tie.Need-add-floats Inv-loop μ-loop
+add-floats c = omega arith
+
+add-i : tie.Need-add-i Inv-loop μ-loop
+add-i c = omega arith
+
+loop-less : tie.Need-loop-less Inv-loop μ-loop
+loop-less c = omega arith
+
+loop-again : tie.Need-loop-again Inv-loop μ-loop
+loop-again c =
+    let l = c .before .before .before .before .before .loop in
+    let n = c .before .before .before .before .before .before .eightbytes-in .result in
+    let e = c .before .before .before .mended .ensures in
+    let h : l .i < n = omega arith in
+    let k : n ≤ length (l .cs) = omega arith in (
+      omega arith,
+      omega arith,
+      omega arith,
+      coded-lt _ e,
+      coded-set (l .cs) _ _ (l .inv .4) (coded-lt _ e),
+      simp length-set (omega arith),
+      drop-set-lt n (l .cs) _ _ h ∙ l .inv .6,
+      spoil-step (l .cs) n _ (l .below) h k _ e _ (l .inv .7) (omega arith),
+      mend-turn (l .cs) n _ (l .below) h k _ e _ (l .inv .8),
+      count-turn (l .cs) n _ (l .below) h k _ e _ _ _ (l .inv .9) (c .before .one-if .ensures .0),
+      float-turn (l .cs) n _ (l .below) h k _ e _ _ _ (l .inv .10) (c .one-if2 .ensures .0),
+    )
+
+returns-2 : tie.Need-returns-2 Inv-loop μ-loop
+returns-2 c =
+    let l = c .before .loop in
+    let a = c .before .before .before .args in
+    let n = c .before .before .eightbytes-in in (
+      end-found (a .size) _ (a .classes) (n .ensures) (omega arith) (l .cs) (l .i) (l .below) (omega arith) (l .inv .7) _ _ (l .inv .9) (l .inv .10),
+      end-classes (a .size) _ (a .classes) (n .ensures) (omega arith) (l .cs) (l .i) (l .below) (omega arith) (l .inv .7) (omega arith) (omega arith) (l .inv .4) (l .inv .6) (c .before .before .before .pre .2) (l .inv .8),
+    )
+
+pub settle-all-spec : {M : Type 1} → statement M
+settle-all-spec =
+    tie.close
+    (tie.spec
+    Inv-loop
+    μ-loop
+    eightbytes-in-requires
+    loop-holds
+    array-read-mended
+    mended-requires
+    nothing-requires
+    returns
+    array-write-cs
+    one-if-requires
+    add-count
+    one-if-requires-2
+    add-floats
+    add-i
+    loop-less
+    loop-again
+    returns-2)
