@@ -1,7 +1,6 @@
 // A call and its operations in numbers: the call comes as its description, the counts left and the mark, and goes back in the answer.
 ghost use mathlib.Core.Path.{_≡_};
 ghost use mathlib.Core.List.{[]};
-ghost use Rattle.spend.specs.Ways.{wayNumber};
 ghost use Rattle.describe.specs.Codes.{flag as flag·};
 ghost use Rattle.classify.specs.Answers.{freshAnswer, variadicAnswer, returnsAnswer, returnsWritten, argumentAnswer, argumentWritten, dotsAnswer, dotsWritten, inMemoryAnswer};
 ghost use Rattle.barkpaddle.specs.Numbers.{callFrom, void, scalar, aggregate, shapeFrom, inNumbers, aligned};
@@ -10,7 +9,6 @@ use classify::Arg;
 use classify::Call;
 use shape::Scalar;
 use shape::Shape;
-use spend::Way;
 
 // What an operation answers: the refusal, the way, the next call, what was passed over and given, and how many slots were written.
 #[repr(C)]
@@ -272,7 +270,7 @@ fn in_numbers(answer: classify::Answer) -> Answer
     let spent = outcome.spent;
     Answer {
         refusal: outcome.refusal,
-        way: way_number(way),
+        way: spend::way_number(way),
         abi: next.abi,
         integer: next.integer,
         float: next.float,
@@ -282,18 +280,6 @@ fn in_numbers(answer: classify::Answer) -> Answer
         floats_passed: spent.floats_passed,
         floats_given: spent.floats_given,
         slots: outcome.slots,
-    }
-}
-
-fn way_number(way: Way) -> u64
-    ensures { λ r. ⌜ r ≡ wayNumber way ⌝ }
-{
-    match way {
-        Way::Ignore => 0,
-        Way::Direct => 1,
-        Way::Pieces => 2,
-        Way::Reference => 3,
-        Way::Memory => 4,
     }
 }
 

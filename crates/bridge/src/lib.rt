@@ -4,9 +4,7 @@ use classify::Arg;
 use classify::Call;
 use shape::Scalar;
 use shape::Shape;
-use spend::Way;
 ghost use mathlib.Core.Path.{_≡_};
-ghost use Rattle.spend.specs.Ways.{wayNumber};
 ghost use Rattle.classify.specs.Answers.{variadicAnswer, returnsAnswer, returnsWritten, argumentAnswer, argumentWritten, dotsAnswer, dotsWritten};
 ghost use Rattle.bridge.specs.Lent.{argOf, outcomeIn, lent};
 
@@ -172,24 +170,12 @@ fn told(answer: classify::Answer) -> Answered
         next,
         outcome: Outcome {
             refusal: outcome.refusal,
-            way: way_number(way),
+            way: spend::way_number(way),
             integers_passed: spent.integers_passed,
             integers_given: spent.integers_given,
             floats_passed: spent.floats_passed,
             floats_given: spent.floats_given,
             slots: outcome.slots,
         },
-    }
-}
-
-fn way_number(way: Way) -> u64
-    ensures { λ r. ⌜ r ≡ wayNumber way ⌝ }
-{
-    match way {
-        Way::Ignore => 0,
-        Way::Direct => 1,
-        Way::Pieces => 2,
-        Way::Reference => 3,
-        Way::Memory => 4,
     }
 }

@@ -1,5 +1,5 @@
 -- The laws of the operations: what decides a value, and from there to the answer and the buffer that are promised. Assumes nothing.
-use Prim.Native.Nat.{ℕ, zero, suc, _+_, _*_, _/_, _≤_, _<_}
+use Prim.Native.Nat.{ℕ, zero, suc, _/_, _<_}
 use mathlib.Core.Path.{_≡_, refl, ap, sym, _∙_}
 use mathlib.Core.List.{List}
 use mathlib.Core.Bool.{Bool, true, false, _&&_, _||_, not, cond}
@@ -10,11 +10,9 @@ use lib.ListN.{length}
 use Rattle.shape.specs.declared.Scalar.{Scalar}
 use Rattle.shape.specs.declared.Shape.{Shape}
 use Rattle.shape.specs.declared.Piece.{Piece}
-use Rattle.shape.specs.Numbers.{accepted, bad-call}
+use Rattle.shape.specs.Numbers.{accepted}
 use Rattle.shape.specs.Words.{piecesOf}
-use Rattle.shape.specs.Check.{refuse}
 use Rattle.shape.proofs.Accepted.{refuse-none, else-none}
-use Rattle.slots.specs.declared.Slot.{Slot}
 use Rattle.slots.specs.Words.{slotSize, written}
 use Rattle.slots.proofs.Words.{written-short}
 use Rattle.describe.specs.declared.Banks.{Banks}
@@ -28,16 +26,15 @@ use Rattle.spend.specs.declared.Left.{Left}
 use Rattle.spend.specs.declared.Way as ways
 use Rattle.spend.specs.declared.Spent.{Spent}
 use Rattle.spend.specs.declared.Decision.{Decision}
-use Rattle.spend.specs.Ways as made
 use Rattle.spend.specs.Spending.{scalarArgument, scalarReturn}
 use Rattle.classify.specs.declared.Arg as args
 use Rattle.classify.specs.declared.Call.{Call}
 use Rattle.classify.specs.declared.Answer.{Answer}
 use Rattle.classify.specs.declared.Decided.{Decided}
 use Rattle.classify.specs.Pass as pass
-use Rattle.classify.specs.Classify.{Passed, leaves, isIntegersOnly, returns, argument, variadicArgument}
+use Rattle.classify.specs.Classify.{Passed, leaves}
 use Rattle.classify.specs.Spending as rules
-use Rattle.classify.specs.Answers.{descriptions, leftOf, callOf, isBadCall, callRefusal, refusalOf, answered, refused, orAnswer, inRoom, answerTo, unlessRefused, writtenTo, returnsAnswer, returnsWritten, argumentAnswer, argumentWritten, dotsAnswer, dotsWritten}
+use Rattle.classify.specs.Answers.{descriptions, leftOf, isBadCall, callRefusal, refusalOf, refused, orAnswer, inRoom, answerTo, unlessRefused, writtenTo, returnsAnswer, returnsWritten, argumentAnswer, argumentWritten, dotsAnswer, dotsWritten}
 use Rattle.classify.specs.Parts as parts
 use Rattle.classify.proofs.Steps.{or-refused}
 use Rattle.classify.proofs.Agree.{Agrees, slotsFor, argument-agrees, returns-agrees, dots-agrees}

@@ -1,9 +1,9 @@
 -- The laws of the parts of an operation: each way out of the code is one line of a definition. A law's premises are the tests and the callees'
 -- promises as the code has them. Assumes nothing.
 use Prim.Native.Nat.{ℕ, zero, suc, _-_, _/_, _≤_, _<_}
-use mathlib.Core.Path.{_≡_, refl, ap, sym, _∙_}
-use mathlib.Core.List.{List, [], _∷_}
-use mathlib.Core.Bool.{Bool, true, false, _&&_, _||_, not, cond}
+use mathlib.Core.Path.{_≡_, refl, sym}
+use mathlib.Core.List.{List, []}
+use mathlib.Core.Bool.{Bool, true, false, _&&_, _||_, not}
 use native.Mathlib.Omega.{arith}
 use borrow.Author.Tests.{lt-ltb, le-ltb, le-leb, lt-leb}
 use lib.Dec.{ltb, eqb, leb}
@@ -12,7 +12,6 @@ use Rattle.shape.specs.declared.Scalar.{Scalar}
 use Rattle.shape.specs.declared.Shape.{Shape}
 use Rattle.shape.specs.declared.Piece.{Piece}
 use Rattle.shape.specs.Numbers.{accepted, bad-abi, bad-call, no-room}
-use Rattle.shape.specs.Words.{piecesOf}
 use Rattle.shape.specs.Check.{scalarRefusal, shapeRefusal}
 use Rattle.shape.proofs.Check.{else-first}
 use Rattle.slots.specs.declared.Found.{Found}
@@ -40,8 +39,8 @@ use Rattle.classify.specs.declared.Answer.{Answer}
 use Rattle.classify.specs.declared.Decided.{Decided}
 use Rattle.classify.specs.declared.Searched.{Searched}
 use Rattle.classify.specs.Pass.{matches}
-use Rattle.classify.specs.Classify.{leaves, call, variadic, isIntegersOnly}
-use Rattle.classify.specs.Answers.{descriptions, callOf, leftOf, isBadCall, callRefusal, argRefusal, refusalOf, refused, done, orAnswer, freshAnswer, variadicAnswer}
+use Rattle.classify.specs.Classify.{leaves, variadic, isIntegersOnly}
+use Rattle.classify.specs.Answers.{descriptions, callOf, callRefusal, argRefusal, refusalOf, refused, done, orAnswer, freshAnswer, variadicAnswer}
 use Rattle.classify.specs.Parts as parts
 
 -- ---- check

@@ -2,7 +2,7 @@
 -- and the counts left as the Rust has them (Classify.antt), and what is passed over and given by the rules (Spending.antt).
 use Prim.Native.Nat.{ℕ, zero, suc, _/_}
 use mathlib.Core.List.{List}
-use mathlib.Core.Bool.{Bool, true, false, _&&_, _||_, not, cond}
+use mathlib.Core.Bool.{Bool, false, _&&_, _||_, not, cond}
 use lib.Dec.{leb, ltb}
 use lib.ListN.{length}
 use Rattle.shape.specs.declared.Shape.{Shape}
@@ -18,12 +18,11 @@ use Rattle.spend.specs.declared.Spent.{Spent}
 use Rattle.spend.specs.Ways as made
 use Rattle.classify.specs.declared.Arg as args
 use Rattle.classify.specs.declared.Call.{Call}
-use Rattle.classify.specs.declared.Outcome.{Outcome}
 use Rattle.classify.specs.declared.Answer.{Answer}
 use Rattle.classify.specs.declared.InMemory.{InMemory}
 use Rattle.classify.specs.Pass.{wayOf, slotsOf}
 use Rattle.classify.specs.Classify.{Passed, leaves, call, variadic, isIntegersOnly, returns, argument, variadicArgument, inMemory}
-use Rattle.classify.specs.Spending.{Chosen, returnChoice, argumentChoice, dotsChoice}
+use Rattle.classify.specs.Spending.{returnChoice, argumentChoice, dotsChoice}
 
 abbrev pub descriptions : ℕ
 descriptions = description-count

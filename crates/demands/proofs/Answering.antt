@@ -1,6 +1,6 @@
 -- An accepted operation with room for its slots is answered as the Rust answers. Assumes nothing.
 use Prim.Native.Nat.{ℕ, _/_, _≤_}
-use mathlib.Core.Path.{_≡_, refl}
+use mathlib.Core.Path.{_≡_}
 use mathlib.Core.List.{List}
 use borrow.Author.Tests.{le-ltb}
 use lib.ListN.{length}
@@ -10,7 +10,6 @@ use Rattle.slots.specs.Words.{slotSize}
 use Rattle.abis.specs.Abis.{described}
 use Rattle.classify.specs.declared.Arg.{Arg}
 use Rattle.classify.specs.declared.Call.{Call}
-use Rattle.classify.specs.declared.Answer.{Answer}
 use Rattle.classify.specs.Pass.{slotsOf, wayOf}
 use Rattle.classify.specs.Classify.{Passed, returns, argument, variadicArgument}
 use Rattle.classify.specs.Spending.{Chosen, returnChoice, argumentChoice, dotsChoice}

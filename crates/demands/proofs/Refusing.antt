@@ -20,7 +20,6 @@ use Rattle.slots.proofs.Words.{written-short}
 use Rattle.spend.specs.declared.Spent.{Spent}
 use Rattle.classify.specs.declared.Arg as args
 use Rattle.classify.specs.declared.Call.{Call}
-use Rattle.classify.specs.declared.Answer.{Answer}
 use Rattle.classify.specs.Pass.{wayOf, slotsOf}
 use Rattle.classify.specs.Classify.{Passed}
 use Rattle.classify.specs.Answers.{descriptions, isBadCall, answered, refused, done, callRefusal, argRefusal, refusalOf, orAnswer, inRoom, answerTo, unlessRefused, writtenTo, variadicAnswer, returnsAnswer, returnsWritten, argumentAnswer, argumentWritten, dotsAnswer, dotsWritten}

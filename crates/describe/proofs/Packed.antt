@@ -1,21 +1,20 @@
 -- A list of rules as two numbers gives its first rule back, and the rules behind it; a row has the lists that were encoded in it. Assumes
 -- nothing.
-use mathlib.Core.Path.{_≡_, refl, ap}
-use mathlib.Core.Bool.{Bool, true, false, _&&_}
+use mathlib.Core.Path.{_≡_, refl}
+use mathlib.Core.Bool.{_&&_}
 use mathlib.Core.List.{List, [], _∷_, map}
-use Prim.Native.Nat.{ℕ, suc, _+_, _-_, _*_, _/_, _%_, _<_, _≤_}
+use Prim.Native.Nat.{ℕ, suc, _+_, _-_, _*_, _/_, _%_, _<_}
 use native.Mathlib.Omega.{arith}
 use lib.Dec.{T, ltb, leb, ltb→lt, leb→le, lit<}
 use lib.ListN.{length, getD}
 use Rattle.describe.specs.declared.Rule.{Rule}
-use Rattle.describe.specs.declared.Rules.{Rules}
 use Rattle.describe.specs.declared.Short.{Short}
 use Rattle.describe.specs.declared.Short.the-variants.{Unchanged, Memory, MemoryAndDrain, TryNextRule}
 use Rattle.describe.specs.declared.Test.{Test}
 use Rattle.describe.specs.declared.Test.the-variants.{Anything, Empty, SizeOneOf, SizeAtMost, Homogeneous, FloatPair, X87Stack, LoneFloat, FloatingMode, ComplexFloat, Eightbytes}
-use Rattle.describe.specs.Description.{Description, Decides, Ends, past}
-use Rattle.describe.specs.Codes.{testCode, testNumber, travelCode, shortCode, sizeCode}
-use Rattle.describe.specs.Row.{encode, heldTest, heldTests, heldRules, wayByte, ruleFrom, packed, packedTests, packedWays, listOf, pairOf, testsOf, waysOf, firstRule, laterRules}
+use Rattle.describe.specs.Description.{Description, Decides, Ends}
+use Rattle.describe.specs.Codes.{testCode, testNumber, shortCode}
+use Rattle.describe.specs.Row.{encode, heldTest, heldTests, heldRules, wayByte, packed, packedTests, packedWays, listOf, pairOf, testsOf, waysOf, firstRule, laterRules}
 use Rattle.describe.specs.Questions.{registerSize}
 use Rattle.describe.proofs.Numbers.{and-left, and-right, travel-fits, size-back}
 use Rattle.describe.proofs.Inverse.{rule-back}

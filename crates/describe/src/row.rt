@@ -1,7 +1,7 @@
 // A description as a row of bytes, read back.
 ghost use mathlib.Core.Path.{_≡_};
 ghost use Prim.Native.Nat.{_≤_, _<_};
-ghost use Rattle.describe.specs.Row.{returnRule, argumentRule, ruleOf, ruleFrom, listOf, pairOf, testsOf, waysOf, firstRule, laterRules, banksOf, scalarsOf, othersOf, returnPointerOf, variadicOf};
+ghost use Rattle.describe.specs.Row.{returnRule, argumentRule, ruleOf, listOf, pairOf, testsOf, waysOf, firstRule, laterRules, banksOf, scalarsOf, othersOf, returnPointerOf, variadicOf};
 ghost use Rattle.describe.specs.Codes.{testFrom, sizeFrom, travelFrom, shortFrom, returnPointerFrom, variadicFrom, stackArgsFrom, narrowFrom, bitIntsFrom, cleanupFrom};
 use crate::codes::*;
 use crate::*;

@@ -1,9 +1,9 @@
 -- At most two eightbytes: their classes and counts where no class is SseUp or above, and the writing of their slots without a loop.
 -- Assumes nothing.
-use Prim.Native.Nat.{ℕ, zero, suc, _+_, _-_, _*_, _/_, _≤_, _<_, min}
+use Prim.Native.Nat.{ℕ, zero, suc, _+_, _-_, _*_, _/_, _≤_, _<_}
 use mathlib.Core.Path.{_≡_, refl, sym, ap, _∙_}
 use mathlib.Core.Bool.{Bool, true, false, not, _||_}
-use mathlib.Core.List.{List, [], _∷_, _++_, map, append-nil}
+use mathlib.Core.List.{List, [], _∷_, map, append-nil}
 use mathlib.Core.Option.Option.{some}
 use native.Mathlib.Omega.{arith}
 use native.Mathlib.Nat.{sub-zero, zero-add}
@@ -14,12 +14,12 @@ use Rattle.slots.specs.declared.Found.the-variants.{Slots}
 use Rattle.slots.specs.Search.{oneIf, foundOf}
 use Rattle.slots.specs.Words.{slotSize, wordsOf, putAt, written}
 use Rattle.slots.proofs.Words.{put-none}
-use Rattle.eightbytes.specs.Class.{Class, None, Sse, SseUp, X87, Memory, code, classOf, same}
+use Rattle.eightbytes.specs.Class.{Class, None, SseUp, X87, Memory, code, classOf, same}
 use Rattle.eightbytes.specs.Eightbytes.{eightbytesIn, spoiled, mended, mend, settled, slotOf, slotsFound, codes, slotsOf, slotsIn, Coded}
-use Rattle.eightbytes.proofs.Class.{sse-code, up-code}
+use Rattle.eightbytes.proofs.Class.{sse-code}
 use Rattle.eightbytes.proofs.Codes.{map-take, codes-classes}
 use Rattle.eightbytes.proofs.Counts.{ssesIn, slots-length, slots-floats}
-use Rattle.eightbytes.proofs.Rest.{rest, rest-end}
+use Rattle.eightbytes.proofs.Rest.{rest-end}
 use Rattle.eightbytes.proofs.Put.{left, left-step, left-end, up-some, put-short, put-start, room-start, room-turn, put-turn}
 use Rattle.eightbytes.proofs.Found.{few-slots}
 

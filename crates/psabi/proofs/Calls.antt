@@ -11,7 +11,7 @@ use Rattle.spend.specs.declared.Left.{Left}
 use Rattle.classify.specs.declared.Arg.the-variants.{Aggregate}
 use Rattle.classify.specs.Pass.{Pass, ignore, direct, pieces, reference, memory}
 use Rattle.classify.specs.Classify.{Passed, leaves, argument, returns}
-use Rattle.psabi.specs.Psabi.{Free, free, Travels, psabiArgument, psabiResult}
+use Rattle.psabi.specs.Psabi.{Free, free, Travels}
 use Rattle.psabi.specs.Domain.{Domain}
 use Rattle.psabi.specs.Reading.{lastOf, standing, results, readPass, readIn}
 use Rattle.psabi.specs.Calls.{Value, All, ended, also, afterwards, psabiArguments, psabiCall, rowArguments, rowCall}

@@ -1,7 +1,6 @@
 // An operation, performed on the open call.
 ghost use mathlib.Core.Path.{_≡_};
 ghost use lib.Dec.{eqb};
-ghost use lib.ListN.{take};
 ghost use Rattle.sheet.specs.Performing as spec;
 use crate::State;
 use crate::reading::Operation;

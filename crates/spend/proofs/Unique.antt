@@ -2,10 +2,14 @@
 use mathlib.Core.Path.{sym, _∙_}
 use contract.Lifetimes.{Lfts}
 use Rattle.shape.proofs.OneAnswer.{OneAnswer}
+use Rattle.spend.proofs.way_number.Reads as way-number
 use Rattle.spend.proofs.scalar_argument.Reads as scalar-argument
 use Rattle.spend.proofs.scalar_return.Reads as scalar-return
 use Rattle.spend.proofs.travel.Reads as travel
 use Rattle.spend.proofs.registers.Reads as registers
+
+way-number-decides : (κs : Lfts 0) → OneAnswer (way-number.Post κs)
+way-number-decides κs a r q s t p p′ = p ∙ sym p′
 
 scalar-argument-decides : (κs : Lfts 0) → OneAnswer (scalar-argument.Post κs)
 scalar-argument-decides κs a r q s t p p′ = p ∙ sym p′

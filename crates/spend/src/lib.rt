@@ -9,7 +9,7 @@ use describe::Travel;
 use shape::Scalar;
 ghost use mathlib.Core.Path.{_≡_};
 ghost use Prim.Native.Nat.{_-_};
-ghost use Rattle.spend.specs.Ways.{spends, plain, piecesOf, cutSlots, oneSlot};
+ghost use Rattle.spend.specs.Ways.{wayNumber, spends, plain, piecesOf, cutSlots, oneSlot};
 ghost use Rattle.spend.specs.Spending.{wantOf, scalarArgument, inRegisters, integerArgument, skipOf, scalarReturn, byPointer, travelOf, byReference, inMemoryAndSpend, inSlots, integerCost, floatCost, drainOf};
 
 // What a call has left: registers in each bank, and whether floats go in integer registers alone.
@@ -65,6 +65,19 @@ pub struct Slots {
     pub count: u64,
     pub floats: u64,
     pub source: Source,
+}
+
+// A way's number, as answers in numbers have it (REFERENCE 9).
+pub fn way_number(way: Way) -> u64
+    ensures { λ r. ⌜ r ≡ wayNumber way ⌝ }
+{
+    match way {
+        Way::Ignore => 0,
+        Way::Direct => 1,
+        Way::Pieces => 2,
+        Way::Reference => 3,
+        Way::Memory => 4,
+    }
 }
 
 // A scalar argument: the first of the ten lines of REFERENCE 9.2 that applies.

@@ -1,6 +1,5 @@
 -- `has_room` answers whether the slots fit: n of them do, or as many as there are. Assumes nothing.
 use borrow.Author.Needs.{needs}
-use native.Mathlib.Omega.{arith}
 use Rattle.eightbytes.proofs.Pair.{room-all, room-counted}
 use Rattle.eightbytes.proofs.has_room.Statement.{statement}
 use Rattle.eightbytes.proofs.has_room.Tie as tie
