@@ -1,58 +1,51 @@
 -- The laws of the operations: what decides a value, and from there to the answer and the buffer that are promised. Assumes nothing.
-use Prim.Native.Nat.{ℕ, zero, suc, _/_, _<_}
+use Prim.Native.Nat.{ℕ, zero, suc, _-_, _/_, _<_}
 use mathlib.Core.Path.{_≡_, refl, ap, sym, _∙_}
-use mathlib.Core.List.{List}
+use mathlib.Core.List.{List, []}
 use mathlib.Core.Bool.{Bool, true, false, _&&_, _||_, not, cond}
 use native.Mathlib.Omega.{arith}
-use borrow.Author.Tests.{leb-false, ltb-true}
-use lib.Dec.{leb, ltb}
+use borrow.Author.Tests.{leb-false, ltb-true, le-ltb}
+use lib.Dec.{eqb, leb, ltb}
 use lib.ListN.{length}
 use Rattle.shape.specs.declared.Scalar.{Scalar}
 use Rattle.shape.specs.declared.Shape.{Shape}
 use Rattle.shape.specs.declared.Piece.{Piece}
-use Rattle.shape.specs.Numbers.{accepted}
+use Rattle.shape.specs.Numbers.{accepted, integer}
+use Rattle.shape.specs.Questions.{isFloat}
 use Rattle.shape.specs.Words.{piecesOf}
+use Rattle.shape.specs.Check.{orElse}
 use Rattle.shape.proofs.Accepted.{refuse-none, else-none}
-use Rattle.slots.specs.Words.{slotSize, written}
-use Rattle.slots.proofs.Words.{written-short}
+use Rattle.slots.specs.Words.{slotSize, wordsOf, written}
+use Rattle.slots.proofs.Words.{put-none, written-short}
 use Rattle.describe.specs.declared.Banks.{Banks}
 use Rattle.describe.specs.declared.Scalars.{Scalars}
 use Rattle.describe.specs.declared.ReturnPointer.{ReturnPointer}
+use Rattle.describe.specs.declared.ReturnPointer.the-variants.{FirstArgument, FirstArgumentPopped, Dedicated}
 use Rattle.describe.specs.declared.Variadic.{Variadic}
 use Rattle.describe.specs.declared.Variadic.the-variants.{SameAsFixed, AlwaysMemory, BothBanks, IntegersOnly, UnnamedIntegers}
 use Rattle.describe.specs.Description.{Description}
+use Rattle.describe.specs.Questions.{isByReference, returnsByReference}
 use Rattle.abis.specs.Abis.{described}
 use Rattle.spend.specs.declared.Left.{Left}
 use Rattle.spend.specs.declared.Way as ways
 use Rattle.spend.specs.declared.Spent.{Spent}
 use Rattle.spend.specs.declared.Decision.{Decision}
-use Rattle.spend.specs.Spending.{scalarArgument, scalarReturn}
+use Rattle.spend.specs.Ways as made
+use Rattle.spend.specs.Spending.{wantOf, skipOf, integerArgument, inRegisters, scalarArgument, byPointer, scalarReturn}
 use Rattle.classify.specs.declared.Arg as args
 use Rattle.classify.specs.declared.Call.{Call}
 use Rattle.classify.specs.declared.Answer.{Answer}
 use Rattle.classify.specs.declared.Decided.{Decided}
 use Rattle.classify.specs.Pass as pass
+use Rattle.classify.specs.Classify as rust
 use Rattle.classify.specs.Classify.{Passed, leaves}
 use Rattle.classify.specs.Spending as rules
-use Rattle.classify.specs.Answers.{descriptions, leftOf, isBadCall, callRefusal, refusalOf, refused, orAnswer, inRoom, answerTo, unlessRefused, writtenTo, returnsAnswer, returnsWritten, argumentAnswer, argumentWritten, dotsAnswer, dotsWritten}
+use Rattle.classify.specs.Answers.{descriptions, leftOf, isBadCall, callRefusal, argRefusal, refusalOf, refused, done, orAnswer, inRoom, answerTo, unlessRefused, writtenTo, voidAnswer, returnsAnswer, returnsWritten, argumentAnswer, argumentWritten, dotsAnswer, dotsWritten}
 use Rattle.classify.specs.Parts as parts
 use Rattle.classify.proofs.Steps.{or-refused}
 use Rattle.classify.proofs.Agree.{Agrees, slotsFor, argument-agrees, returns-agrees, dots-agrees}
 
 -- ---- what decides a value
-
-module _ (D : Description) (returning : Bool) (variadic : Variadic) (left : Left) (arg : args.Arg) (ps : List Piece) (r : Decided) where
-  pub by-void : arg ≡ args.the-variants.Void → (d : Decision) → d ≡ rules.ignored .decision → r ≡ parts.decided d parts.noClasses
-      → r ≡ parts.decideBy D returning variadic left arg ps
-  by-void e d ed er = rw (er, ed, e)
-
-  pub by-scalar : (s : Scalar) → arg ≡ args.the-variants.Scalar s → (d : Decision) → d ≡ parts.scalarBy D returning variadic left s
-      → r ≡ parts.decided d parts.noClasses → r ≡ parts.decideBy D returning variadic left arg ps
-  by-scalar s e d ed er = rw (er, ed, e)
-
-  pub by-aggregate : (shape : Shape) → arg ≡ args.the-variants.Aggregate shape → r ≡ parts.aggregateBy D returning variadic left shape ps
-      → r ≡ parts.decideBy D returning variadic left arg ps
-  by-aggregate shape e er = rw (er, e)
 
 module _ (abi : ℕ) (returning : Bool) (variadic : Variadic) (left : Left) (s : Scalar) (r : Decision) where
   pub scalar-back : returning ≡ true → (S : Scalars) → S ≡ described abi .scalars → (p : ReturnPointer) → p ≡ described abi .«return_pointer»
@@ -202,6 +195,82 @@ module _ (c : Call) (arg : args.Arg) (ws out : List ℕ) (n : ℕ) (en : n ≡ r
     unfolding parts.performedIn
     perform-written = rw (e .1, ed, el, ← en, z)
 
+-- the slots of a scalar stand in no pieces and no classes
+module _ (cs : List ℕ) (ps : List Piece) where
+  record Alone (d : Decision) : Type 0 where
+    same : parts.slotsInScalar (d .slots) ≡ parts.slotsIn (d .slots) cs ps
+
+  either : (b : Bool) (x y : Decision) → Alone x → Alone y → Alone (cond b x y)
+  either true x y p q = p
+  either false x y p q = q
+
+  -- no slots, a size cut, or one slot
+  empty : (w : ways.Way) (spent : Spent) → Alone (made.plain w spent)
+  unfolding parts.slotsIn parts.slotsInScalar
+  empty w spent = record { same = refl }
+
+  integer-alone : (start : ℕ) (S : Scalars) (I want : ℕ) → Alone (integerArgument start S I want)
+  unfolding integerArgument
+  integer-alone start S I want =
+      either (S .«wide_integer_is_all_or_nothing») _ _ (either (leb want I) _ _ (empty _ _) (empty _ _))
+      (either (ltb 1 want && (S .«wide_integer_starts_even» || S .«wide_integer_drains»)) _ _
+      (either (leb want (I - skipOf (S .«wide_integer_starts_even») (start - I) I)) _ _ (empty _ _) (either (S .«wide_integer_drains») _ _ (empty _ _) (empty _ _)))
+      (empty _ _))
+
+  registers-alone : (B : Banks) (S : Scalars) (left : Left) (s : Scalar) (want : ℕ) → Alone (inRegisters B S left s want)
+  unfolding inRegisters
+  registers-alone B S left s want =
+      either (B .shared) _ _ (empty _ _)
+      (either (isFloat (s .kind) && leb (s .size) (B .«float_width»)) _ _ (empty _ _)
+      (either (isFloat (s .kind)) _ _ (empty _ _) (integer-alone (B .integer) S (left .integer) want)))
+
+  argument-alone : (B : Banks) (S : Scalars) (left : Left) (s : Scalar) → Alone (scalarArgument B S left s)
+  unfolding scalarArgument parts.slotsIn parts.slotsInScalar
+  argument-alone B S left s =
+      let want : ℕ = wantOf (s .size) (B .«integer_width») in
+      either (isByReference S (s .size)) _ _ (empty _ _)
+      (either (isFloat (s .kind) && eqb (s .kind) (S .«in_memory»)) _ _ (empty _ _)
+      (either ((S .«wide_integer_in_memory» && eqb (s .kind) integer) && ltb 1 want) _ _ (empty _ _)
+      (either (left .«integers_only» && isFloat (s .kind)) _ _ (record { same = refl }) (registers-alone B S left s want))))
+
+  pointer-alone : (p : ReturnPointer) (I : ℕ) → Alone (byPointer p I)
+  pointer-alone FirstArgument I = empty _ _
+  pointer-alone FirstArgumentPopped I = empty _ _
+  pointer-alone Dedicated I = empty _ _
+
+  return-alone : (S : Scalars) (p : ReturnPointer) (left : Left) (s : Scalar) → Alone (scalarReturn S p left s)
+  unfolding scalarReturn parts.slotsIn parts.slotsInScalar
+  return-alone S p left s =
+      either (not (returnsByReference S (s .size))) _ _ (empty _ _)
+      (either (eqb (s .kind) integer && not (eqb (S .«wide_integer_returns_in») integer)) _ _ (record { same = refl }) (pointer-alone p (left .integer)))
+
+  scalar-alone : (D : Description) (returning : Bool) (variadic : Variadic) (left : Left) (s : Scalar) → Alone (parts.scalarBy D returning variadic left s)
+  unfolding parts.scalarBy
+  scalar-alone D returning variadic left s =
+      either returning _ _ (return-alone (D .scalars) (D .«return_pointer») left s)
+      (either (parts.isAlwaysMemory variadic) _ _ (empty _ _) (argument-alone (D .banks) (D .scalars) (parts.leftFor variadic left) s))
+
+  finished-alone : (d : Decision) (out : List ℕ) → Alone d → parts.finishedScalarIn d out ≡ parts.finishedIn (parts.decided d cs) ps out
+  unfolding parts.finishedScalarIn parts.finishedIn
+  finished-alone d out e = rw (e .same)
+
+-- a scalar's operation, from what the code knows
+module _ (c : Call) (s : Scalar) (out : List ℕ) (n : ℕ) (en : n ≡ refusalOf c (parts.scalarArg s) []) (z : n ≡ accepted)
+    (returning : Bool) (variadic : Variadic) (left : Left) (el : left ≡ leftOf c) (d : Decision)
+    (ed : d ≡ parts.scalarBy (described (c .abi)) returning variadic left s) (r : Answer) (out′ : List ℕ)
+    (e : (r ≡ parts.finished c d out) × (out′ ≡ parts.finishedScalarIn d out)) where
+  in-parts : (r ≡ parts.finished c d out) × (out′ ≡ parts.finishedIn (parts.decided d parts.noClasses) [] out)
+  in-parts =
+      (e .0, e .1 ∙ finished-alone parts.noClasses [] d out (rw ed (scalar-alone parts.noClasses [] (described (c .abi)) returning variadic left s)))
+
+  pub scalar-done : r ≡ parts.performed c (parts.decideBy (described (c .abi)) returning variadic (leftOf c) (parts.scalarArg s) []) (parts.scalarArg s) [] out
+  unfolding piecesOf
+  scalar-done = perform-done c (parts.scalarArg s) [] out n en z returning variadic left el (parts.decided d parts.noClasses) (rw ed) r out′ in-parts
+
+  pub scalar-written : out′ ≡ parts.performedIn c (parts.decideBy (described (c .abi)) returning variadic (leftOf c) (parts.scalarArg s) []) (parts.scalarArg s) [] out
+  unfolding piecesOf
+  scalar-written = perform-written c (parts.scalarArg s) [] out n en z returning variadic left el (parts.decided d parts.noClasses) (rw ed) r out′ in-parts
+
 -- and what it comes to, by the rules
 module _ (c : Call) (arg : args.Arg) (ws out : List ℕ) (p : Passed) (k : rules.Chosen)
     (agrees : refusalOf c arg ws ≡ accepted → Agrees (leftOf c) p (k .decision) (slotsFor k arg (piecesOf ws))) where
@@ -270,3 +339,107 @@ module _ (c : Call) (arg : args.Arg) (ws out : List ℕ) where
       dots-written =
           e .1 ∙ (ap (λ (d : Decided). parts.performedIn c d arg ws out) dots-chosen
           ∙ performed-buffer c arg ws out _ _ (λ (z : refusalOf c arg ws ≡ accepted). dots-agrees D (leftOf c) arg (piecesOf ws) (unmarked c arg ws _ refl z)))
+
+-- ---- the operations, by what is asked about
+
+or-accepted : (n : ℕ) → orElse n accepted ≡ n
+or-accepted zero = refl
+or-accepted (suc n) = refl
+
+-- void: the call alone is checked, and nothing is spent or written
+module _ (c : Call) (ws out : List ℕ) (returning : Bool) (variadic : Variadic) where
+  void-finished : parts.finished c (rules.ignored .decision) out ≡ done c
+  unfolding parts.finished
+  void-finished =
+      let i : c .integer - 0 - 0 ≡ c .integer = omega arith in
+      let f : c .float - 0 - 0 ≡ c .float = omega arith in
+      rw (le-ltb (length out / slotSize) 0 (omega arith), i, f)
+
+  void-performed : voidAnswer c ≡ parts.performed c (parts.decideBy (described (c .abi)) returning variadic (leftOf c) args.the-variants.Void (piecesOf ws)) args.the-variants.Void ws out
+  unfolding voidAnswer parts.performed refusalOf argRefusal
+  void-performed = rw (or-accepted, void-finished)
+
+  none-written : (o : List ℕ) → written [] o ≡ o
+  unfolding written wordsOf
+  none-written o = put-none o 0 (omega arith)
+
+  void-kept : out ≡ parts.performedIn c (parts.decideBy (described (c .abi)) returning variadic (leftOf c) args.the-variants.Void (piecesOf ws)) args.the-variants.Void ws out
+  unfolding parts.performedIn parts.finishedIn parts.slotsIn refusalOf argRefusal
+  void-kept = rw or-accepted (same (callRefusal c))
+    where
+      same : (n : ℕ) → out ≡ unlessRefused n (cond (ltb (length out / slotSize) 0) out (written [] out)) out
+      same zero = rw (le-ltb (length out / slotSize) 0 (omega arith)) (sym (none-written out))
+      same (suc n) = refl
+
+  abbrev Void-is : (r : Answer) → Type 0
+  Void-is r = (r ≡ parts.performed c (parts.decideBy (described (c .abi)) returning variadic (leftOf c) args.the-variants.Void (piecesOf ws)) args.the-variants.Void ws out) × (out ≡ parts.performedIn c (parts.decideBy (described (c .abi)) returning variadic (leftOf c) args.the-variants.Void (piecesOf ws)) args.the-variants.Void ws out)
+
+  void-is : (r : Answer) → r ≡ voidAnswer c → Void-is r
+  void-is r er = (er ∙ void-performed, void-kept)
+
+-- a scalar has no pieces
+wordless-passed : (v : Variadic) (D : Description) (left : Left) (s : Scalar) (ps qs : List Piece)
+    → rust.variadicBy v D left (args.the-variants.Scalar s) ps ≡ rust.variadicBy v D left (args.the-variants.Scalar s) qs
+unfolding rust.argument
+wordless-passed SameAsFixed D left s ps qs = refl
+wordless-passed AlwaysMemory D left s ps qs = refl
+wordless-passed BothBanks D left s ps qs = refl
+wordless-passed IntegersOnly D left s ps qs = refl
+wordless-passed UnnamedIntegers D left s ps qs = refl
+
+wordless-choice : (v : Variadic) (D : Description) (left : Left) (s : Scalar) (ps qs : List Piece)
+    → rules.dotsBy v D left (args.the-variants.Scalar s) ps ≡ rules.dotsBy v D left (args.the-variants.Scalar s) qs
+unfolding rules.argumentChoice
+wordless-choice SameAsFixed D left s ps qs = refl
+wordless-choice AlwaysMemory D left s ps qs = refl
+wordless-choice BothBanks D left s ps qs = refl
+wordless-choice IntegersOnly D left s ps qs = refl
+wordless-choice UnnamedIntegers D left s ps qs = refl
+
+module _ (c : Call) (arg : args.Arg) (ws out : List ℕ) (r : Answer) where
+  module _ (e : arg ≡ args.the-variants.Void) (er : r ≡ voidAnswer c) where
+    pub returns-void : (r ≡ returnsAnswer c arg ws out) × (out ≡ returnsWritten c arg ws out)
+    returns-void =
+        let k = void-is c ws out true SameAsFixed r er in
+        rw e (returns-answered c args.the-variants.Void ws out r out k, returns-written c args.the-variants.Void ws out r out k)
+
+    pub argument-void : (r ≡ argumentAnswer c arg ws out) × (out ≡ argumentWritten c arg ws out)
+    argument-void =
+        let k = void-is c ws out false SameAsFixed r er in
+        rw e (argument-answered c args.the-variants.Void ws out r out k, argument-written c args.the-variants.Void ws out r out k)
+
+    pub dots-void : (r ≡ dotsAnswer c arg ws out) × (out ≡ dotsWritten c arg ws out)
+    dots-void =
+        let k = void-is c ws out false (described (c .abi) .variadic) r er in
+        rw e (dots-answered c args.the-variants.Void ws out r out _ refl k, dots-written c args.the-variants.Void ws out r out _ refl k)
+
+  module _ (s : Scalar) (e : arg ≡ args.the-variants.Scalar s) (out′ : List ℕ) where
+    pub returns-scalar : (r ≡ returnsAnswer c (parts.scalarArg s) [] out) × (out′ ≡ returnsWritten c (parts.scalarArg s) [] out)
+        → (r ≡ returnsAnswer c arg ws out) × (out′ ≡ returnsWritten c arg ws out)
+    unfolding returnsAnswer returnsWritten answerTo writtenTo refusalOf argRefusal rust.returns rules.returnChoice
+    returns-scalar k = rw e k
+
+    pub argument-scalar : (r ≡ argumentAnswer c (parts.scalarArg s) [] out) × (out′ ≡ argumentWritten c (parts.scalarArg s) [] out)
+        → (r ≡ argumentAnswer c arg ws out) × (out′ ≡ argumentWritten c arg ws out)
+    unfolding argumentAnswer argumentWritten answerTo writtenTo refusalOf argRefusal rust.argument rules.argumentChoice
+    argument-scalar k = rw e k
+
+    pub dots-scalar : (r ≡ dotsAnswer c (parts.scalarArg s) [] out) × (out′ ≡ dotsWritten c (parts.scalarArg s) [] out)
+        → (r ≡ dotsAnswer c arg ws out) × (out′ ≡ dotsWritten c arg ws out)
+    unfolding dotsAnswer dotsWritten answerTo writtenTo refusalOf argRefusal rust.variadicArgument rules.dotsChoice
+    dots-scalar k =
+        rw (e, wordless-passed (described (c .abi) .variadic) (described (c .abi)) (leftOf c) s (piecesOf ws) (piecesOf []),
+        wordless-choice (described (c .abi) .variadic) (described (c .abi)) (leftOf c) s (piecesOf ws) (piecesOf [])) k
+
+  module _ (shape : Shape) (e : arg ≡ args.the-variants.Aggregate shape) (out′ : List ℕ) where
+    pub returns-aggregate : (r ≡ returnsAnswer c (parts.aggregateArg shape) ws out) × (out′ ≡ returnsWritten c (parts.aggregateArg shape) ws out)
+        → (r ≡ returnsAnswer c arg ws out) × (out′ ≡ returnsWritten c arg ws out)
+    returns-aggregate k = rw e k
+
+    pub argument-aggregate : (r ≡ argumentAnswer c (parts.aggregateArg shape) ws out) × (out′ ≡ argumentWritten c (parts.aggregateArg shape) ws out)
+        → (r ≡ argumentAnswer c arg ws out) × (out′ ≡ argumentWritten c arg ws out)
+    argument-aggregate k = rw e k
+
+    pub dots-aggregate : (r ≡ dotsAnswer c (parts.aggregateArg shape) ws out) × (out′ ≡ dotsWritten c (parts.aggregateArg shape) ws out)
+        → (r ≡ dotsAnswer c arg ws out) × (out′ ≡ dotsWritten c arg ws out)
+    dots-aggregate k = rw e k

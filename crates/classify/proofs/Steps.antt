@@ -40,7 +40,7 @@ use Rattle.classify.specs.declared.Decided.{Decided}
 use Rattle.classify.specs.declared.Searched.{Searched}
 use Rattle.classify.specs.Pass.{matches}
 use Rattle.classify.specs.Classify.{leaves, variadic, isIntegersOnly}
-use Rattle.classify.specs.Answers.{descriptions, callOf, callRefusal, argRefusal, refusalOf, refused, done, orAnswer, freshAnswer, variadicAnswer}
+use Rattle.classify.specs.Answers.{descriptions, callOf, callRefusal, argRefusal, refusalOf, refused, done, orAnswer, freshAnswer, variadicAnswer, voidAnswer}
 use Rattle.classify.specs.Parts as parts
 
 -- ---- check
@@ -59,27 +59,15 @@ module _ (c : Call) where
     unfolding callRefusal
     call-good t = rw (lt-leb _ _ h, ← ev, ← em, ← eb, t)
 
-module _ (arg : args.Arg) (ws : List ℕ) where
-  pub arg-void : arg ≡ args.the-variants.Void → accepted ≡ argRefusal arg ws
-  unfolding argRefusal
-  arg-void e = rw e
-
-  pub arg-scalar : (s : Scalar) → arg ≡ args.the-variants.Scalar s → (r : ℕ) → r ≡ scalarRefusal s → r ≡ argRefusal arg ws
-  unfolding argRefusal
-  arg-scalar s e r er = rw (er, e)
-
-  pub arg-aggregate : (shape : Shape) → arg ≡ args.the-variants.Aggregate shape → (r : ℕ) → r ≡ shapeRefusal shape ws → r ≡ argRefusal arg ws
-  unfolding argRefusal
-  arg-aggregate shape e r er = rw (er, e)
-
 module _ (c : Call) (arg : args.Arg) (ws : List ℕ) (r : ℕ) (er : r ≡ callRefusal c) where
   pub refusal-call : (r ≡ accepted → ⊥) → r ≡ refusalOf c arg ws
   unfolding refusalOf
   refusal-call h = rw (← er) (else-first _ _ h)
 
-  pub refusal-arg : r ≡ accepted → (q : ℕ) → q ≡ argRefusal arg ws → q ≡ refusalOf c arg ws
-  unfolding refusalOf
-  refusal-arg z q eq = rw (← er, z, eq)
+module _ (c : Call) (s : Scalar) (r : ℕ) (er : r ≡ callRefusal c) where
+  pub refusal-scalar : r ≡ accepted → (q : ℕ) → q ≡ scalarRefusal s → q ≡ refusalOf c (parts.scalarArg s) []
+  unfolding refusalOf argRefusal
+  refusal-scalar z q eq = rw (← er, z, eq)
 
 module _ (c : Call) (shape : Shape) (ws : List ℕ) (r : ℕ) (er : r ≡ callRefusal c) where
   pub refusal-shape : r ≡ accepted → (q : ℕ) → q ≡ shapeRefusal shape ws → q ≡ refusalOf c (parts.aggregateArg shape) ws
@@ -110,6 +98,15 @@ module _ (c : Call) (n : ℕ) (en : n ≡ callRefusal c) (r : Answer) where
       → r ≡ done (callOf (c .abi) (leaves (c .integer) (c .float) (b || c .«integers_only»))) → r ≡ variadicAnswer c
   unfolding variadicAnswer
   mark-done z v ev b eb er = rw (er, eb, ev, ← en, z)
+
+module _ (c : Call) (n : ℕ) (en : n ≡ callRefusal c) (r : Answer) where
+  pub void-refused : (n ≡ accepted → ⊥) → r ≡ refused c n → r ≡ voidAnswer c
+  unfolding voidAnswer
+  void-refused h er = rw (er, ← en) (or-refused n c _ h)
+
+  pub void-done : n ≡ accepted → r ≡ done c → r ≡ voidAnswer c
+  unfolding voidAnswer
+  void-done z er = rw (er, ← en, z)
 
 -- ---- the search
 
@@ -215,6 +212,38 @@ module _ (source : sources.Source) (cs : List ℕ) (ps : List Piece) (out : List
     pub write-one : (k o n : ℕ) → source ≡ sources.the-variants.One k o n → out′ ≡ putAt out 0 (slotWords (slot k o n)) → out′ ≡ written (parts.slotsIn source cs ps) out
     unfolding parts.slotsIn written wordsOf
     write-one k o n e eo = rw (eo, e)
+
+-- and of a scalar
+module _ (source : sources.Source) (out : List ℕ) where
+  pub scalar-none : source ≡ sources.the-variants.Empty → out ≡ written (parts.slotsInScalar source) out
+  unfolding parts.slotsInScalar written wordsOf
+  scalar-none e = rw e (sym (put-none out 0 (omega arith)))
+
+  pub scalar-each : source ≡ sources.the-variants.EachPiece → out ≡ written (parts.slotsInScalar source) out
+  unfolding parts.slotsInScalar written wordsOf
+  scalar-each e = rw e (sym (put-none out 0 (omega arith)))
+
+  pub scalar-classes : (size : ℕ) → source ≡ sources.the-variants.Classes size → out ≡ written (parts.slotsInScalar source) out
+  unfolding parts.slotsInScalar written wordsOf
+  scalar-classes size e = rw e (sym (put-none out 0 (omega arith)))
+
+  module _ (out′ : List ℕ) where
+    pub scalar-cut : (size width : ℕ) → source ≡ sources.the-variants.Cut size width → out′ ≡ written (cut size width) out → out′ ≡ written (parts.slotsInScalar source) out
+    unfolding parts.slotsInScalar
+    scalar-cut size width e eo = rw (eo, e)
+
+    pub scalar-one : (k o n : ℕ) → source ≡ sources.the-variants.One k o n → out′ ≡ putAt out 0 (slotWords (slot k o n)) → out′ ≡ written (parts.slotsInScalar source) out
+    unfolding parts.slotsInScalar written wordsOf
+    scalar-one k o n e eo = rw (eo, e)
+
+module _ (d : Decision) (out : List ℕ) (room : ℕ) (er : room ≡ length out / slotSize) where
+  pub short-scalar : room < d .count → out ≡ parts.finishedScalarIn d out
+  unfolding parts.finishedScalarIn
+  short-scalar h = rw (← er, lt-ltb _ _ h)
+
+  pub fit-scalar : d .count ≤ room → (out′ : List ℕ) → out′ ≡ written (parts.slotsInScalar (d .slots)) out → out′ ≡ parts.finishedScalarIn d out
+  unfolding parts.finishedScalarIn
+  fit-scalar h out′ e = rw (e, ← er, le-ltb _ _ h)
 
 pub accepts : (c : Call) (d : Decision) (i₁ i₂ f₁ f₂ : ℕ) → i₁ ≡ c .integer - d .spent .«integers_passed» → i₂ ≡ i₁ - d .spent .«integers_given»
     → f₁ ≡ c .float - d .spent .«floats_passed» → f₂ ≡ f₁ - d .spent .«floats_given»

@@ -8,6 +8,13 @@ use Rattle.classify.proofs.Call.variadic.Reads as variadic
 use Rattle.classify.proofs.Call.returns.Reads as returns
 use Rattle.classify.proofs.Call.argument.Reads as argument
 use Rattle.classify.proofs.Call.variadic_argument.Reads as variadic-argument
+use Rattle.classify.proofs.Call.nothing.Reads as nothing
+use Rattle.classify.proofs.Call.returns_scalar.Reads as returns-scalar
+use Rattle.classify.proofs.Call.returns_aggregate.Reads as returns-aggregate
+use Rattle.classify.proofs.Call.argument_scalar.Reads as argument-scalar
+use Rattle.classify.proofs.Call.argument_aggregate.Reads as argument-aggregate
+use Rattle.classify.proofs.Call.variadic_argument_scalar.Reads as variadic-argument-scalar
+use Rattle.classify.proofs.Call.variadic_argument_aggregate.Reads as variadic-argument-aggregate
 use Rattle.classify.proofs.Call.in_memory.Reads as in-memory
 use Rattle.classify.proofs.Call.abi.Reads as abi
 use Rattle.classify.proofs.Call.integer_left.Reads as integer-left
@@ -36,6 +43,45 @@ variadic-argument-decides κs a r q s t p p′ = p .0 ∙ sym (p′ .0)
 
 variadic-argument-words : (κs : Lfts 2) → OneExit (variadic-argument.Post κs) (λ s. now (s .1 .1 .1 .0))
 variadic-argument-words κs a r q s t p p′ = p .1 ∙ sym (p′ .1)
+
+nothing-decides : (κs : Lfts 0) → OneAnswer (nothing.Post κs)
+nothing-decides κs a r q s t p p′ = p ∙ sym p′
+
+returns-scalar-decides : (κs : Lfts 1) → OneAnswer (returns-scalar.Post κs)
+returns-scalar-decides κs a r q s t p p′ = p .0 ∙ sym (p′ .0)
+
+returns-scalar-words : (κs : Lfts 1) → OneExit (returns-scalar.Post κs) (λ s. now (s .1 .1 .0))
+returns-scalar-words κs a r q s t p p′ = p .1 ∙ sym (p′ .1)
+
+returns-aggregate-decides : (κs : Lfts 2) → OneAnswer (returns-aggregate.Post κs)
+returns-aggregate-decides κs a r q s t p p′ = p .0 ∙ sym (p′ .0)
+
+returns-aggregate-words : (κs : Lfts 2) → OneExit (returns-aggregate.Post κs) (λ s. now (s .1 .1 .1 .0))
+returns-aggregate-words κs a r q s t p p′ = p .1 ∙ sym (p′ .1)
+
+argument-scalar-decides : (κs : Lfts 1) → OneAnswer (argument-scalar.Post κs)
+argument-scalar-decides κs a r q s t p p′ = p .0 ∙ sym (p′ .0)
+
+argument-scalar-words : (κs : Lfts 1) → OneExit (argument-scalar.Post κs) (λ s. now (s .1 .1 .0))
+argument-scalar-words κs a r q s t p p′ = p .1 ∙ sym (p′ .1)
+
+argument-aggregate-decides : (κs : Lfts 2) → OneAnswer (argument-aggregate.Post κs)
+argument-aggregate-decides κs a r q s t p p′ = p .0 ∙ sym (p′ .0)
+
+argument-aggregate-words : (κs : Lfts 2) → OneExit (argument-aggregate.Post κs) (λ s. now (s .1 .1 .1 .0))
+argument-aggregate-words κs a r q s t p p′ = p .1 ∙ sym (p′ .1)
+
+variadic-argument-scalar-decides : (κs : Lfts 1) → OneAnswer (variadic-argument-scalar.Post κs)
+variadic-argument-scalar-decides κs a r q s t p p′ = p .0 ∙ sym (p′ .0)
+
+variadic-argument-scalar-words : (κs : Lfts 1) → OneExit (variadic-argument-scalar.Post κs) (λ s. now (s .1 .1 .0))
+variadic-argument-scalar-words κs a r q s t p p′ = p .1 ∙ sym (p′ .1)
+
+variadic-argument-aggregate-decides : (κs : Lfts 2) → OneAnswer (variadic-argument-aggregate.Post κs)
+variadic-argument-aggregate-decides κs a r q s t p p′ = p .0 ∙ sym (p′ .0)
+
+variadic-argument-aggregate-words : (κs : Lfts 2) → OneExit (variadic-argument-aggregate.Post κs) (λ s. now (s .1 .1 .1 .0))
+variadic-argument-aggregate-words κs a r q s t p p′ = p .1 ∙ sym (p′ .1)
 
 in-memory-decides : (κs : Lfts 1) → OneAnswer (in-memory.Post κs)
 in-memory-decides κs a r q s t p p′ = p ∙ sym p′

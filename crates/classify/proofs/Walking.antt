@@ -14,6 +14,7 @@ use Rattle.slots.specs.declared.Found as founds
 use Rattle.slots.specs.Search.{Search, found, nothing, foundOf, floatsIn}
 use Rattle.describe.specs.declared.Banks.{Banks}
 use Rattle.describe.specs.declared.Rule.{Rule}
+use Rattle.describe.specs.declared.Test.{Test}
 use Rattle.describe.specs.declared.ReturnPointer.{ReturnPointer}
 use Rattle.describe.specs.declared.Rules.{Rules}
 use Rattle.describe.specs.Description.{Description, Decides, Ends}
@@ -131,9 +132,15 @@ take-apart (r ∷ later) ends h =
 module _ (abi : ℕ) (returning : Bool) (left : Left) (shape : Shape) (ps : List Piece)
     (B : Banks) (bank : B ≡ described abi .banks)
     (R : Rules) (inv : Remaining (described abi) returning left shape ps R)
-    (rule : Rule) (el : rule ≡ firstRule R) (R′ : Rules) (er : R′ ≡ laterRules R) (s : Searched) (es : s ≡ searchedBy B (rule .when) shape ps) where
+    (R′ : Rules) (er : R′ ≡ laterRules R) (when : Test) (ew : when ≡ firstRule R .when) (s : Searched) (esw : s ≡ searchedBy B when shape ps) where
+  abbrev rule : Rule
+  rule = firstRule R
+
+  es : s ≡ searchedBy B (rule .when) shape ps
+  es = rw (← ew) esw
+
   taken : Taken (inv .rules) rule R′
-  taken = rw (el, er, inv .are) (take-apart (inv .rules) (inv .ends) (inv .hold))
+  taken = rw (er, inv .are) (take-apart (inv .rules) (inv .ends) (inv .hold))
 
   pub falls : R′ .tests < R .tests
   falls = rw (inv .are) (taken .less)
@@ -189,8 +196,9 @@ module _ (abi : ℕ) (returning : Bool) (left : Left) (shape : Shape) (ps : List
           let t : skipped left returning (floatsIn []) ≡ true = rw q at skip in no-float (left .«integers_only» && not returning) t)
           (step-skipped (described abi) returning left shape ps rule _ (some .ss) (some .is) skip)
 
-    module _ (h : skipped left returning m ≡ false) (pointer : ReturnPointer) (point : pointer ≡ described abi .«return_pointer») (t : steps.Step)
-        (et : t ≡ travelOf B pointer returning left rule (shape .size) (record { count = n; floats = m; source = s .source })) where
+    module _ (h : skipped left returning m ≡ false) (pointer : ReturnPointer) (point : pointer ≡ described abi .«return_pointer»)
+        (first : Rule) (ef : first ≡ firstRule R) (t : steps.Step)
+        (et : t ≡ travelOf B pointer returning left first (shape .size) (record { count = n; floats = m; source = s .source })) where
       kept : skipped left returning (floatsIn (some .ss)) ≡ false
       kept = rw (← some .floats) h
 
@@ -201,6 +209,7 @@ module _ (abi : ℕ) (returning : Bool) (left : Left) (shape : Shape) (ps : List
           let eu : s .source ≡ sourceOf (rule .when) (shape .size) = source-is in
           let en : n ≡ length (some .ss) = some .count in
           let em : m ≡ floatsIn (some .ss) = some .floats in
+          let el : first ≡ rule = ef in
           cc
 
       pub short-next : t ≡ steps.the-variants.TryNextRule → Remaining (described abi) returning left shape ps R′

@@ -102,6 +102,10 @@ freshAnswer abi =
 unfoldable pub variadicAnswer : Call → Answer
 variadicAnswer c = orAnswer (callRefusal c) c (done (callOf (c .abi) (variadic (described (c .abi)) (leftOf c))))
 
+-- a void return or argument, on each operation
+unfoldable pub voidAnswer : Call → Answer
+voidAnswer c = orAnswer (callRefusal c) c (done c)
+
 unfoldable pub returnsAnswer : Call → args.Arg → List ℕ → List ℕ → Answer
 returnsAnswer c arg ws out =
     answerTo c arg ws (returns (described (c .abi)) (leftOf c) arg (piecesOf ws))

@@ -125,6 +125,12 @@ isAlwaysMemory BothBanks = false
 isAlwaysMemory IntegersOnly = false
 isAlwaysMemory UnnamedIntegers = false
 
+abbrev pub scalarArg : Scalar → args.Arg
+scalarArg s = args.the-variants.Scalar s
+
+abbrev pub aggregateArg : Shape → args.Arg
+aggregateArg shape = args.the-variants.Aggregate shape
+
 -- what decides a return, a fixed argument (variadic as SameAsFixed) and one after the dots
 unfoldable pub scalarBy : Description → Bool → Variadic → Left → Scalar → Decision
 scalarBy D returning variadic left s =
@@ -152,6 +158,14 @@ slotsIn (sources.the-variants.Classes size) classes ps = eight.slotsOf size clas
 slotsIn (sources.the-variants.Cut size width) classes ps = cut size width
 slotsIn (sources.the-variants.One kind offset size) classes ps = slot kind offset size ∷ []
 
+-- those of a scalar, which has neither pieces nor eightbytes
+unfoldable pub slotsInScalar : sources.Source → List Slot
+slotsInScalar sources.the-variants.Empty = []
+slotsInScalar sources.the-variants.EachPiece = []
+slotsInScalar (sources.the-variants.Classes size) = []
+slotsInScalar (sources.the-variants.Cut size width) = cut size width
+slotsInScalar (sources.the-variants.One kind offset size) = slot kind offset size ∷ []
+
 -- what is left of a bank
 abbrev pub after : ℕ → ℕ → ℕ → ℕ
 after left passed given = left - passed - given
@@ -175,6 +189,9 @@ unfoldable pub finishedIn : Decided → List Piece → List ℕ → List ℕ
 finishedIn d ps out =
     cond (ltb (length out / slotSize) (d .decision .count)) out (written (slotsIn (d .decision .slots) (d .classes) ps) out)
 
+unfoldable pub finishedScalarIn : Decision → List ℕ → List ℕ
+finishedScalarIn d out = cond (ltb (length out / slotSize) (d .count)) out (written (slotsInScalar (d .slots)) out)
+
 -- a whole operation, from what decides it
 unfoldable pub performed : Call → Decided → args.Arg → List ℕ → List ℕ → Answer
 performed c d arg ws out = orAnswer (refusalOf c arg ws) c (finished c (d .decision) out)
@@ -183,9 +200,6 @@ unfoldable pub performedIn : Call → Decided → args.Arg → List ℕ → List
 performedIn c d arg ws out = unlessRefused (refusalOf c arg ws) (finishedIn d (piecesOf ws) out) out
 
 -- ---- in_memory
-
-abbrev pub aggregateArg : Shape → args.Arg
-aggregateArg shape = args.the-variants.Aggregate shape
 
 abbrev pub limitOption : Option ℕ → limits.Limit
 limitOption none = limits.the-variants.Nothing

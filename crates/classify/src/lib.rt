@@ -18,6 +18,7 @@ use spend::Spent;
 use spend::Step;
 use spend::Way;
 ghost use mathlib.Core.Path.{_≡_};
+ghost use mathlib.Core.List.{[]};
 ghost use Prim.Native.Nat.{_-_, _<_};
 ghost use Rattle.shape.specs.Words.{piecesOf};
 ghost use Rattle.slots.specs.Words.{written};
@@ -25,7 +26,7 @@ ghost use Rattle.describe.specs.Row.{packed};
 ghost use Rattle.abis.specs.Abis.{described};
 ghost use Rattle.classify.specs.Classify.{inMemory, isIntegersOnly};
 ghost use Rattle.classify.specs.Spending as rules;
-ghost use Rattle.classify.specs.Answers.{descriptions, leftOf, callRefusal, argRefusal, refusalOf, freshAnswer, variadicAnswer, returnsAnswer, returnsWritten, argumentAnswer, argumentWritten, dotsAnswer, dotsWritten, inMemoryAnswer};
+ghost use Rattle.classify.specs.Answers.{descriptions, leftOf, callRefusal, refusalOf, freshAnswer, voidAnswer, variadicAnswer, returnsAnswer, returnsWritten, argumentAnswer, argumentWritten, dotsAnswer, dotsWritten, inMemoryAnswer};
 ghost use Rattle.classify.specs.Answers as answers;
 ghost use Rattle.classify.specs.Parts as parts;
 
@@ -111,21 +112,87 @@ impl Call {
     pub fn returns(self, arg: Arg, words: &[u64], out: &mut [u64]) -> Answer
         ensures { λ r. ⌜ (r ≡ returnsAnswer self arg (now (words .entry)) (now (out .entry))) × (now (out .exit) ≡ returnsWritten self arg (now (words .entry)) (now (out .entry))) ⌝ }
     {
-        perform(self, true, Variadic::SameAsFixed, arg, words, out)
+        match arg {
+            Arg::Void => self.nothing(),
+            Arg::Scalar(s) => self.returns_scalar(s, out),
+            Arg::Aggregate(shape) => self.returns_aggregate(shape, words, out),
+        }
     }
 
     // How the next fixed argument travels.
     pub fn argument(self, arg: Arg, words: &[u64], out: &mut [u64]) -> Answer
         ensures { λ r. ⌜ (r ≡ argumentAnswer self arg (now (words .entry)) (now (out .entry))) × (now (out .exit) ≡ argumentWritten self arg (now (words .entry)) (now (out .entry))) ⌝ }
     {
-        perform(self, false, Variadic::SameAsFixed, arg, words, out)
+        match arg {
+            Arg::Void => self.nothing(),
+            Arg::Scalar(s) => self.argument_scalar(s, out),
+            Arg::Aggregate(shape) => self.argument_aggregate(shape, words, out),
+        }
     }
 
     // How the next argument after the dots travels.
     pub fn variadic_argument(self, arg: Arg, words: &[u64], out: &mut [u64]) -> Answer
         ensures { λ r. ⌜ (r ≡ dotsAnswer self arg (now (words .entry)) (now (out .entry))) × (now (out .exit) ≡ dotsWritten self arg (now (words .entry)) (now (out .entry))) ⌝ }
     {
-        perform(self, false, abis::variadic(self.abi), arg, words, out)
+        match arg {
+            Arg::Void => self.nothing(),
+            Arg::Scalar(s) => self.variadic_argument_scalar(s, out),
+            Arg::Aggregate(shape) => self.variadic_argument_aggregate(shape, words, out),
+        }
+    }
+
+    // A void return or argument: nothing travels, so the call alone is checked.
+    pub fn nothing(self) -> Answer
+        ensures { λ r. ⌜ r ≡ voidAnswer self ⌝ }
+    {
+        let refusal = check_call(self);
+        if refusal != shape::ACCEPTED {
+            return refused(self, refusal);
+        }
+        done(self)
+    }
+
+    // The three operations for a scalar.
+    pub fn returns_scalar(self, s: Scalar, out: &mut [u64]) -> Answer
+        ensures { λ r. ⌜ (r ≡ returnsAnswer self (parts.scalarArg s) [] (now (out .entry))) × (now (out .exit) ≡ returnsWritten self (parts.scalarArg s) [] (now (out .entry))) ⌝ }
+    {
+        perform_scalar(self, true, Variadic::SameAsFixed, s, out)
+    }
+
+    pub fn argument_scalar(self, s: Scalar, out: &mut [u64]) -> Answer
+        ensures { λ r. ⌜ (r ≡ argumentAnswer self (parts.scalarArg s) [] (now (out .entry))) × (now (out .exit) ≡ argumentWritten self (parts.scalarArg s) [] (now (out .entry))) ⌝ }
+    {
+        perform_scalar(self, false, Variadic::SameAsFixed, s, out)
+    }
+
+    pub fn variadic_argument_scalar(self, s: Scalar, out: &mut [u64]) -> Answer
+        ensures { λ r. ⌜ (r ≡ dotsAnswer self (parts.scalarArg s) [] (now (out .entry))) × (now (out .exit) ≡ dotsWritten self (parts.scalarArg s) [] (now (out .entry))) ⌝ }
+    {
+        perform_scalar(self, false, abis::variadic(self.abi), s, out)
+    }
+
+    // The three operations for an aggregate.
+    pub fn returns_aggregate(self, shape: Shape, words: &[u64], out: &mut [u64]) -> Answer
+        ensures { λ r. ⌜ (r ≡ returnsAnswer self (parts.aggregateArg shape) (now (words .entry)) (now (out .entry))) × (now (out .exit) ≡ returnsWritten self (parts.aggregateArg shape) (now (words .entry)) (now (out .entry))) ⌝ }
+    {
+        perform_aggregate(self, true, Variadic::SameAsFixed, shape, words, out)
+    }
+
+    pub fn argument_aggregate(self, shape: Shape, words: &[u64], out: &mut [u64]) -> Answer
+        ensures { λ r. ⌜ (r ≡ argumentAnswer self (parts.aggregateArg shape) (now (words .entry)) (now (out .entry))) × (now (out .exit) ≡ argumentWritten self (parts.aggregateArg shape) (now (words .entry)) (now (out .entry))) ⌝ }
+    {
+        perform_aggregate(self, false, Variadic::SameAsFixed, shape, words, out)
+    }
+
+    pub fn variadic_argument_aggregate(
+        self,
+        shape: Shape,
+        words: &[u64],
+        out: &mut [u64],
+    ) -> Answer
+        ensures { λ r. ⌜ (r ≡ dotsAnswer self (parts.aggregateArg shape) (now (words .entry)) (now (out .entry))) × (now (out .exit) ≡ dotsWritten self (parts.aggregateArg shape) (now (words .entry)) (now (out .entry))) ⌝ }
+    {
+        perform_aggregate(self, false, abis::variadic(self.abi), shape, words, out)
     }
 
     // What a fixed argument that travels as Memory is aligned to in the argument area.
@@ -162,35 +229,62 @@ impl Call {
 }
 
 // One operation, in its parts: check, decide, then room, writing and the answer. A fixed argument and a return are variadic as
-// SameAsFixed, an argument after the dots as its description says.
-fn perform(
+// SameAsFixed, an argument after the dots as its description says. A scalar's way is apart from an aggregate's, whose walk it doesn't need.
+fn perform_scalar(
     call: Call,
     returning: bool,
     variadic: Variadic,
-    arg: Arg,
-    words: &[u64],
+    s: Scalar,
     out: &mut [u64],
 ) -> Answer
-    ensures { λ r. ⌜ (r ≡ parts.performed call (parts.decideBy (described (call .abi)) returning variadic (leftOf call) arg (piecesOf (now (words .entry)))) arg (now (words .entry)) (now (out .entry))) × (now (out .exit) ≡ parts.performedIn call (parts.decideBy (described (call .abi)) returning variadic (leftOf call) arg (piecesOf (now (words .entry)))) arg (now (words .entry)) (now (out .entry))) ⌝ }
+    ensures { λ r. ⌜ (r ≡ parts.performed call (parts.decideBy (described (call .abi)) returning variadic (leftOf call) (parts.scalarArg s) []) (parts.scalarArg s) [] (now (out .entry))) × (now (out .exit) ≡ parts.performedIn call (parts.decideBy (described (call .abi)) returning variadic (leftOf call) (parts.scalarArg s) []) (parts.scalarArg s) [] (now (out .entry))) ⌝ }
 {
-    let refusal = check(call, arg, words);
+    let refusal = check_scalar(call, s);
     if refusal != shape::ACCEPTED {
         return refused(call, refusal);
     }
-    let decided = decide(call.abi, returning, variadic, left_of(call), arg, words);
+    let decision = decide_scalar(call.abi, returning, variadic, left_of(call), s);
+    finish_scalar(call, decision, out)
+}
+
+fn perform_aggregate(
+    call: Call,
+    returning: bool,
+    variadic: Variadic,
+    shape: Shape,
+    words: &[u64],
+    out: &mut [u64],
+) -> Answer
+    ensures { λ r. ⌜ (r ≡ parts.performed call (parts.decideBy (described (call .abi)) returning variadic (leftOf call) (parts.aggregateArg shape) (piecesOf (now (words .entry)))) (parts.aggregateArg shape) (now (words .entry)) (now (out .entry))) × (now (out .exit) ≡ parts.performedIn call (parts.decideBy (described (call .abi)) returning variadic (leftOf call) (parts.aggregateArg shape) (piecesOf (now (words .entry)))) (parts.aggregateArg shape) (now (words .entry)) (now (out .entry))) ⌝ }
+{
+    let refusal = check_aggregate(call, shape, words);
+    if refusal != shape::ACCEPTED {
+        return refused(call, refusal);
+    }
+    let decided = decide_aggregate(call.abi, returning, variadic, left_of(call), shape, words);
     finish(call, decided, words, out)
 }
 
 // ---- check
 
-fn check(call: Call, arg: Arg, words: &[u64]) -> u64
-    ensures { λ r. ⌜ r ≡ refusalOf call arg (now (words .entry)) ⌝ }
+fn check_scalar(call: Call, s: Scalar) -> u64
+    ensures { λ r. ⌜ r ≡ refusalOf call (parts.scalarArg s) [] ⌝ }
 {
     let refusal = check_call(call);
     if refusal != shape::ACCEPTED {
         return refusal;
     }
-    check_arg(arg, words)
+    shape::check_scalar(s)
+}
+
+fn check_aggregate(call: Call, shape: Shape, words: &[u64]) -> u64
+    ensures { λ r. ⌜ r ≡ refusalOf call (parts.aggregateArg shape) (now (words .entry)) ⌝ }
+{
+    let refusal = check_call(call);
+    if refusal != shape::ACCEPTED {
+        return refusal;
+    }
+    shape::check_shape(shape, words)
 }
 
 // A description that isn't there, a count above its bank's start, or a mark that the description doesn't use.
@@ -206,16 +300,6 @@ fn check_call(call: Call) -> u64
         return shape::BAD_CALL;
     }
     shape::ACCEPTED
-}
-
-fn check_arg(arg: Arg, words: &[u64]) -> u64
-    ensures { λ r. ⌜ r ≡ argRefusal arg (now (words .entry)) ⌝ }
-{
-    match arg {
-        Arg::Void => shape::ACCEPTED,
-        Arg::Scalar(s) => shape::check_scalar(s),
-        Arg::Aggregate(shape) => shape::check_shape(shape, words),
-    }
 }
 
 fn integers_only_when_variadic(variadic: Variadic) -> bool
@@ -236,24 +320,6 @@ fn integers_only_when_variadic(variadic: Variadic) -> bool
 struct Decided {
     decision: Decision,
     classes: [u8; 8],
-}
-
-fn decide(
-    abi: u64,
-    returning: bool,
-    variadic: Variadic,
-    left: Left,
-    arg: Arg,
-    words: &[u64],
-) -> Decided
-    requires { ⌜ abi < descriptions ⌝ }
-    ensures { λ r. ⌜ r ≡ parts.decideBy (described abi) returning variadic left arg (piecesOf (now (words .entry))) ⌝ }
-{
-    match arg {
-        Arg::Void => unclassed(ignored()),
-        Arg::Scalar(s) => unclassed(decide_scalar(abi, returning, variadic, left, s)),
-        Arg::Aggregate(shape) => decide_aggregate(abi, returning, variadic, left, shape, words),
-    }
 }
 
 fn decide_scalar(abi: u64, returning: bool, variadic: Variadic, left: Left, s: Scalar) -> Decision
@@ -354,22 +420,6 @@ fn spends_nothing(way: Way, slots: Source, count: u64) -> Decision
     }
 }
 
-fn ignored() -> Decision
-    ensures { λ r. ⌜ r ≡ rules.ignored .decision ⌝ }
-{
-    spends_nothing(Way::Ignore, Source::Empty, 0)
-}
-
-// A decision whose slots stand in no classes.
-fn unclassed(decision: Decision) -> Decided
-    ensures { λ r. ⌜ r ≡ parts.decided decision parts.noClasses ⌝ }
-{
-    Decided {
-        decision,
-        classes: [0u8; 8],
-    }
-}
-
 // The rule walk: the first rule whose test finds something, and that isn't skipped or short, decides. The list is read once, as two numbers.
 // There is no answer behind the loop: each list of rules ends with one that decides.
 fn walk(abi: u64, returning: bool, left: Left, shape: Shape, words: &[u64]) -> Decided
@@ -379,10 +429,10 @@ fn walk(abi: u64, returning: bool, left: Left, shape: Shape, words: &[u64]) -> D
     let banks = abis::banks(abi);
     let mut rules = rules_of(abi, returning);
     loop {
-        let rule = describe::first_rule(rules);
+        let these = rules;
         let later = describe::later_rules(rules);
         rules = later;
-        let when = rule.when;
+        let when = describe::first_test(these);
         let searched = search(banks, when, shape, words);
         let found = searched.found;
         let Found::Slots { count, floats } = found else {
@@ -397,7 +447,7 @@ fn walk(abi: u64, returning: bool, left: Left, shape: Shape, words: &[u64]) -> D
             abis::return_pointer(abi),
             returning,
             left,
-            rule,
+            describe::first_rule(these),
             shape.size,
             Slots {
                 count,
@@ -505,6 +555,34 @@ fn in_eightbytes(size: u64, classified: eightbytes::Classified) -> Searched
 
 // ---- room and writing, and the answer
 
+fn finish_scalar(call: Call, decision: Decision, out: &mut [u64]) -> Answer
+    ensures { λ r. ⌜ (r ≡ parts.finished call decision (now (out .entry))) × (now (out .exit) ≡ parts.finishedScalarIn decision (now (out .entry))) ⌝ }
+{
+    if decision.count > slots::room(out.len()) as u64 {
+        return refused(call, shape::NO_ROOM);
+    }
+    let source = decision.slots;
+    write_scalar(source, out);
+    accept(call, decision)
+}
+
+// The slots of a scalar: it has no pieces and no eightbytes.
+fn write_scalar(source: Source, out: &mut [u64])
+    ensures { λ _. ⌜ now (out .exit) ≡ written (parts.slotsInScalar source) (now (out .entry)) ⌝ }
+{
+    match source {
+        Source::Empty => {}
+        Source::EachPiece => {}
+        Source::Classes { size: _ } => {}
+        Source::Cut { size: whole, width } => {
+            slots::cut_integers(whole, width, out);
+        }
+        Source::One { kind, offset, size } => {
+            slots::put_slot(out, 0, Slot { kind, offset, size });
+        }
+    }
+}
+
 fn finish(call: Call, decided: Decided, words: &[u64], out: &mut [u64]) -> Answer
     ensures { λ r. ⌜ (r ≡ parts.finished call (decided .decision) (now (out .entry))) × (now (out .exit) ≡ parts.finishedIn decided (piecesOf (now (words .entry))) (now (out .entry))) ⌝ }
 {
@@ -609,16 +687,6 @@ fn minus(a: u64, b: u64) -> u64
 }
 
 // ---- in_memory
-
-fn check_aggregate(call: Call, shape: Shape, words: &[u64]) -> u64
-    ensures { λ r. ⌜ r ≡ refusalOf call (parts.aggregateArg shape) (now (words .entry)) ⌝ }
-{
-    let refusal = check_call(call);
-    if refusal != shape::ACCEPTED {
-        return refusal;
-    }
-    shape::check_shape(shape, words)
-}
 
 fn memory_align(abi: u64, shape: Shape, words: &[u64]) -> u64
     ensures { λ r. ⌜ r ≡ inMemory (described abi) shape (piecesOf (now (words .entry))) ⌝ }

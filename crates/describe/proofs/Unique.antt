@@ -7,6 +7,7 @@ use Rattle.describe.proofs.row.argument_rule.Reads as argument-rule
 use Rattle.describe.proofs.row.return_rules.Reads as return-rules
 use Rattle.describe.proofs.row.argument_rules.Reads as argument-rules
 use Rattle.describe.proofs.row.first_rule.Reads as first-rule
+use Rattle.describe.proofs.row.first_test.Reads as first-test
 use Rattle.describe.proofs.row.later_rules.Reads as later-rules
 use Rattle.describe.proofs.row.banks_of.Reads as banks-of
 use Rattle.describe.proofs.row.scalars_of.Reads as scalars-of
@@ -31,6 +32,9 @@ argument-rules-decides κs a r q s t p p′ = p ∙ sym p′
 
 first-rule-decides : (κs : Lfts 0) → OneAnswer (first-rule.Post κs)
 first-rule-decides κs a r q s t p p′ = p ∙ sym p′
+
+first-test-decides : (κs : Lfts 0) → OneAnswer (first-test.Post κs)
+first-test-decides κs a r q s t p p′ = p ∙ sym p′
 
 later-rules-decides : (κs : Lfts 0) → OneAnswer (later-rules.Post κs)
 later-rules-decides κs a r q s t p p′ = p ∙ sym p′

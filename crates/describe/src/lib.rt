@@ -14,6 +14,7 @@ pub use row::argument_rule;
 pub use row::argument_rules;
 pub use row::banks_of;
 pub use row::first_rule;
+pub use row::first_test;
 pub use row::later_rules;
 pub use row::others_of;
 pub use row::return_pointer_of;

@@ -126,10 +126,17 @@ pub fn first_rule(rules: Rules) -> Rule
 {
     let way = (rules.ways % 256) as u8;
     Rule {
-        when: test_from((rules.tests % 256) as u8, (rules.tests / 256 % 256) as u8),
+        when: first_test(rules),
         then: travel_from(way % 8),
         short: short_from(way / 8),
     }
+}
+
+// Its test alone: a walk needs the rest of a rule only where the test finds something.
+pub fn first_test(rules: Rules) -> Test
+    ensures { λ r. ⌜ r ≡ firstRule rules .when ⌝ }
+{
+    test_from((rules.tests % 256) as u8, (rules.tests / 256 % 256) as u8)
 }
 
 // The rules behind the first.

@@ -22,11 +22,11 @@ rules-of-requires c κs = search needs
 loop-holds : tie.Need-loop-holds Inv-loop μ-loop
 loop-holds c = search (whole-list)
 
-first-rule-requires : tie.Need-first-rule-requires Inv-loop μ-loop
-first-rule-requires c κs = search needs
-
 later-rules-requires : tie.Need-later-rules-requires Inv-loop μ-loop
 later-rules-requires c κs = search needs
+
+first-test-requires : tie.Need-first-test-requires Inv-loop μ-loop
+first-test-requires c κs = search needs
 
 search-requires : tie.Need-search-requires Inv-loop μ-loop
 search-requires c κs = search needs
@@ -52,6 +52,9 @@ loop-again-2 c = search (skipped-next)
 return-pointer-requires : tie.Need-return-pointer-requires Inv-loop μ-loop
 return-pointer-requires c κs = search needs
 
+first-rule-requires : tie.Need-first-rule-requires Inv-loop μ-loop
+first-rule-requires c κs = search needs
+
 travel-requires : tie.Need-travel-requires Inv-loop μ-loop
 travel-requires c κs = search needs
 
@@ -70,12 +73,13 @@ loop-again-3 c = search (short-next)
 returns : tie.Need-returns Inv-loop μ-loop
 returns c =
     let travel = c .before .before .before .before in
-    let pointer = travel .before in
+    let first = travel .before in
+    let pointer = first .before in
     let search = pointer .before .before .before .before .before .before in
-    let later = search .before in
-    let first = later .before in
-    let loop = first .before in
-    decided-here _ _ _ _ _ _ (loop .before .before .banks .ensures) _ (loop .loop .inv) _ (first .first-rule .ensures) _ (later .later-rules .ensures) _ (search .search .ensures) _ _ (pointer .before .before .before .before .found .given .1) (pointer .before .if1 .left) _ (pointer .return-pointer .ensures) _ (travel .travel .ensures) _ (c .before .before .step .given .1)
+    let test = search .before in
+    let later = test .before in
+    let loop = later .before in
+    decided-here _ _ _ _ _ _ (loop .before .before .banks .ensures) _ (loop .loop .inv) _ (later .later-rules .ensures) _ (test .first-test .ensures) _ (search .search .ensures) _ _ (pointer .before .before .before .before .found .given .1) (pointer .before .if1 .left) _ (pointer .return-pointer .ensures) _ (first .first-rule .ensures) _ (travel .travel .ensures) _ (c .before .before .step .given .1)
 
 pub walk-spec : {M : Type 1} → statement M
 walk-spec =
@@ -86,8 +90,8 @@ walk-spec =
     banks-requires
     rules-of-requires
     loop-holds
-    first-rule-requires
     later-rules-requires
+    first-test-requires
     search-requires
     enum-known-found
     enum-told
@@ -96,6 +100,7 @@ walk-spec =
     loop-less-2
     loop-again-2
     return-pointer-requires
+    first-rule-requires
     travel-requires
     enum-known-step
     enum-told-2

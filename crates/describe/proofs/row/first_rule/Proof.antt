@@ -10,9 +10,7 @@ first-rule-spec =
     tie.close
     (tie.spec
     (λ c. search needs)
-    (λ c. search needs)
-    (λ c. search needs)
     (λ c κs. search needs)
     (λ c κs. search needs)
     (λ c κs. search needs)
-    (λ c. simp (c .before .before .test-from .ensures, c .before .travel-from .ensures, c .short-from .ensures)))
+    (λ c. simp (c .before .before .first-test .ensures, c .before .travel-from .ensures, c .short-from .ensures)))

@@ -1,0 +1,17 @@
+-- `finish_scalar` refuses what doesn't fit, and else writes and answers. Assumes nothing.
+use borrow.Author.Needs.{needs}
+use Rattle.classify.proofs.Steps.{short-answer, short-scalar, fit-answer, fit-scalar}
+use Rattle.classify.proofs.finish_scalar.Statement.{statement}
+use Rattle.classify.proofs.finish_scalar.Tie as tie
+
+pub finish-scalar-spec : {M : Type 1} → statement M
+finish-scalar-spec =
+    tie.close
+    (tie.spec
+    (λ c κs. search needs)
+    (λ c κs. search needs)
+    (λ c. (search (short-answer), search (short-scalar)))
+    (λ c κs. search needs)
+    (λ c κs. search needs)
+    (λ c. search needs)
+    (λ c. (search (fit-answer), search (fit-scalar))))
