@@ -188,12 +188,15 @@ fn later(class: u8) -> u8
     class
 }
 
-// What two classes make. Where nothing stands yet, the one that comes goes in as it is, and no table is read.
+// What two classes make. Where nothing stands yet, or the same, the one that comes goes in as it is, and no table is read.
 fn joined(a: u8, b: u8) -> u8
     requires { ⌜ (a < 6) × (b < 6) ⌝ }
     ensures { λ r. ⌜ r ≡ code (merge· (classOf a) (classOf b)) ⌝ }
 {
     if a == NONE {
+        return b;
+    }
+    if a == b {
         return b;
     }
     merge(a, b)
