@@ -79,7 +79,8 @@ fn take_in(
     let steps = state.steps(&input[..have], pieces, slots, out);
     let next = steps.next;
     let used = steps.used;
-    if !write(out, steps.at) | next.stopped {
+    let reader = next.reader;
+    if !write(out, steps.at) | reader.stopped {
         return ended(next);
     }
     let waiting = to_front(input, used, have);

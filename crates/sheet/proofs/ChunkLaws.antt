@@ -11,8 +11,9 @@ use lib.ListN.{length, take, drop, length-append, length-drop}
 use lib.Seq.{drop-drop, drop-at, take-append-le, drop-append-le, take-append-seam}
 use Rattle.slots.specs.Words.{putAt}
 use Rattle.slots.proofs.Words.{put-fits}
-use Rattle.sheet.specs.Records.{recordSize}
-use Rattle.sheet.specs.Sheet.{Between, longest, text, after, texts, afterAll, recordsIn, whole, taken}
+use Rattle.reading.specs.Records.{recordSize}
+use Rattle.lines.specs.Printing.{longest}
+use Rattle.sheet.specs.Sheet.{Between, text, after, texts, afterAll, recordsIn, whole, taken}
 use Rattle.sheet.proofs.BoundLaws.{text-bound}
 
 pub texts-append : (b : Between) (xs ys : List (List ℕ)) → texts b (xs ++ ys) ≡ texts b xs ++ texts (afterAll b xs) ys

@@ -10,10 +10,11 @@ use lib.Dec.{leb}
 use lib.ListN.{length, take, drop, length-append, take-append-drop}
 use lib.Seq.{length-take-le, drop-at}
 use Rattle.slots.specs.Words.{putAt}
+use Rattle.reading.specs.Records.{recordSize}
+use Rattle.lines.specs.Printing.{longest}
 use Rattle.sheet.specs.declared.Step.{Step}
 use Rattle.sheet.specs.declared.Steps.{Steps}
-use Rattle.sheet.specs.Records.{recordSize}
-use Rattle.sheet.specs.Sheet.{Between, between, begin, longest, stepTo, stopText, ended, finishState, text, after, texts, afterAll, recordsIn, whole, taken, stepAnswer, stepOut, Stepped, finishText, finishAnswer, finishOut, Finished, stepsAnswer, stepsPieces, stepsSlots, stepsOut, Taken, endText, sheetText}
+use Rattle.sheet.specs.Sheet.{Between, between, begin, stepTo, stopText, ended, finishState, text, after, texts, afterAll, recordsIn, whole, taken, stepAnswer, stepOut, Stepped, finishText, finishAnswer, finishOut, Finished, stepsAnswer, stepsPieces, stepsSlots, stepsOut, Taken, endText, sheetText}
 use Rattle.sheet.proofs.BoundLaws.{text-bound}
 use Rattle.sheet.proofs.ChunkLaws.{texts-append, after-append, records-front, records-join, taken-most, taken-fits, read-back}
 

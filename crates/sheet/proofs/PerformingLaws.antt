@@ -2,68 +2,103 @@
 use Prim.Native.Nat.{ℕ, _≤_}
 use mathlib.Core.Path.{_≡_, sym}
 use mathlib.Core.List.{List}
+use mathlib.Core.Bool.{Bool}
 use lib.Dec.{eqb}
 use lib.ListN.{length, take}
 use lib.Seq.{take-all}
 use Rattle.classify.specs.declared.Arg.{Arg}
+use Rattle.classify.specs.declared.Call.{Call}
 use Rattle.classify.specs.declared.Answer.{Answer}
 use Rattle.classify.specs.Answers.{freshAnswer, variadicAnswer, returnsAnswer, returnsWritten, argumentAnswer, argumentWritten, dotsAnswer, dotsWritten}
+use Rattle.reading.specs.declared.Operation as operations
 use Rattle.sheet.specs.declared.State.{State}
-use Rattle.sheet.specs.declared.reading.Operation as operations
 use Rattle.sheet.specs.declared.performing.Performed.{Performed}
 use Rattle.sheet.specs.Performing.{wordsRead, answerOf, slotsAfter, openAfter, followed, performed, performedSlots}
 
-module _ (s : State) (operation : operations.Operation) (ps slots : List ℕ) where
-  module _ (x : Performed) (a : Answer) where
-    pub fresh-performed : (abi : ℕ) → operation ≡ operations.the-variants.Fresh abi → a ≡ freshAnswer abi
-        → x ≡ followed s (eqb (a .outcome .refusal) 0) a → x ≡ performed s operation ps slots
-    unfolding performed answerOf openAfter
-    fresh-performed abi e ea ex = rw (ex, ea, e)
+-- ---- the answer
 
-    pub mark-performed : operation ≡ operations.the-variants.Mark → a ≡ variadicAnswer (s .call)
-        → x ≡ followed s (s .opened) a → x ≡ performed s operation ps slots
-    unfolding performed answerOf openAfter
-    mark-performed e ea ex = rw (ex, ea, e)
+module _ (c : Call) (operation : operations.Operation) (ws slots : List ℕ) where
+  module _ (a : Answer) where
+    pub fresh-answers : (abi : ℕ) → operation ≡ operations.the-variants.Fresh abi → a ≡ freshAnswer abi → a ≡ answerOf c operation ws slots
+    unfolding answerOf
+    fresh-answers abi e ea = rw (ea, e)
 
-    module _ (arg : Arg) (ws : List ℕ) (ew : ws ≡ wordsRead s ps) where
-      pub return-performed : operation ≡ operations.the-variants.Return arg → a ≡ returnsAnswer (s .call) arg ws slots
-          → x ≡ followed s (s .opened) a → x ≡ performed s operation ps slots
-      unfolding performed answerOf openAfter
-      return-performed e ea ex = rw (ex, ea, ew, e)
+    pub mark-answers : operation ≡ operations.the-variants.Mark → a ≡ variadicAnswer c → a ≡ answerOf c operation ws slots
+    unfolding answerOf
+    mark-answers e ea = rw (ea, e)
 
-      pub argument-performed : operation ≡ operations.the-variants.Argument arg → a ≡ argumentAnswer (s .call) arg ws slots
-          → x ≡ followed s (s .opened) a → x ≡ performed s operation ps slots
-      unfolding performed answerOf openAfter
-      argument-performed e ea ex = rw (ex, ea, ew, e)
+    module _ (arg : Arg) where
+      pub return-answers : operation ≡ operations.the-variants.Return arg → a ≡ returnsAnswer c arg ws slots → a ≡ answerOf c operation ws slots
+      unfolding answerOf
+      return-answers e ea = rw (ea, e)
 
-      pub dots-performed : operation ≡ operations.the-variants.AfterDots arg → a ≡ dotsAnswer (s .call) arg ws slots
-          → x ≡ followed s (s .opened) a → x ≡ performed s operation ps slots
-      unfolding performed answerOf openAfter
-      dots-performed e ea ex = rw (ex, ea, ew, e)
+      pub argument-answers : operation ≡ operations.the-variants.Argument arg → a ≡ argumentAnswer c arg ws slots
+          → a ≡ answerOf c operation ws slots
+      unfolding answerOf
+      argument-answers e ea = rw (ea, e)
 
-  pub fresh-slots : (abi : ℕ) → operation ≡ operations.the-variants.Fresh abi → slots ≡ performedSlots s operation ps slots
-  unfolding performedSlots slotsAfter
+      pub dots-answers : operation ≡ operations.the-variants.AfterDots arg → a ≡ dotsAnswer c arg ws slots → a ≡ answerOf c operation ws slots
+      unfolding answerOf
+      dots-answers e ea = rw (ea, e)
+
+  pub fresh-slots : (abi : ℕ) → operation ≡ operations.the-variants.Fresh abi → slots ≡ slotsAfter c operation ws slots
+  unfolding slotsAfter
   fresh-slots abi e = rw e
 
-  pub mark-slots : operation ≡ operations.the-variants.Mark → slots ≡ performedSlots s operation ps slots
-  unfolding performedSlots slotsAfter
+  pub mark-slots : operation ≡ operations.the-variants.Mark → slots ≡ slotsAfter c operation ws slots
+  unfolding slotsAfter
   mark-slots e = rw e
 
-  module _ (arg : Arg) (ws : List ℕ) (ew : ws ≡ wordsRead s ps) (qs : List ℕ) where
-    pub return-slots : operation ≡ operations.the-variants.Return arg → qs ≡ returnsWritten (s .call) arg ws slots
-        → qs ≡ performedSlots s operation ps slots
-    unfolding performedSlots slotsAfter
-    return-slots e eq = rw (eq, ew, e)
+  module _ (arg : Arg) (qs : List ℕ) where
+    pub return-slots : operation ≡ operations.the-variants.Return arg → qs ≡ returnsWritten c arg ws slots → qs ≡ slotsAfter c operation ws slots
+    unfolding slotsAfter
+    return-slots e eq = rw (eq, e)
 
-    pub argument-slots : operation ≡ operations.the-variants.Argument arg → qs ≡ argumentWritten (s .call) arg ws slots
-        → qs ≡ performedSlots s operation ps slots
-    unfolding performedSlots slotsAfter
-    argument-slots e eq = rw (eq, ew, e)
+    pub argument-slots : operation ≡ operations.the-variants.Argument arg → qs ≡ argumentWritten c arg ws slots
+        → qs ≡ slotsAfter c operation ws slots
+    unfolding slotsAfter
+    argument-slots e eq = rw (eq, e)
 
-    pub dots-slots : operation ≡ operations.the-variants.AfterDots arg → qs ≡ dotsWritten (s .call) arg ws slots
-        → qs ≡ performedSlots s operation ps slots
-    unfolding performedSlots slotsAfter
-    dots-slots e eq = rw (eq, ew, e)
+    pub dots-slots : operation ≡ operations.the-variants.AfterDots arg → qs ≡ dotsWritten c arg ws slots → qs ≡ slotsAfter c operation ws slots
+    unfolding slotsAfter
+    dots-slots e eq = rw (eq, e)
+
+-- ---- whether a call is open
+
+module _ (opened : Bool) (operation : operations.Operation) (refusal : ℕ) where
+  pub fresh-opens : (abi : ℕ) → operation ≡ operations.the-variants.Fresh abi → eqb refusal 0 ≡ openAfter opened operation refusal
+  unfolding openAfter
+  fresh-opens abi e = rw e
+
+  pub mark-keeps : operation ≡ operations.the-variants.Mark → opened ≡ openAfter opened operation refusal
+  unfolding openAfter
+  mark-keeps e = rw e
+
+  module _ (arg : Arg) where
+    pub return-keeps : operation ≡ operations.the-variants.Return arg → opened ≡ openAfter opened operation refusal
+    unfolding openAfter
+    return-keeps e = rw e
+
+    pub argument-keeps : operation ≡ operations.the-variants.Argument arg → opened ≡ openAfter opened operation refusal
+    unfolding openAfter
+    argument-keeps e = rw e
+
+    pub dots-keeps : operation ≡ operations.the-variants.AfterDots arg → opened ≡ openAfter opened operation refusal
+    unfolding openAfter
+    dots-keeps e = rw e
+
+-- ---- both
+
+module _ (s : State) (operation : operations.Operation) (ps slots ws : List ℕ) (ew : ws ≡ wordsRead (s .reader) ps) where
+  pub performed-made : (a : Answer) → a ≡ answerOf (s .call) operation ws slots
+      → (opened : Bool) → opened ≡ openAfter (s .reader .opened) operation (a .outcome .refusal)
+      → (x : Performed) → x ≡ followed (s .reader) opened a → x ≡ performed s operation ps slots
+  unfolding performed
+  performed-made a ea opened eo x ex = rw (ex, eo, ea, ew)
+
+  pub slots-made : (qs : List ℕ) → qs ≡ slotsAfter (s .call) operation ws slots → qs ≡ performedSlots s operation ps slots
+  unfolding performedSlots
+  slots-made qs eq = rw (eq, ew)
 
 -- the words that are lent where all of them were read
 pub words-all : (n : ℕ) (ps : List ℕ) → length ps ≤ n → ps ≡ take n ps

@@ -1,25 +1,30 @@
--- What a step and the end of a sheet leave. Assumes nothing.
+-- What an event, a step and the end of a sheet leave. Assumes nothing.
 use Prim.Native.Nat.{ℕ, _+_, _≤_}
 use mathlib.Core.Path.{_≡_, refl, sym, ap, _∙_}
 use mathlib.Core.List.{List}
 use mathlib.Core.Bool.{Bool, true, false, _||_, not}
 use native.Mathlib.Omega.{arith}
-use borrow.Author.Tests.{leb-true, not-true, not-false}
+use borrow.Author.Tests.{le-leb, leb-true, not-true, not-false}
 use lib.Dec.{leb, eqb}
 use lib.ListN.{length}
-use Rattle.slots.specs.Words.{putAt}
-use Rattle.slots.proofs.Words.{put-none}
+use Rattle.slots.proofs.Words.{put-none, put-fits}
+use Rattle.text.specs.Text.{appendEnd, appended}
+use Rattle.classify.specs.declared.Arg.{Arg}
+use Rattle.reading.specs.declared.Reader.{Reader}
+use Rattle.reading.specs.declared.Operation as operations
+use Rattle.reading.specs.declared.Event as events
+use Rattle.reading.specs.declared.Reading.{Reading}
+use Rattle.reading.specs.Reading.{stoppedReader, readAnswer, readPieces}
+use Rattle.lines.specs.declared.What as whats
+use Rattle.lines.specs.Text.{Put}
+use Rattle.lines.specs.Printing.{longest, line, Lined}
+use Rattle.lines.proofs.LineLaws.{line-there}
 use Rattle.sheet.specs.declared.State.{State}
 use Rattle.sheet.specs.declared.Step.{Step}
-use Rattle.sheet.specs.declared.reading.Operation.{Operation}
-use Rattle.sheet.specs.declared.reading.Event as events
-use Rattle.sheet.specs.declared.reading.Reading.{Reading}
 use Rattle.sheet.specs.declared.performing.Performed.{Performed}
-use Rattle.sheet.specs.Reading.{came, stoppedState, readAnswer, readPieces}
 use Rattle.sheet.specs.Performing.{performed, performedSlots}
-use Rattle.sheet.specs.Text.{Put}
-use Rattle.sheet.specs.Printing.{line}
-use Rattle.sheet.specs.Sheet.{longest, stopText, stepTo, eventText, eventState, eventSlots, text, after, stepAnswer, stepPieces, stepSlots, stepOut, CarriedOut, Stepped, ended, finishAnswer, finishOut, Finished}
+use Rattle.sheet.specs.Sheet.{stopText, stepTo, knowing, whatOf, eventText, eventState, eventSlots, text, after, stepAnswer, stepPieces, stepSlots, stepOut, Followed, Stepped, ended, finishAnswer, finishOut, Finished}
+use Rattle.sheet.proofs.SlotLaws.{eight-slots, slots-fit}
 
 -- room for a line
 module _ (out : List ℕ) (at : ℕ) (b : Bool) (eb : b ≡ leb (at + longest) (length out)) where
@@ -33,65 +38,88 @@ module _ (out : List ℕ) (at : ℕ) (b : Bool) (eb : b ≡ leb (at + longest) (
     pub line-fits : at + longest ≤ length out
     line-fits = leb-true _ _ roomy
 
-    pub stop-fits : at + length stopText ≤ length out
-    stop-fits = omega (arith, line-fits)
+-- the text that says that the sheet stops
+pub stop-put : (out : List ℕ) (at to : ℕ) (out′ : List ℕ) → at + longest ≤ length out → to ≡ appendEnd (length out) at stopText
+    → out′ ≡ appended out at stopText → Put out at stopText to out′
+unfolding appendEnd appended
+stop-put out at to out′ h et eo =
+    let fits : at + length stopText ≤ length out = omega arith in
+    let f = le-leb (at + length stopText) (length out) fits in
+    record { ends = rw f at et; put = rw f at eo ∙ sym (put-fits out at stopText fits); fits = fits }
+
+-- ---- how a line starts
+
+module _ (operation : operations.Operation) where
+  pub what-fresh : (abi : ℕ) → operation ≡ operations.the-variants.Fresh abi → whats.the-variants.Fresh ≡ whatOf operation
+  unfolding whatOf
+  what-fresh abi e = rw e
+
+  pub what-mark : operation ≡ operations.the-variants.Mark → whats.the-variants.Mark ≡ whatOf operation
+  unfolding whatOf
+  what-mark e = rw e
+
+  module _ (arg : Arg) where
+    pub what-return : operation ≡ operations.the-variants.Return arg → whats.the-variants.Value ≡ whatOf operation
+    unfolding whatOf
+    what-return e = rw e
+
+    pub what-argument : operation ≡ operations.the-variants.Argument arg → whats.the-variants.Value ≡ whatOf operation
+    unfolding whatOf
+    what-argument e = rw e
+
+    pub what-dots : operation ≡ operations.the-variants.AfterDots arg → whats.the-variants.Value ≡ whatOf operation
+    unfolding whatOf
+    what-dots e = rw e
+
+-- ---- an event
+
+module _ (s : State) (ev : events.Event) (ps slots out : List ℕ) (at : ℕ) (room : at + longest ≤ length out) where
+  pub more-followed : ev ≡ events.the-variants.More → Followed s ev ps slots out at (stepTo s at) slots out
+  unfolding eventState eventText eventSlots
+  more-followed e =
+      let z : at ≡ at + 0 = omega arith in
+      record { answers = rw e (ap (stepTo s) z); slots-left = rw e; text-left = rw e (sym (put-none out at (omega arith))) }
+
+  pub stop-followed : ev ≡ events.the-variants.Stop → (to : ℕ) (out′ : List ℕ) → Put out at stopText to out′
+      → Followed s ev ps slots out at (stepTo s to) slots out′
+  unfolding eventState eventText eventSlots
+  stop-followed e to out′ y = record { answers = rw e (ap (stepTo s) (y .ends)); slots-left = rw e; text-left = rw e (y .put) }
+
+  pub ready-followed : (op : operations.Operation) → ev ≡ events.the-variants.Ready op → (answer : Step) (slots′ out′ : List ℕ)
+      → Followed s (events.the-variants.Ready op) ps slots out at answer slots′ out′ → Followed s ev ps slots out at answer slots′ out′
+  ready-followed op e answer slots′ out′ y = rw e y
+
+pub carried-out : (s : State) (op : operations.Operation) (ps slots out : List ℕ) (at : ℕ) → at + longest ≤ length out
+    → (x : Performed) → x ≡ performed s op ps slots
+    → (slots′ : List ℕ) → slots′ ≡ performedSlots s op ps slots → length slots′ ≡ length slots → (what : whats.What) → what ≡ whatOf op
+    → (to : ℕ) (out′ : List ℕ) → Lined what (x .answer) slots′ out at to out′
+    → Followed s (events.the-variants.Ready op) ps slots out at (stepTo (x .next) to) slots′ out′
+unfolding eventState eventText eventSlots
+carried-out s op ps slots out at room x ex slots′ es same what ew to out′ l =
+    let y : Put out at (line what (x .answer) slots′) to out′ =
+    line-there what (x .answer) slots′ out at to out′ l room (rw ex (eight-slots s op ps slots)) (rw (ex, same) (slots-fit s op ps slots)) in
+    record { answers = rw (y .ends, ex, es, ew); slots-left = es; text-left = y .put ∙ rw (ex, es, ew) }
 
 -- ---- a step
 
-module _ (s : State) (bs ps slots out : List ℕ) (at : ℕ) where
-  -- what is left, by what came of the record
-  left-by : (n : State) (ev : events.Event) → readAnswer s bs (length ps) ≡ came n ev → leb (at + longest) (length out) ≡ true
-      → (answer : Step) (ps′ slots′ out′ : List ℕ) → ps′ ≡ readPieces s bs ps
-      → answer ≡ stepTo (eventState n ev ps′ slots) (at + length (eventText n ev ps′ slots)) → slots′ ≡ eventSlots n ev ps′ slots
-      → out′ ≡ putAt out at (eventText n ev ps′ slots) → Stepped s bs ps slots out at answer ps′ slots′ out′
+module _ (s : State) (bs ps slots out : List ℕ) (at : ℕ) (b : Bool) (eb : b ≡ leb (at + longest) (length out)) where
+  pub step-roomless : not b ≡ true → Stepped s bs ps slots out at (stepTo s at) ps slots out
+  unfolding stepAnswer stepPieces stepSlots stepOut
+  step-roomless t =
+      let f = roomless out at b eb t in record { answers = rw f; pieces-left = rw f; slots-left = rw f; text-left = rw f }
+
+  pub step-followed : not b ≡ false → (x : Reading) → x ≡ readAnswer (s .reader) bs (length ps)
+      → (ps′ : List ℕ) → ps′ ≡ readPieces (s .reader) bs ps → (answer : Step) (slots′ out′ : List ℕ)
+      → Followed (knowing s (x .next)) (x .event) ps′ slots out at answer slots′ out′ → Stepped s bs ps slots out at answer ps′ slots′ out′
   unfolding stepAnswer stepPieces stepSlots stepOut text after
-  left-by n ev er room answer ps′ slots′ out′ ep ea es eo =
+  step-followed t x ex ps′ ep answer slots′ out′ y =
+      let f = roomy out at b eb t in
       record {
-        answers = rw (ea, room, er, ep);
-        pieces-left = rw (room, ep);
-        slots-left = rw (es, room, er, ep);
-        text-left = rw (eo, room, er, ep);
+        answers = rw (y .answers, f, ex, ep);
+        pieces-left = rw (f, ep);
+        slots-left = rw (y .slots-left, f, ex, ep);
+        text-left = rw (y .text-left, f, ex, ep);
       }
-
-  module _ (b : Bool) (eb : b ≡ leb (at + longest) (length out)) where
-    pub step-roomless : not b ≡ true → Stepped s bs ps slots out at (stepTo s at) ps slots out
-    unfolding stepAnswer stepPieces stepSlots stepOut
-    step-roomless t =
-        let f = roomless out at b eb t in record { answers = rw f; pieces-left = rw f; slots-left = rw f; text-left = rw f }
-
-    module _ (t : not b ≡ false) (x : Reading) (ex : x ≡ readAnswer s bs (length ps)) (ps′ : List ℕ) (ep : ps′ ≡ readPieces s bs ps) where
-      reads : (ev : events.Event) → x .event ≡ ev → readAnswer s bs (length ps) ≡ came (x .next) ev
-      reads ev e = sym ex ∙ ap (λ (v : events.Event). came (x .next) v) e
-
-      pub step-more : x .event ≡ events.the-variants.More → Stepped s bs ps slots out at (stepTo (x .next) at) ps′ slots out
-      unfolding eventState eventText eventSlots
-      step-more e =
-          let room : at + longest ≤ length out = line-fits out at b eb t in
-          let z : at ≡ at + 0 = omega arith in
-          left-by (x .next) events.the-variants.More (reads _ e) (roomy out at b eb t) (stepTo (x .next) at) ps′ slots out ep
-          (ap (stepTo (x .next)) z) refl (sym (put-none out at (omega arith)))
-
-      pub step-stop : x .event ≡ events.the-variants.Stop → (to : ℕ) (out′ : List ℕ) → Put out at stopText to out′
-          → Stepped s bs ps slots out at (stepTo (x .next) to) ps′ slots out′
-      unfolding eventState eventText eventSlots
-      step-stop e to out′ y =
-          left-by (x .next) events.the-variants.Stop (reads _ e) (roomy out at b eb t) (stepTo (x .next) to) ps′ slots out′ ep
-          (ap (stepTo (x .next)) (y .ends)) refl (y .put)
-
-      pub step-ready : (op : Operation) → x .event ≡ events.the-variants.Ready op → (answer : Step) (slots′ out′ : List ℕ)
-          → CarriedOut (x .next) op ps′ slots out at answer slots′ out′ → Stepped s bs ps slots out at answer ps′ slots′ out′
-      step-ready op e answer slots′ out′ y =
-          left-by (x .next) (events.the-variants.Ready op) (reads _ e) (roomy out at b eb t) answer ps′ slots′ out′ ep
-          (y .answers) (y .slots-left) (y .text-left)
-
--- ---- an operation that is ready
-
-pub carried-out : (s : State) (op : Operation) (ps slots out : List ℕ) (at : ℕ) (x : Performed) → x ≡ performed s op ps slots
-    → (slots′ : List ℕ) → slots′ ≡ performedSlots s op ps slots → (to : ℕ) (out′ : List ℕ)
-    → Put out at (line op (x .answer) slots′) to out′ → CarriedOut s op ps slots out at (stepTo (x .next) to) slots′ out′
-unfolding eventState eventText eventSlots
-carried-out s op ps slots out at x ex slots′ es to out′ y =
-    record { answers = rw (y .ends, ex, es); slots-left = es; text-left = y .put ∙ rw (ex, es) }
 
 -- ---- the end
 
@@ -101,7 +129,7 @@ module _ (s : State) (out : List ℕ) (at : ℕ) (b : Bool) (eb : b ≡ leb (at 
   finish-roomless t = let f = roomless out at b eb t in record { answers = rw f; text-left = rw f }
 
   module _ (t : not b ≡ false) where
-    pub finish-nothing : s .stopped || eqb (s .due .pieces) 0 ≡ true → Finished s out at (stepTo s at) out
+    pub finish-nothing : s .reader .stopped || eqb (s .reader .due .pieces) 0 ≡ true → Finished s out at (stepTo s at) out
     unfolding finishAnswer finishOut ended
     finish-nothing u =
         let f = roomy out at b eb t in
@@ -109,8 +137,8 @@ module _ (s : State) (out : List ℕ) (at : ℕ) (b : Bool) (eb : b ≡ leb (at 
         let z : at ≡ at + 0 = omega arith in
         record { answers = rw (f, u) (ap (stepTo s) z); text-left = rw (f, u) (sym (put-none out at (omega arith))) }
 
-    pub finish-missing : s .stopped || eqb (s .due .pieces) 0 ≡ false → (n : State) → n ≡ stoppedState s → (to : ℕ) (out′ : List ℕ)
-        → Put out at stopText to out′ → Finished s out at (stepTo n to) out′
+    pub finish-missing : s .reader .stopped || eqb (s .reader .due .pieces) 0 ≡ false → (r : Reader) → r ≡ stoppedReader (s .reader)
+        → (to : ℕ) (out′ : List ℕ) → Put out at stopText to out′ → Finished s out at (stepTo (knowing s r) to) out′
     unfolding finishAnswer finishOut ended
-    finish-missing u n en to out′ y =
-        let f = roomy out at b eb t in record { answers = rw (y .ends, en, f, u); text-left = rw (y .put, f, u) }
+    finish-missing u r er to out′ y =
+        let f = roomy out at b eb t in record { answers = rw (y .ends, er, f, u); text-left = rw (y .put, f, u) }

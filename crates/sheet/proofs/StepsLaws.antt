@@ -8,19 +8,16 @@ use borrow.Author.Tests.{le-leb, leb-true}
 use lib.Dec.{leb}
 use lib.ListN.{length, take, drop, length-drop}
 use lib.Seq.{drop-drop}
+use Rattle.reading.specs.Records.{recordSize}
+use Rattle.lines.specs.Text.{Put}
+use Rattle.lines.specs.Printing.{longest}
+use Rattle.lines.proofs.RoomLaws.{both-true}
+use Rattle.lines.proofs.TextLaws.{put-then, put-nothing}
+use Rattle.lines.proofs.PrintingLaws.{Goes, goes-first}
 use Rattle.sheet.specs.declared.State.{State}
 use Rattle.sheet.specs.declared.Step.{Step}
-use Rattle.sheet.specs.Records.{recordSize}
-use Rattle.sheet.specs.Text.{Put}
-use Rattle.sheet.specs.Sheet.{Between, between, longest, stepTo, text, after, stepAnswer, stepPieces, stepSlots, stepOut, Stepped, texts, afterAll, recordsIn, whole, taken, takenOf, stepsAnswer, stepsPieces, stepsSlots, stepsOut, Taken}
-use Rattle.sheet.proofs.TextLaws.{put-then, put-nothing}
-use Rattle.sheet.proofs.PrintingLaws.{Goes, goes-first}
+use Rattle.sheet.specs.Sheet.{Between, between, stepTo, text, after, stepAnswer, stepPieces, stepSlots, stepOut, Stepped, texts, afterAll, recordsIn, whole, taken, takenOf, stepsAnswer, stepsPieces, stepsSlots, stepsOut, Taken}
 use Rattle.sheet.proofs.BoundLaws.{text-bound}
-
-both-true : (a b : Bool) → a && b ≡ true → (a ≡ true) × (b ≡ true)
-both-true true true e = (refl, refl)
-both-true true false e = (refl, e)
-both-true false b e = (e, cc)
 
 -- a record that goes on ends inside the input
 pub end-inside : (n used at room : ℕ) (g : Bool) → g ≡ leb recordSize (n - used) && leb (at + longest) room → g ≡ true → used ≤ n

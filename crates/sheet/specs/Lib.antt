@@ -1,6 +1,2 @@
-pub mod Records
-pub mod Reading
 pub mod Performing
-pub mod Text
-pub mod Printing
 pub mod Sheet

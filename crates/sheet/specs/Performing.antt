@@ -8,13 +8,14 @@ use Rattle.shape.specs.Numbers.{accepted}
 use Rattle.classify.specs.declared.Call.{Call}
 use Rattle.classify.specs.declared.Answer.{Answer}
 use Rattle.classify.specs.Answers.{freshAnswer, variadicAnswer, returnsAnswer, returnsWritten, argumentAnswer, argumentWritten, dotsAnswer, dotsWritten}
+use Rattle.reading.specs.declared.Reader.{Reader}
+use Rattle.reading.specs.declared.Operation as operations
 use Rattle.sheet.specs.declared.State.{State}
-use Rattle.sheet.specs.declared.reading.Operation as operations
 use Rattle.sheet.specs.declared.performing.Performed.{Performed}
 
 -- the words of the pieces that were read
-abbrev pub wordsRead : State → List ℕ → List ℕ
-wordsRead s ps = take (s .due .words) ps
+abbrev pub wordsRead : Reader → List ℕ → List ℕ
+wordsRead r ps = take (r .due .words) ps
 
 unfoldable pub answerOf : Call → operations.Operation → List ℕ → List ℕ → Answer
 answerOf c (operations.the-variants.Fresh abi) ws slots = freshAnswer abi
@@ -32,21 +33,28 @@ slotsAfter c (operations.the-variants.Argument arg) ws slots = argumentWritten c
 slotsAfter c (operations.the-variants.AfterDots arg) ws slots = dotsWritten c arg ws slots
 
 -- a fresh call takes the place of the open one, and a refused one closes it; any other operation leaves the call open, refused or not
-unfoldable pub openAfter : State → operations.Operation → Answer → Bool
-openAfter s (operations.the-variants.Fresh abi) answer = eqb (answer .outcome .refusal) accepted
-openAfter s operations.the-variants.Mark answer = s .opened
-openAfter s (operations.the-variants.Return arg) answer = s .opened
-openAfter s (operations.the-variants.Argument arg) answer = s .opened
-openAfter s (operations.the-variants.AfterDots arg) answer = s .opened
+unfoldable pub openAfter : Bool → operations.Operation → ℕ → Bool
+openAfter opened (operations.the-variants.Fresh abi) refusal = eqb refusal accepted
+openAfter opened operations.the-variants.Mark refusal = opened
+openAfter opened (operations.the-variants.Return arg) refusal = opened
+openAfter opened (operations.the-variants.Argument arg) refusal = opened
+openAfter opened (operations.the-variants.AfterDots arg) refusal = opened
 
-abbrev pub followed : State → Bool → Answer → Performed
-followed s opened answer =
-    record { next = record { call = answer .next; opened = opened; stopped = s .stopped; due = s .due }; answer = answer }
+abbrev pub followed : Reader → Bool → Answer → Performed
+followed r opened answer =
+    record {
+      next = record { call = answer .next; reader = record { opened = opened; stopped = r .stopped; due = r .due } };
+      answer = answer;
+    }
+
+-- the operation on the open call, with the words that were read
+abbrev pub answerIn : State → operations.Operation → List ℕ → List ℕ → Answer
+answerIn s operation ps slots = answerOf (s .call) operation (wordsRead (s .reader) ps) slots
 
 unfoldable pub performed : State → operations.Operation → List ℕ → List ℕ → Performed
 performed s operation ps slots =
-    followed s (openAfter s operation (answerOf (s .call) operation (wordsRead s ps) slots))
-    (answerOf (s .call) operation (wordsRead s ps) slots)
+    followed (s .reader) (openAfter (s .reader .opened) operation (answerIn s operation ps slots .outcome .refusal))
+    (answerIn s operation ps slots)
 
 unfoldable pub performedSlots : State → operations.Operation → List ℕ → List ℕ → List ℕ
-performedSlots s operation ps slots = slotsAfter (s .call) operation (wordsRead s ps) slots
+performedSlots s operation ps slots = slotsAfter (s .call) operation (wordsRead (s .reader) ps) slots

@@ -9,16 +9,18 @@ use Rattle.slots.specs.Words.{putAt}
 use Rattle.text.specs.Text.{bytes}
 use Rattle.classify.specs.Answers.{callOf}
 use Rattle.classify.specs.Classify.{leaves}
+use Rattle.reading.specs.declared.Reader.{Reader}
+use Rattle.reading.specs.declared.Operation as operations
+use Rattle.reading.specs.declared.Event as events
+use Rattle.reading.specs.declared.Reading.{Reading}
+use Rattle.reading.specs.Records.{recordSize}
+use Rattle.reading.specs.Reading.{readAnswer, readPieces, startedReader, stoppedReader}
+use Rattle.lines.specs.declared.What as whats
+use Rattle.lines.specs.Printing.{line, newline, longest}
 use Rattle.sheet.specs.declared.State.{State}
 use Rattle.sheet.specs.declared.Step.{Step}
 use Rattle.sheet.specs.declared.Steps.{Steps}
-use Rattle.sheet.specs.declared.reading.Operation.{Operation}
-use Rattle.sheet.specs.declared.reading.Event as events
-use Rattle.sheet.specs.declared.reading.Reading.{Reading}
-use Rattle.sheet.specs.Records.{recordSize}
-use Rattle.sheet.specs.Reading.{readAnswer, readPieces, stoppedState, nothingDue}
 use Rattle.sheet.specs.Performing.{performed, performedSlots}
-use Rattle.sheet.specs.Printing.{line, newline}
 
 -- ---- between two records
 
@@ -30,7 +32,11 @@ pub record Between : Type 0 where
 
 -- before the first record no call is open and no piece is due
 abbrev pub started : State
-started = record { call = callOf 0 (leaves 0 0 false); opened = false; stopped = false; due = nothingDue }
+started = record { call = callOf 0 (leaves 0 0 false); reader = startedReader }
+
+-- the state with what the reader knows now
+abbrev pub knowing : State → Reader → State
+knowing s r = record { call = s .call; reader = r }
 
 abbrev pub stepTo : State → ℕ → Step
 stepTo s at = record { next = s; at = at }
@@ -40,12 +46,20 @@ stepTo s at = record { next = s; at = at }
 abbrev pub stopText : List ℕ
 stopText = bytes "stop" ++ (newline ∷ [])
 
+-- how the line of an operation starts: by what it is, or by the way of its value
+unfoldable pub whatOf : operations.Operation → whats.What
+whatOf (operations.the-variants.Fresh abi) = whats.the-variants.Fresh
+whatOf operations.the-variants.Mark = whats.the-variants.Mark
+whatOf (operations.the-variants.Return arg) = whats.the-variants.Value
+whatOf (operations.the-variants.Argument arg) = whats.the-variants.Value
+whatOf (operations.the-variants.AfterDots arg) = whats.the-variants.Value
+
 -- the line of an event: an operation that isn't whole yet has none
 unfoldable pub eventText : State → events.Event → List ℕ → List ℕ → List ℕ
 eventText s events.the-variants.More ps slots = []
 eventText s events.the-variants.Stop ps slots = stopText
 eventText s (events.the-variants.Ready operation) ps slots =
-    line operation (performed s operation ps slots .answer) (performedSlots s operation ps slots)
+    line (whatOf operation) (performed s operation ps slots .answer) (performedSlots s operation ps slots)
 
 unfoldable pub eventState : State → events.Event → List ℕ → List ℕ → State
 eventState s events.the-variants.More ps slots = s
@@ -57,35 +71,38 @@ eventSlots s events.the-variants.More ps slots = slots
 eventSlots s events.the-variants.Stop ps slots = slots
 eventSlots s (events.the-variants.Ready operation) ps slots = performedSlots s operation ps slots
 
--- all that an operation that is ready leaves: the state and the end of its line, the slots and the text
-pub record CarriedOut (s : State) (operation : Operation) (ps slots out : List ℕ) (at : ℕ) (answer : Step) (slots′ out′ : List ℕ) : Type 0 where
-  pub answers : answer ≡ stepTo (eventState s (events.the-variants.Ready operation) ps slots) (at + length (eventText s (events.the-variants.Ready operation) ps slots))
-  pub slots-left : slots′ ≡ eventSlots s (events.the-variants.Ready operation) ps slots
-  pub text-left : out′ ≡ putAt out at (eventText s (events.the-variants.Ready operation) ps slots)
+-- all that an event leaves: the state and the end of its line, the slots and the text
+pub record Followed (s : State) (ev : events.Event) (ps slots out : List ℕ) (at : ℕ) (answer : Step) (slots′ out′ : List ℕ) : Type 0 where
+  pub answers : answer ≡ stepTo (eventState s ev ps slots) (at + length (eventText s ev ps slots))
+  pub slots-left : slots′ ≡ eventSlots s ev ps slots
+  pub text-left : out′ ≡ putAt out at (eventText s ev ps slots)
+
+abbrev pub CarriedOut : State → operations.Operation → List ℕ → List ℕ → List ℕ → ℕ → Step → List ℕ → List ℕ → Type 0
+CarriedOut s operation ps slots out at answer slots′ out′ = Followed s (events.the-variants.Ready operation) ps slots out at answer slots′ out′
 
 abbrev pub readingOf : Between → List ℕ → Reading
-readingOf b bytes = readAnswer (b .state) bytes (length (b .pieces))
+readingOf b bytes = readAnswer (b .state .reader) bytes (length (b .pieces))
 
 abbrev pub piecesOf : Between → List ℕ → List ℕ
-piecesOf b bytes = readPieces (b .state) bytes (b .pieces)
+piecesOf b bytes = readPieces (b .state .reader) bytes (b .pieces)
+
+-- the state in which the event is followed
+abbrev pub stateOf : Between → List ℕ → State
+stateOf b bytes = knowing (b .state) (readingOf b bytes .next)
 
 -- the text of a record, and what stands behind it
 unfoldable pub text : Between → List ℕ → List ℕ
-text b bytes = eventText (readingOf b bytes .next) (readingOf b bytes .event) (piecesOf b bytes) (b .slots)
+text b bytes = eventText (stateOf b bytes) (readingOf b bytes .event) (piecesOf b bytes) (b .slots)
 
 unfoldable pub after : Between → List ℕ → Between
 after b bytes =
     record {
-      state = eventState (readingOf b bytes .next) (readingOf b bytes .event) (piecesOf b bytes) (b .slots);
+      state = eventState (stateOf b bytes) (readingOf b bytes .event) (piecesOf b bytes) (b .slots);
       pieces = piecesOf b bytes;
-      slots = eventSlots (readingOf b bytes .next) (readingOf b bytes .event) (piecesOf b bytes) (b .slots);
+      slots = eventSlots (stateOf b bytes) (readingOf b bytes .event) (piecesOf b bytes) (b .slots);
     }
 
 -- ---- a step: nothing is done where the longest line has no room from `at` on
-
--- a way of 9 letters, six counts of a space and 20 digits, 24 words of slots likewise, and a newline
-abbrev pub longest : ℕ
-longest = 640
 
 abbrev pub between : State → List ℕ → List ℕ → Between
 between s ps slots = record { state = s; pieces = ps; slots = slots }
@@ -117,13 +134,13 @@ pub record Stepped (s : State) (bytes ps slots out : List ℕ) (at : ℕ) (answe
 
 -- a piece that is still due is missing
 unfoldable pub ended : State → Bool
-ended s = s .stopped || eqb (s .due .pieces) 0
+ended s = s .reader .stopped || eqb (s .reader .due .pieces) 0
 
 abbrev pub finishText : State → List ℕ
 finishText s = cond (ended s) [] stopText
 
 abbrev pub finishState : State → State
-finishState s = cond (ended s) s (stoppedState s)
+finishState s = cond (ended s) s (knowing s (stoppedReader (s .reader)))
 
 unfoldable pub finishAnswer : State → ℕ → ℕ → Step
 finishAnswer s room at =

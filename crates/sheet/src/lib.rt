@@ -1,51 +1,34 @@
-// A sheet, record by record (docs/REFERENCE.md, 11): records of 48 bytes in, a line for each operation out. Reading a record, performing the
-// operation that it completes and printing the line are separate parts. What stands between two records is a small value; the pieces of an
-// aggregate that is being read stand in a lent buffer.
+// A sheet, record by record (docs/REFERENCE.md, 11): records of 48 bytes in, a line for each operation out. The crate reading has what comes
+// of a record and lines how an operation is printed; here the operation is performed in between, and records follow one another. What stands
+// between two records is a small value; the pieces of an aggregate that is being read stand in a lent buffer.
 mod performing;
-mod printing;
-mod reading;
-mod records;
-mod writing;
 
 use classify::Call;
+use lines::What;
+use lines::has_room;
 use performing::perform;
-use printing::print;
 use reading::Event;
 use reading::Operation;
-use reading::read;
-use records::RECORD;
-use shape::Shape;
-use writing::put_text;
+use reading::RECORD;
+use reading::Reader;
 ghost use mathlib.Core.Path.{_≡_};
 ghost use Prim.Native.Nat.{_+_, _≤_};
 ghost use mathlib.Core.Bool.{_&&_};
 ghost use lib.Dec.{leb};
 ghost use lib.ListN.{length};
-ghost use Rattle.sheet.specs.Reading.{nothingDue};
-ghost use Rattle.sheet.specs.Sheet.{started, longest, CarriedOut, Stepped, Taken, Finished};
+ghost use Rattle.lines.specs.Text.{Put};
+ghost use Rattle.lines.specs.Printing.{longest};
+ghost use Rattle.sheet.specs.Sheet.{started, stopText, whatOf, Followed, CarriedOut, Stepped, Taken, Finished};
 
 // Words that hold the most pieces of an aggregate, and those that hold the most slots of an answer.
 pub const PIECES: usize = 4096;
 
 pub const SLOTS: usize = 24;
 
-// No line is longer: a way of 9 letters, six counts of a space and 20 digits, 24 words of slots likewise, and a newline.
-pub const LONGEST: usize = 640;
-
-// What is known between two records: the call and whether it is open, whether the sheet has stopped, and the aggregate whose pieces are due.
+// What is known between two records: the call, and what the reader knows.
 pub struct State {
     pub call: Call,
-    pub opened: bool,
-    pub stopped: bool,
-    pub due: Due,
-}
-
-// An aggregate that is being read: the first word of its operation, its shape, how many pieces are still due, and the words of those read.
-pub struct Due {
-    pub first: u64,
-    pub shape: Shape,
-    pub pieces: u64,
-    pub words: usize,
+    pub reader: Reader,
 }
 
 // The next state, and where the text ends now.
@@ -73,9 +56,7 @@ impl State {
                 float: 0,
                 integers_only: false,
             },
-            opened: false,
-            stopped: false,
-            due: nothing_due(),
+            reader: Reader::start(),
         }
     }
 
@@ -94,17 +75,12 @@ impl State {
         if !has_room(out.len(), at) {
             return Step { next: self, at };
         }
-        let reading = read(self, bytes, pieces);
-        let next = reading.next;
+        let call = self.call;
+        let before = self.reader;
+        let reading = before.read(bytes, pieces);
+        let reader = reading.next;
         let event = reading.event;
-        match event {
-            Event::More => Step { next, at },
-            Event::Stop => {
-                let to = put_text(out, at, b"stop\n");
-                Step { next, at: to }
-            }
-            Event::Ready(operation) => carry_out(next, operation, pieces, slots, out, at),
-        }
+        follow(State { call, reader }, event, pieces, slots, out, at)
     }
 
     // Takes the whole records at the front of the input, one after the other, and writes their lines from the front of the text on, as long as
@@ -137,13 +113,43 @@ impl State {
         if !has_room(out.len(), at) {
             return Step { next: self, at };
         }
-        let due = self.due;
-        if self.stopped | (due.pieces == 0) {
+        let reader = self.reader;
+        let due = reader.due;
+        if reader.stopped | (due.pieces == 0) {
             return Step { next: self, at };
         }
-        let next = reading::stopped(self);
-        let to = put_text(out, at, b"stop\n");
+        let call = self.call;
+        let next = State {
+            call,
+            reader: reader.stop(),
+        };
+        let to = put_stop(out, at);
         Step { next, at: to }
+    }
+}
+
+// Does what came of a record: performs and prints an operation that is ready, or prints that the sheet stops.
+fn follow(
+    state: State,
+    event: Event,
+    pieces: &[u64],
+    slots: &mut [u64],
+    out: &mut [u8],
+    at: usize,
+) -> Step
+    requires { ⌜ at + longest ≤ length (now out) ⌝ }
+    ensures { λ r. ⌜ Followed state event (now (pieces .entry)) (now (slots .entry)) (now (out .entry)) at r (now (slots .exit)) (now (out .exit)) ⌝ }
+{
+    match event {
+        Event::More => Step { next: state, at },
+        Event::Stop => {
+            let to = put_stop(out, at);
+            Step {
+                next: state,
+                at: to,
+            }
+        }
+        Event::Ready(operation) => carry_out(state, operation, pieces, slots, out, at),
     }
 }
 
@@ -162,8 +168,27 @@ fn carry_out(
     let performed = perform(state, operation, pieces, slots);
     let next = performed.next;
     let answer = performed.answer;
-    let to = print(operation, answer, slots, out, at);
+    let to = lines::put_line(what_of(operation), answer, slots, out, at);
     Step { next, at: to }
+}
+
+fn what_of(operation: Operation) -> What
+    ensures { λ r. ⌜ r ≡ whatOf operation ⌝ }
+{
+    match operation {
+        Operation::Fresh(_) => What::Fresh,
+        Operation::Mark => What::Mark,
+        Operation::Return(_) => What::Value,
+        Operation::Argument(_) => What::Value,
+        Operation::AfterDots(_) => What::Value,
+    }
+}
+
+fn put_stop(out: &mut [u8], at: usize) -> usize
+    requires { ⌜ at + longest ≤ length (now out) ⌝ }
+    ensures { λ r. ⌜ Put (now (out .entry)) at stopText r (now (out .exit)) ⌝ }
+{
+    text::append(out, at, b"stop\n")
 }
 
 // Whether a whole record is left and the longest line has room.
@@ -171,30 +196,4 @@ fn goes_on(left: usize, length: usize, at: usize) -> bool
     ensures { λ r. ⌜ r ≡ leb 48 left && leb (at + longest) length ⌝ }
 {
     (RECORD <= left) & has_room(length, at)
-}
-
-// Whether the longest line fits from a place on.
-fn has_room(length: usize, at: usize) -> bool
-    ensures { λ r. ⌜ r ≡ leb (at + longest) length ⌝ }
-{
-    if length < LONGEST {
-        return false;
-    }
-    at <= length - LONGEST
-}
-
-fn nothing_due() -> Due
-    ensures { λ r. ⌜ r ≡ nothingDue ⌝ }
-{
-    Due {
-        first: 0,
-        shape: Shape {
-            size: 0,
-            align: 0,
-            complex: false,
-            floating: false,
-        },
-        pieces: 0,
-        words: 0,
-    }
 }

@@ -1,18 +1,18 @@
 // An operation, performed on the open call.
 ghost use mathlib.Core.Path.{_≡_};
-ghost use lib.Dec.{eqb};
+ghost use lib.ListN.{take};
 ghost use Rattle.sheet.specs.Performing as spec;
 use crate::State;
-use crate::reading::Operation;
 use classify::Answer;
 use classify::Call;
+use reading::Operation;
+use reading::Reader;
 
 pub struct Performed {
     pub next: State,
     pub answer: Answer,
 }
 
-// A fresh call takes the place of the open one, and a refused one closes it. Any other operation leaves the call open, refused or not.
 pub(crate) fn perform(
     state: State,
     operation: Operation,
@@ -22,49 +22,62 @@ pub(crate) fn perform(
     ensures { λ r. ⌜ (r ≡ spec.performed state operation (now (pieces .entry)) (now (slots .entry))) × (now (slots .exit) ≡ spec.performedSlots state operation (now (pieces .entry)) (now (slots .entry))) ⌝ }
 {
     let call = state.call;
-    let words = words_of(state, pieces);
+    let reader = state.reader;
+    let due = reader.due;
+    let answer = answer_to(call, operation, words_of(due.words, pieces), slots);
+    let outcome = answer.outcome;
+    let opened = open_after(reader.opened, operation, outcome.refusal);
+    followed(reader, opened, answer)
+}
+
+fn answer_to(call: Call, operation: Operation, words: &[u64], slots: &mut [u64]) -> Answer
+    ensures { λ r. ⌜ (r ≡ spec.answerOf call operation (now (words .entry)) (now (slots .entry))) × (now (slots .exit) ≡ spec.slotsAfter call operation (now (words .entry)) (now (slots .entry))) ⌝ }
+{
     match operation {
-        Operation::Fresh(abi) => after_fresh(state, Call::fresh(abi)),
-        Operation::Mark => followed(state, state.opened, call.variadic()),
-        Operation::Return(arg) => followed(state, state.opened, call.returns(arg, words, slots)),
-        Operation::Argument(arg) => followed(state, state.opened, call.argument(arg, words, slots)),
-        Operation::AfterDots(arg) => followed(
-            state,
-            state.opened,
-            call.variadic_argument(arg, words, slots),
-        ),
+        Operation::Fresh(abi) => Call::fresh(abi),
+        Operation::Mark => call.variadic(),
+        Operation::Return(arg) => call.returns(arg, words, slots),
+        Operation::Argument(arg) => call.argument(arg, words, slots),
+        Operation::AfterDots(arg) => call.variadic_argument(arg, words, slots),
     }
 }
 
-fn words_of(state: State, pieces: &[u64]) -> &[u64]
-    ensures { λ r. ⌜ now r ≡ spec.wordsRead state (now (pieces .entry)) ⌝ }
+// A fresh call takes the place of the open one, and a refused one closes it. Any other operation leaves the call open, refused or not.
+fn open_after(opened: bool, operation: Operation, refusal: u64) -> bool
+    ensures { λ r. ⌜ r ≡ spec.openAfter opened operation refusal ⌝ }
 {
-    let due = state.due;
-    let n = due.words;
+    match operation {
+        Operation::Fresh(_) => refusal == shape::ACCEPTED,
+        Operation::Mark => opened,
+        Operation::Return(_) => opened,
+        Operation::Argument(_) => opened,
+        Operation::AfterDots(_) => opened,
+    }
+}
+
+// The first so many words, or all where there are fewer.
+fn words_of(n: usize, pieces: &[u64]) -> &[u64]
+    ensures { λ r. ⌜ now r ≡ take n (now (pieces .entry)) ⌝ }
+{
     if n < pieces.len() {
         return &pieces[..n];
     }
     pieces
 }
 
-fn after_fresh(state: State, answer: Answer) -> Performed
-    ensures { λ r. ⌜ r ≡ spec.followed state (eqb (answer .outcome .refusal) 0) answer ⌝ }
-{
-    let outcome = answer.outcome;
-    followed(state, outcome.refusal == shape::ACCEPTED, answer)
-}
-
-fn followed(state: State, opened: bool, answer: Answer) -> Performed
-    ensures { λ r. ⌜ r ≡ spec.followed state opened answer ⌝ }
+fn followed(reader: Reader, opened: bool, answer: Answer) -> Performed
+    ensures { λ r. ⌜ r ≡ spec.followed reader opened answer ⌝ }
 {
     let call = answer.next;
-    let due = state.due;
+    let due = reader.due;
     Performed {
         next: State {
             call,
-            opened,
-            stopped: state.stopped,
-            due,
+            reader: Reader {
+                opened,
+                stopped: reader.stopped,
+                due,
+            },
         },
         answer,
     }

@@ -1,6 +1,5 @@
 -- `carry_out` performs an operation and prints its line. Assumes nothing.
 use Rattle.sheet.proofs.StepLaws.{carried-out}
-use Rattle.sheet.proofs.SlotLaws.{performed-eight, performed-fit}
 use borrow.Author.Needs.{needs}
 use Rattle.sheet.proofs.carry_out.Statement.{statement}
 use Rattle.sheet.proofs.carry_out.Tie as tie
@@ -8,8 +7,11 @@ use Rattle.sheet.proofs.carry_out.Tie as tie
 perform-requires : tie.Need-perform-requires
 perform-requires c κs = search needs
 
-print-requires : tie.Need-print-requires
-print-requires c κs = (search needs, search (performed-eight), search (performed-fit))
+what-of-requires : tie.Need-what-of-requires
+what-of-requires c κs = search needs
+
+put-line-requires : tie.Need-put-line-requires
+put-line-requires c κs = search needs
 
 same-length : tie.Need-same-length
 same-length c = search needs
@@ -21,4 +23,5 @@ returns : tie.Need-returns
 returns c = search (carried-out)
 
 pub carry-out-spec : {M : Type 1} → statement M
-carry-out-spec = tie.close (tie.spec perform-requires print-requires same-length same-length-2 returns)
+carry-out-spec =
+    tie.close (tie.spec perform-requires what-of-requires put-line-requires same-length same-length-2 returns)

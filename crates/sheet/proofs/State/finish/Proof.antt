@@ -1,5 +1,5 @@
 -- `finish` stops where a piece is still due. Assumes nothing.
-use Rattle.sheet.proofs.StepLaws.{finish-roomless, finish-nothing, finish-missing, stop-fits}
+use Rattle.sheet.proofs.StepLaws.{finish-roomless, finish-nothing, finish-missing, line-fits}
 use borrow.Author.Needs.{needs}
 use Rattle.sheet.proofs.State.finish.Statement.{statement}
 use Rattle.sheet.proofs.State.finish.Tie as tie
@@ -13,14 +13,11 @@ returns c = search (finish-roomless)
 returns-2 : tie.Need-returns-2
 returns-2 c = search (finish-nothing)
 
-stopped-requires : tie.Need-stopped-requires
-stopped-requires c κs = search needs
+stop-requires : tie.Need-stop-requires
+stop-requires c κs = search needs
 
-slice-aggregate-put-text : tie.Need-slice-aggregate-put-text
-slice-aggregate-put-text c = search needs
-
-put-text-requires : tie.Need-put-text-requires
-put-text-requires c κs = search (stop-fits)
+put-stop-requires : tie.Need-put-stop-requires
+put-stop-requires c κs = search (line-fits)
 
 same-length : tie.Need-same-length
 same-length c = search needs
@@ -35,8 +32,7 @@ finish-spec =
     has-room-requires
     returns
     returns-2
-    stopped-requires
-    slice-aggregate-put-text
-    put-text-requires
+    stop-requires
+    put-stop-requires
     same-length
     returns-3)

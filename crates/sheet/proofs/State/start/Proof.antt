@@ -3,11 +3,11 @@ use borrow.Author.Needs.{needs}
 use Rattle.sheet.proofs.State.start.Statement.{statement}
 use Rattle.sheet.proofs.State.start.Tie as tie
 
-nothing-due-requires : tie.Need-nothing-due-requires
-nothing-due-requires c κs = search needs
+start-requires : tie.Need-start-requires
+start-requires c κs = search needs
 
 returns : tie.Need-returns
-returns c = rw (c .nothing-due .ensures)
+returns c = rw (c .start .ensures)
 
 pub start-spec : {M : Type 1} → statement M
-start-spec = tie.close (tie.spec nothing-due-requires returns)
+start-spec = tie.close (tie.spec start-requires returns)

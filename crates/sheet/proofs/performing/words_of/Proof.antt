@@ -1,8 +1,8 @@
 -- `words_of` lends the words of the pieces that were read. Assumes nothing.
 use mathlib.Core.Path.{sym}
 use lib.Seq.{length-take-le}
-use Rattle.sheet.proofs.PerformingLaws.{words-all}
 use native.Mathlib.Omega.{arith}
+use Rattle.sheet.proofs.PerformingLaws.{words-all}
 use borrow.Author.Needs.{needs}
 use Rattle.sheet.proofs.performing.words_of.Statement.{statement}
 use Rattle.sheet.proofs.performing.words_of.Tie as tie

@@ -1,0 +1,111 @@
+-- `put_way` puts a way in lower case. Assumes nothing.
+use Rattle.lines.proofs.PrintingLaws.{way-ignore, way-direct, way-pieces, way-reference, way-memory}
+use native.Mathlib.Omega.{arith}
+use borrow.Author.Needs.{needs}
+use Rattle.lines.proofs.put_way.Statement.{statement}
+use Rattle.lines.proofs.put_way.Tie as tie
+
+enum-told : tie.Need-enum-told
+enum-told c = search needs
+
+slice-aggregate-put-text : tie.Need-slice-aggregate-put-text
+slice-aggregate-put-text c = search needs
+
+put-text-requires : tie.Need-put-text-requires
+put-text-requires c κs = search needs
+
+enum-told-2 : tie.Need-enum-told-2
+enum-told-2 c = search needs
+
+slice-aggregate-put-text-2 : tie.Need-slice-aggregate-put-text-2
+slice-aggregate-put-text-2 c = search needs
+
+put-text-requires-2 : tie.Need-put-text-requires-2
+put-text-requires-2 c κs = search needs
+
+enum-told-3 : tie.Need-enum-told-3
+enum-told-3 c = search needs
+
+slice-aggregate-put-text-3 : tie.Need-slice-aggregate-put-text-3
+slice-aggregate-put-text-3 c = search needs
+
+put-text-requires-3 : tie.Need-put-text-requires-3
+put-text-requires-3 c κs = search needs
+
+enum-told-4 : tie.Need-enum-told-4
+enum-told-4 c = search needs
+
+slice-aggregate-put-text-4 : tie.Need-slice-aggregate-put-text-4
+slice-aggregate-put-text-4 c = search needs
+
+put-text-requires-4 : tie.Need-put-text-requires-4
+put-text-requires-4 c κs = search needs
+
+enum-told-5 : tie.Need-enum-told-5
+enum-told-5 c = search needs
+
+slice-aggregate-put-text-5 : tie.Need-slice-aggregate-put-text-5
+slice-aggregate-put-text-5 c = search needs
+
+put-text-requires-5 : tie.Need-put-text-requires-5
+put-text-requires-5 c κs = search needs
+
+same-length : tie.Need-same-length
+same-length c = search needs
+
+returns : tie.Need-returns
+returns c = (search (way-ignore), omega arith)
+
+same-length-2 : tie.Need-same-length-2
+same-length-2 c = search needs
+
+returns-2 : tie.Need-returns-2
+returns-2 c = (search (way-direct), omega arith)
+
+same-length-3 : tie.Need-same-length-3
+same-length-3 c = search needs
+
+returns-3 : tie.Need-returns-3
+returns-3 c = (search (way-pieces), omega arith)
+
+same-length-4 : tie.Need-same-length-4
+same-length-4 c = search needs
+
+returns-4 : tie.Need-returns-4
+returns-4 c = (search (way-reference), omega arith)
+
+same-length-5 : tie.Need-same-length-5
+same-length-5 c = search needs
+
+returns-5 : tie.Need-returns-5
+returns-5 c = (search (way-memory), omega arith)
+
+pub put-way-spec : {M : Type 1} → statement M
+put-way-spec =
+    tie.close
+    (tie.spec
+    enum-told
+    slice-aggregate-put-text
+    put-text-requires
+    enum-told-2
+    slice-aggregate-put-text-2
+    put-text-requires-2
+    enum-told-3
+    slice-aggregate-put-text-3
+    put-text-requires-3
+    enum-told-4
+    slice-aggregate-put-text-4
+    put-text-requires-4
+    enum-told-5
+    slice-aggregate-put-text-5
+    put-text-requires-5
+    same-length
+    returns
+    same-length-2
+    returns-2
+    same-length-3
+    returns-3
+    same-length-4
+    returns-4
+    same-length-5
+    returns-5)

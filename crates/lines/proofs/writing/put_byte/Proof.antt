@@ -1,0 +1,21 @@
+-- `put_byte` stores a byte. Assumes nothing.
+use Rattle.lines.proofs.TextLaws.{put-one}
+use native.Mathlib.Omega.{arith}
+use borrow.Author.Needs.{needs}
+use Rattle.lines.proofs.writing.put_byte.Statement.{statement}
+use Rattle.lines.proofs.writing.put_byte.Tie as tie
+
+slice-write-out : tie.Need-slice-write-out
+slice-write-out c = search needs
+
+add-result : tie.Need-add-result
+add-result c = search needs
+
+same-length : tie.Need-same-length
+same-length c = search needs
+
+returns : tie.Need-returns
+returns c = put-one _ _ _ (omega arith)
+
+pub put-byte-spec : {M : Type 1} → statement M
+put-byte-spec = tie.close (tie.spec slice-write-out add-result same-length returns)
