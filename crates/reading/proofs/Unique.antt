@@ -5,6 +5,7 @@ use denote.Ref.{now}
 use Rattle.shape.proofs.OneAnswer.{OneAnswer, OneExit}
 use Rattle.reading.proofs.Reader.start.Reads as start
 use Rattle.reading.proofs.Reader.read.Reads as read
+use Rattle.reading.proofs.Reader.after.Reads as after
 use Rattle.reading.proofs.Reader.stop.Reads as stop
 
 start-decides : (κs : Lfts 0) → OneAnswer (start.Post κs)
@@ -15,6 +16,9 @@ read-decides κs a r q s t p p′ = p .0 ∙ sym (p′ .0)
 
 read-pieces : (κs : Lfts 2) → OneExit (read.Post κs) (λ s. now (s .1 .1 .0))
 read-pieces κs a r q s t p p′ = p .1 ∙ sym (p′ .1)
+
+after-decides : (κs : Lfts 0) → OneAnswer (after.Post κs)
+after-decides κs a r q s t p p′ = p ∙ sym p′
 
 stop-decides : (κs : Lfts 0) → OneAnswer (stop.Post κs)
 stop-decides κs a r q s t p p′ = p ∙ sym p′

@@ -5,6 +5,7 @@ use mathlib.Core.List.{List, [], _∷_}
 use mathlib.Core.Bool.{Bool, true, false, _||_, not, cond}
 use lib.Dec.{leb, ltb, eqb}
 use lib.ListN.{length}
+use Rattle.shape.specs.Numbers.{accepted}
 use Rattle.shape.specs.declared.Shape.{Shape}
 use Rattle.slots.specs.Words.{putAt}
 use Rattle.classify.specs.declared.Arg as args
@@ -127,3 +128,17 @@ unfoldable pub readPieces : Reader → List ℕ → List ℕ → List ℕ
 readPieces s bs ps =
     cond (s .stopped) ps
     (cond (ltb (length bs) recordSize) ps (cond (ltb 0 (s .due .pieces)) (piecePut s (recordOf bs) ps) ps))
+
+-- ---- an operation that was performed
+
+-- a fresh call takes the place of the open one, and a refused one closes it; any other operation leaves the call open, refused or not
+unfoldable pub openAfter : Bool → operations.Operation → ℕ → Bool
+openAfter opened (operations.the-variants.Fresh abi) refusal = eqb refusal accepted
+openAfter opened operations.the-variants.Mark refusal = opened
+openAfter opened (operations.the-variants.Return arg) refusal = opened
+openAfter opened (operations.the-variants.Argument arg) refusal = opened
+openAfter opened (operations.the-variants.AfterDots arg) refusal = opened
+
+abbrev pub readerAfter : Reader → operations.Operation → ℕ → Reader
+readerAfter s operation refusal =
+    record { opened = openAfter (s .opened) operation refusal; stopped = s .stopped; due = s .due }

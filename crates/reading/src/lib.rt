@@ -105,6 +105,19 @@ impl Reader {
         read_head(self, record)
     }
 
+    // What is known once an operation was performed. A fresh call takes the place of the open one, and a refused one closes it. Any other
+    // operation leaves the call open, refused or not.
+    pub fn after(self, operation: Operation, refusal: u64) -> Reader
+        ensures { λ r. ⌜ r ≡ spec.readerAfter self operation refusal ⌝ }
+    {
+        let due = self.due;
+        Reader {
+            opened: open_after(self.opened, operation, refusal),
+            stopped: self.stopped,
+            due,
+        }
+    }
+
     // Nothing is read any more.
     pub fn stop(self) -> Reader
         ensures { λ r. ⌜ r ≡ spec.stoppedReader self ⌝ }
@@ -283,6 +296,18 @@ fn nothing_due() -> Due
         },
         pieces: 0,
         words: 0,
+    }
+}
+
+fn open_after(opened: bool, operation: Operation, refusal: u64) -> bool
+    ensures { λ r. ⌜ r ≡ spec.openAfter opened operation refusal ⌝ }
+{
+    match operation {
+        Operation::Fresh(_) => refusal == shape::ACCEPTED,
+        Operation::Mark => opened,
+        Operation::Return(_) => opened,
+        Operation::Argument(_) => opened,
+        Operation::AfterDots(_) => opened,
     }
 }
 

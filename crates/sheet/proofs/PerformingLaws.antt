@@ -1,19 +1,19 @@
--- What each operation answers on the open call, and whether a call is open afterwards. Assumes nothing.
+-- What each operation answers on the open call, and what is known afterwards. Assumes nothing.
 use Prim.Native.Nat.{ℕ, _≤_}
 use mathlib.Core.Path.{_≡_, sym}
 use mathlib.Core.List.{List}
-use mathlib.Core.Bool.{Bool}
-use lib.Dec.{eqb}
 use lib.ListN.{length, take}
 use lib.Seq.{take-all}
 use Rattle.classify.specs.declared.Arg.{Arg}
 use Rattle.classify.specs.declared.Call.{Call}
 use Rattle.classify.specs.declared.Answer.{Answer}
 use Rattle.classify.specs.Answers.{freshAnswer, variadicAnswer, returnsAnswer, returnsWritten, argumentAnswer, argumentWritten, dotsAnswer, dotsWritten}
+use Rattle.reading.specs.declared.Reader.{Reader}
 use Rattle.reading.specs.declared.Operation as operations
+use Rattle.reading.specs.Reading.{readerAfter}
 use Rattle.sheet.specs.declared.State.{State}
 use Rattle.sheet.specs.declared.performing.Performed.{Performed}
-use Rattle.sheet.specs.Performing.{wordsRead, answerOf, slotsAfter, openAfter, followed, performed, performedSlots}
+use Rattle.sheet.specs.Performing.{wordsRead, answerOf, slotsAfter, performed, performedSlots}
 
 -- ---- the answer
 
@@ -63,38 +63,17 @@ module _ (c : Call) (operation : operations.Operation) (ws slots : List ℕ) whe
     unfolding slotsAfter
     dots-slots e eq = rw (eq, e)
 
--- ---- whether a call is open
+-- ---- all that is known afterwards
 
-module _ (opened : Bool) (operation : operations.Operation) (refusal : ℕ) where
-  pub fresh-opens : (abi : ℕ) → operation ≡ operations.the-variants.Fresh abi → eqb refusal 0 ≡ openAfter opened operation refusal
-  unfolding openAfter
-  fresh-opens abi e = rw e
-
-  pub mark-keeps : operation ≡ operations.the-variants.Mark → opened ≡ openAfter opened operation refusal
-  unfolding openAfter
-  mark-keeps e = rw e
-
-  module _ (arg : Arg) where
-    pub return-keeps : operation ≡ operations.the-variants.Return arg → opened ≡ openAfter opened operation refusal
-    unfolding openAfter
-    return-keeps e = rw e
-
-    pub argument-keeps : operation ≡ operations.the-variants.Argument arg → opened ≡ openAfter opened operation refusal
-    unfolding openAfter
-    argument-keeps e = rw e
-
-    pub dots-keeps : operation ≡ operations.the-variants.AfterDots arg → opened ≡ openAfter opened operation refusal
-    unfolding openAfter
-    dots-keeps e = rw e
-
--- ---- both
+abbrev made : Answer → Reader → Performed
+made a r = record { next = record { call = a .next; reader = r }; answer = a }
 
 module _ (s : State) (operation : operations.Operation) (ps slots ws : List ℕ) (ew : ws ≡ wordsRead (s .reader) ps) where
   pub performed-made : (a : Answer) → a ≡ answerOf (s .call) operation ws slots
-      → (opened : Bool) → opened ≡ openAfter (s .reader .opened) operation (a .outcome .refusal)
-      → (x : Performed) → x ≡ followed (s .reader) opened a → x ≡ performed s operation ps slots
+      → (r : Reader) → r ≡ readerAfter (s .reader) operation (a .outcome .refusal)
+      → made a r ≡ performed s operation ps slots
   unfolding performed
-  performed-made a ea opened eo x ex = rw (ex, eo, ea, ew)
+  performed-made a ea r er = rw (er, ea, ew)
 
   pub slots-made : (qs : List ℕ) → qs ≡ slotsAfter (s .call) operation ws slots → qs ≡ performedSlots s operation ps slots
   unfolding performedSlots

@@ -1,4 +1,4 @@
--- What an event, a step and the end of a sheet leave. Assumes nothing.
+-- What a step and the end of a sheet leave. Assumes nothing.
 use Prim.Native.Nat.{ℕ, _+_, _≤_}
 use mathlib.Core.Path.{_≡_, refl, sym, ap, _∙_}
 use mathlib.Core.List.{List}
@@ -7,6 +7,7 @@ use native.Mathlib.Omega.{arith}
 use borrow.Author.Tests.{le-leb, leb-true, not-true, not-false}
 use lib.Dec.{leb, eqb}
 use lib.ListN.{length}
+use Rattle.slots.specs.Words.{putAt}
 use Rattle.slots.proofs.Words.{put-none, put-fits}
 use Rattle.text.specs.Text.{appendEnd, appended}
 use Rattle.classify.specs.declared.Arg.{Arg}
@@ -14,7 +15,7 @@ use Rattle.reading.specs.declared.Reader.{Reader}
 use Rattle.reading.specs.declared.Operation as operations
 use Rattle.reading.specs.declared.Event as events
 use Rattle.reading.specs.declared.Reading.{Reading}
-use Rattle.reading.specs.Reading.{stoppedReader, readAnswer, readPieces}
+use Rattle.reading.specs.Reading.{came, stoppedReader, readAnswer, readPieces}
 use Rattle.lines.specs.declared.What as whats
 use Rattle.lines.specs.Text.{Put}
 use Rattle.lines.specs.Printing.{longest, line, Lined}
@@ -23,7 +24,7 @@ use Rattle.sheet.specs.declared.State.{State}
 use Rattle.sheet.specs.declared.Step.{Step}
 use Rattle.sheet.specs.declared.performing.Performed.{Performed}
 use Rattle.sheet.specs.Performing.{performed, performedSlots}
-use Rattle.sheet.specs.Sheet.{stopText, stepTo, knowing, whatOf, eventText, eventState, eventSlots, text, after, stepAnswer, stepPieces, stepSlots, stepOut, Followed, Stepped, ended, finishAnswer, finishOut, Finished}
+use Rattle.sheet.specs.Sheet.{stopText, stepTo, knowing, whatOf, eventText, eventState, eventSlots, text, after, stepAnswer, stepPieces, stepSlots, stepOut, CarriedOut, Stepped, ended, finishAnswer, finishOut, Finished}
 use Rattle.sheet.proofs.SlotLaws.{eight-slots, slots-fit}
 
 -- room for a line
@@ -71,29 +72,13 @@ module _ (operation : operations.Operation) where
     unfolding whatOf
     what-dots e = rw e
 
--- ---- an event
-
-module _ (s : State) (ev : events.Event) (ps slots out : List ℕ) (at : ℕ) (room : at + longest ≤ length out) where
-  pub more-followed : ev ≡ events.the-variants.More → Followed s ev ps slots out at (stepTo s at) slots out
-  unfolding eventState eventText eventSlots
-  more-followed e =
-      let z : at ≡ at + 0 = omega arith in
-      record { answers = rw e (ap (stepTo s) z); slots-left = rw e; text-left = rw e (sym (put-none out at (omega arith))) }
-
-  pub stop-followed : ev ≡ events.the-variants.Stop → (to : ℕ) (out′ : List ℕ) → Put out at stopText to out′
-      → Followed s ev ps slots out at (stepTo s to) slots out′
-  unfolding eventState eventText eventSlots
-  stop-followed e to out′ y = record { answers = rw e (ap (stepTo s) (y .ends)); slots-left = rw e; text-left = rw e (y .put) }
-
-  pub ready-followed : (op : operations.Operation) → ev ≡ events.the-variants.Ready op → (answer : Step) (slots′ out′ : List ℕ)
-      → Followed s (events.the-variants.Ready op) ps slots out at answer slots′ out′ → Followed s ev ps slots out at answer slots′ out′
-  ready-followed op e answer slots′ out′ y = rw e y
+-- ---- an operation that is ready
 
 pub carried-out : (s : State) (op : operations.Operation) (ps slots out : List ℕ) (at : ℕ) → at + longest ≤ length out
     → (x : Performed) → x ≡ performed s op ps slots
     → (slots′ : List ℕ) → slots′ ≡ performedSlots s op ps slots → length slots′ ≡ length slots → (what : whats.What) → what ≡ whatOf op
     → (to : ℕ) (out′ : List ℕ) → Lined what (x .answer) slots′ out at to out′
-    → Followed s (events.the-variants.Ready op) ps slots out at (stepTo (x .next) to) slots′ out′
+    → CarriedOut s op ps slots out at (stepTo (x .next) to) slots′ out′
 unfolding eventState eventText eventSlots
 carried-out s op ps slots out at room x ex slots′ es same what ew to out′ l =
     let y : Put out at (line what (x .answer) slots′) to out′ =
@@ -102,24 +87,52 @@ carried-out s op ps slots out at room x ex slots′ es same what ew to out′ l 
 
 -- ---- a step
 
-module _ (s : State) (bs ps slots out : List ℕ) (at : ℕ) (b : Bool) (eb : b ≡ leb (at + longest) (length out)) where
-  pub step-roomless : not b ≡ true → Stepped s bs ps slots out at (stepTo s at) ps slots out
-  unfolding stepAnswer stepPieces stepSlots stepOut
-  step-roomless t =
-      let f = roomless out at b eb t in record { answers = rw f; pieces-left = rw f; slots-left = rw f; text-left = rw f }
-
-  pub step-followed : not b ≡ false → (x : Reading) → x ≡ readAnswer (s .reader) bs (length ps)
-      → (ps′ : List ℕ) → ps′ ≡ readPieces (s .reader) bs ps → (answer : Step) (slots′ out′ : List ℕ)
-      → Followed (knowing s (x .next)) (x .event) ps′ slots out at answer slots′ out′ → Stepped s bs ps slots out at answer ps′ slots′ out′
+module _ (s : State) (bs ps slots out : List ℕ) (at : ℕ) where
+  -- what is left, by what came of the record
+  left-by : (n : Reader) (ev : events.Event) → readAnswer (s .reader) bs (length ps) ≡ came n ev → leb (at + longest) (length out) ≡ true
+      → (answer : Step) (ps′ slots′ out′ : List ℕ) → ps′ ≡ readPieces (s .reader) bs ps
+      → answer ≡ stepTo (eventState (knowing s n) ev ps′ slots) (at + length (eventText (knowing s n) ev ps′ slots))
+      → slots′ ≡ eventSlots (knowing s n) ev ps′ slots → out′ ≡ putAt out at (eventText (knowing s n) ev ps′ slots)
+      → Stepped s bs ps slots out at answer ps′ slots′ out′
   unfolding stepAnswer stepPieces stepSlots stepOut text after
-  step-followed t x ex ps′ ep answer slots′ out′ y =
-      let f = roomy out at b eb t in
+  left-by n ev er room answer ps′ slots′ out′ ep ea es eo =
       record {
-        answers = rw (y .answers, f, ex, ep);
-        pieces-left = rw (f, ep);
-        slots-left = rw (y .slots-left, f, ex, ep);
-        text-left = rw (y .text-left, f, ex, ep);
+        answers = rw (ea, room, er, ep);
+        pieces-left = rw (room, ep);
+        slots-left = rw (es, room, er, ep);
+        text-left = rw (eo, room, er, ep);
       }
+
+  module _ (b : Bool) (eb : b ≡ leb (at + longest) (length out)) where
+    pub step-roomless : not b ≡ true → Stepped s bs ps slots out at (stepTo s at) ps slots out
+    unfolding stepAnswer stepPieces stepSlots stepOut
+    step-roomless t =
+        let f = roomless out at b eb t in record { answers = rw f; pieces-left = rw f; slots-left = rw f; text-left = rw f }
+
+    module _ (t : not b ≡ false) (x : Reading) (ex : x ≡ readAnswer (s .reader) bs (length ps)) (ps′ : List ℕ) (ep : ps′ ≡ readPieces (s .reader) bs ps) where
+      reads : (ev : events.Event) → x .event ≡ ev → readAnswer (s .reader) bs (length ps) ≡ came (x .next) ev
+      reads ev e = sym ex ∙ ap (λ (v : events.Event). came (x .next) v) e
+
+      pub step-more : x .event ≡ events.the-variants.More → Stepped s bs ps slots out at (stepTo (knowing s (x .next)) at) ps′ slots out
+      unfolding eventState eventText eventSlots
+      step-more e =
+          let room : at + longest ≤ length out = line-fits out at b eb t in
+          let z : at ≡ at + 0 = omega arith in
+          left-by (x .next) events.the-variants.More (reads _ e) (roomy out at b eb t) (stepTo (knowing s (x .next)) at) ps′ slots out ep
+          (ap (stepTo (knowing s (x .next))) z) refl (sym (put-none out at (omega arith)))
+
+      pub step-stop : x .event ≡ events.the-variants.Stop → (to : ℕ) (out′ : List ℕ) → Put out at stopText to out′
+          → Stepped s bs ps slots out at (stepTo (knowing s (x .next)) to) ps′ slots out′
+      unfolding eventState eventText eventSlots
+      step-stop e to out′ y =
+          left-by (x .next) events.the-variants.Stop (reads _ e) (roomy out at b eb t) (stepTo (knowing s (x .next)) to) ps′ slots out′ ep
+          (ap (stepTo (knowing s (x .next))) (y .ends)) refl (y .put)
+
+      pub step-ready : (op : operations.Operation) → x .event ≡ events.the-variants.Ready op → (answer : Step) (slots′ out′ : List ℕ)
+          → CarriedOut (knowing s (x .next)) op ps′ slots out at answer slots′ out′ → Stepped s bs ps slots out at answer ps′ slots′ out′
+      step-ready op e answer slots′ out′ y =
+          left-by (x .next) (events.the-variants.Ready op) (reads _ e) (roomy out at b eb t) answer ps′ slots′ out′ ep
+          (y .answers) (y .slots-left) (y .text-left)
 
 -- ---- the end
 

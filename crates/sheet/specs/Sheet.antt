@@ -71,14 +71,11 @@ eventSlots s events.the-variants.More ps slots = slots
 eventSlots s events.the-variants.Stop ps slots = slots
 eventSlots s (events.the-variants.Ready operation) ps slots = performedSlots s operation ps slots
 
--- all that an event leaves: the state and the end of its line, the slots and the text
-pub record Followed (s : State) (ev : events.Event) (ps slots out : List ℕ) (at : ℕ) (answer : Step) (slots′ out′ : List ℕ) : Type 0 where
-  pub answers : answer ≡ stepTo (eventState s ev ps slots) (at + length (eventText s ev ps slots))
-  pub slots-left : slots′ ≡ eventSlots s ev ps slots
-  pub text-left : out′ ≡ putAt out at (eventText s ev ps slots)
-
-abbrev pub CarriedOut : State → operations.Operation → List ℕ → List ℕ → List ℕ → ℕ → Step → List ℕ → List ℕ → Type 0
-CarriedOut s operation ps slots out at answer slots′ out′ = Followed s (events.the-variants.Ready operation) ps slots out at answer slots′ out′
+-- all that an operation that is ready leaves: the state and the end of its line, the slots and the text
+pub record CarriedOut (s : State) (operation : operations.Operation) (ps slots out : List ℕ) (at : ℕ) (answer : Step) (slots′ out′ : List ℕ) : Type 0 where
+  pub answers : answer ≡ stepTo (eventState s (events.the-variants.Ready operation) ps slots) (at + length (eventText s (events.the-variants.Ready operation) ps slots))
+  pub slots-left : slots′ ≡ eventSlots s (events.the-variants.Ready operation) ps slots
+  pub text-left : out′ ≡ putAt out at (eventText s (events.the-variants.Ready operation) ps slots)
 
 abbrev pub readingOf : Between → List ℕ → Reading
 readingOf b bytes = readAnswer (b .state .reader) bytes (length (b .pieces))

@@ -18,7 +18,7 @@ ghost use lib.Dec.{leb};
 ghost use lib.ListN.{length};
 ghost use Rattle.lines.specs.Text.{Put};
 ghost use Rattle.lines.specs.Printing.{longest};
-ghost use Rattle.sheet.specs.Sheet.{started, stopText, whatOf, Followed, CarriedOut, Stepped, Taken, Finished};
+ghost use Rattle.sheet.specs.Sheet.{started, stopText, whatOf, CarriedOut, Stepped, Taken, Finished};
 
 // Words that hold the most pieces of an aggregate, and those that hold the most slots of an answer.
 pub const PIECES: usize = 4096;
@@ -80,7 +80,15 @@ impl State {
         let reading = before.read(bytes, pieces);
         let reader = reading.next;
         let event = reading.event;
-        follow(State { call, reader }, event, pieces, slots, out, at)
+        let next = State { call, reader };
+        match event {
+            Event::More => Step { next, at },
+            Event::Stop => {
+                let to = put_stop(out, at);
+                Step { next, at: to }
+            }
+            Event::Ready(operation) => carry_out(next, operation, pieces, slots, out, at),
+        }
     }
 
     // Takes the whole records at the front of the input, one after the other, and writes their lines from the front of the text on, as long as
@@ -125,31 +133,6 @@ impl State {
         };
         let to = put_stop(out, at);
         Step { next, at: to }
-    }
-}
-
-// Does what came of a record: performs and prints an operation that is ready, or prints that the sheet stops.
-fn follow(
-    state: State,
-    event: Event,
-    pieces: &[u64],
-    slots: &mut [u64],
-    out: &mut [u8],
-    at: usize,
-) -> Step
-    requires { ⌜ at + longest ≤ length (now out) ⌝ }
-    ensures { λ r. ⌜ Followed state event (now (pieces .entry)) (now (slots .entry)) (now (out .entry)) at r (now (slots .exit)) (now (out .exit)) ⌝ }
-{
-    match event {
-        Event::More => Step { next: state, at },
-        Event::Stop => {
-            let to = put_stop(out, at);
-            Step {
-                next: state,
-                at: to,
-            }
-        }
-        Event::Ready(operation) => carry_out(state, operation, pieces, slots, out, at),
     }
 }
 

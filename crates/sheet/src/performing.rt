@@ -6,7 +6,6 @@ use crate::State;
 use classify::Answer;
 use classify::Call;
 use reading::Operation;
-use reading::Reader;
 
 pub struct Performed {
     pub next: State,
@@ -26,8 +25,14 @@ pub(crate) fn perform(
     let due = reader.due;
     let answer = answer_to(call, operation, words_of(due.words, pieces), slots);
     let outcome = answer.outcome;
-    let opened = open_after(reader.opened, operation, outcome.refusal);
-    followed(reader, opened, answer)
+    let next = answer.next;
+    Performed {
+        next: State {
+            call: next,
+            reader: reader.after(operation, outcome.refusal),
+        },
+        answer,
+    }
 }
 
 fn answer_to(call: Call, operation: Operation, words: &[u64], slots: &mut [u64]) -> Answer
@@ -42,19 +47,6 @@ fn answer_to(call: Call, operation: Operation, words: &[u64], slots: &mut [u64])
     }
 }
 
-// A fresh call takes the place of the open one, and a refused one closes it. Any other operation leaves the call open, refused or not.
-fn open_after(opened: bool, operation: Operation, refusal: u64) -> bool
-    ensures { λ r. ⌜ r ≡ spec.openAfter opened operation refusal ⌝ }
-{
-    match operation {
-        Operation::Fresh(_) => refusal == shape::ACCEPTED,
-        Operation::Mark => opened,
-        Operation::Return(_) => opened,
-        Operation::Argument(_) => opened,
-        Operation::AfterDots(_) => opened,
-    }
-}
-
 // The first so many words, or all where there are fewer.
 fn words_of(n: usize, pieces: &[u64]) -> &[u64]
     ensures { λ r. ⌜ now r ≡ take n (now (pieces .entry)) ⌝ }
@@ -63,22 +55,4 @@ fn words_of(n: usize, pieces: &[u64]) -> &[u64]
         return &pieces[..n];
     }
     pieces
-}
-
-fn followed(reader: Reader, opened: bool, answer: Answer) -> Performed
-    ensures { λ r. ⌜ r ≡ spec.followed reader opened answer ⌝ }
-{
-    let call = answer.next;
-    let due = reader.due;
-    Performed {
-        next: State {
-            call,
-            reader: Reader {
-                opened,
-                stopped: reader.stopped,
-                due,
-            },
-        },
-        answer,
-    }
 }

@@ -1,4 +1,4 @@
--- `perform` answers what the operation answers on the open call, and says whether one is open then. Assumes nothing.
+-- `perform` answers what the operation answers on the open call. Assumes nothing.
 use Rattle.sheet.proofs.PerformingLaws.{performed-made, slots-made}
 use borrow.Author.Needs.{needs}
 use Rattle.sheet.proofs.performing.perform.Statement.{statement}
@@ -10,11 +10,8 @@ words-of-requires c κs = search needs
 answer-to-requires : tie.Need-answer-to-requires
 answer-to-requires c κs = search needs
 
-open-after-requires : tie.Need-open-after-requires
-open-after-requires c κs = search needs
-
-followed-requires : tie.Need-followed-requires
-followed-requires c κs = search needs
+after-requires : tie.Need-after-requires
+after-requires c κs = search needs
 
 same-length : tie.Need-same-length
 same-length c = search needs
@@ -28,7 +25,6 @@ perform-spec =
     (tie.spec
     words-of-requires
     answer-to-requires
-    open-after-requires
-    followed-requires
+    after-requires
     same-length
     returns)
