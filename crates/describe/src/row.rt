@@ -1,6 +1,7 @@
 // A description as a row of bytes, read back.
 ghost use mathlib.Core.Path.{_≡_};
-ghost use Prim.Native.Nat.{_≤_, _<_};
+ghost use Prim.Native.Nat.{_+_, _≤_, _<_};
+ghost use lib.ListN.{getD};
 ghost use Rattle.describe.specs.Row.{returnRule, argumentRule, ruleOf, listOf, pairOf, testsOf, waysOf, firstRule, laterRules, banksOf, scalarsOf, othersOf, returnPointerOf, variadicOf};
 ghost use Rattle.describe.specs.Codes.{testFrom, sizeFrom, travelFrom, shortFrom, returnPointerFrom, variadicFrom, stackArgsFrom, narrowFrom, bitIntsFrom, cleanupFrom};
 use crate::codes::*;
@@ -155,10 +156,10 @@ fn list_of(row: [u8; WIDTH], first: usize) -> Rules
 {
     Rules {
         tests: tests_of(
-            pair(row[first], row[first + 1]),
-            pair(row[first + 3], row[first + 4]),
-            pair(row[first + 6], row[first + 7]),
-            pair(row[first + 9], row[first + 10]),
+            test_at(row, first),
+            test_at(row, first + 3),
+            test_at(row, first + 6),
+            test_at(row, first + 9),
         ),
         ways: ways_of(
             row[first + 2],
@@ -167,6 +168,14 @@ fn list_of(row: [u8; WIDTH], first: usize) -> Rules
             row[first + 11],
         ),
     }
+}
+
+// The test of the rule whose first byte stands at `at`.
+fn test_at(row: [u8; WIDTH], at: usize) -> u64
+    requires { ⌜ at ≤ 29 ⌝ }
+    ensures { λ r. ⌜ (r ≡ pairOf (getD row at 0) (getD row (at + 1) 0)) × (r < 65536) ⌝ }
+{
+    pair(row[at], row[at + 1])
 }
 
 // A test's code and its number as one.

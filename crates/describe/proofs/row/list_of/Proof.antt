@@ -1,31 +1,18 @@
 -- `list_of` reads four rules from their places. Assumes nothing.
 use borrow.Author.Needs.{needs}
-use Rattle.describe.specs.Row.{listOf}
+use Rattle.describe.proofs.Packed.{list-read}
 use Rattle.describe.proofs.row.list_of.Statement.{statement}
 use Rattle.describe.proofs.row.list_of.Tie as tie
 
 pub list-of-spec : {M : Type 1} → statement M
-unfolding listOf
 list-of-spec =
     tie.close
     (tie.spec
-    (λ c. search needs)
-    (λ c. search needs)
+    (λ c κs. search needs)
     (λ c. search needs)
     (λ c κs. search needs)
     (λ c. search needs)
-    (λ c. search needs)
-    (λ c. search needs)
-    (λ c. search needs)
     (λ c κs. search needs)
-    (λ c. search needs)
-    (λ c. search needs)
-    (λ c. search needs)
-    (λ c. search needs)
-    (λ c κs. search needs)
-    (λ c. search needs)
-    (λ c. search needs)
-    (λ c. search needs)
     (λ c. search needs)
     (λ c κs. search needs)
     (λ c κs. search needs)
@@ -38,4 +25,4 @@ list-of-spec =
     (λ c. search needs)
     (λ c. search needs)
     (λ c κs. search needs)
-    (λ c. simp (c .ways-of .ensures, c .before .tests-of .ensures, c .before .before .pair4 .ensures .0, c .before .before .before .pair3 .ensures .0, c .before .before .before .before .pair2 .ensures .0, c .before .before .before .before .before .pair .ensures .0)))
+    (λ c. list-read _ _ (c .before .before .before .before .before .test-at .ensures .0) (c .before .before .before .before .test-at2 .ensures .0) (c .before .before .before .test-at3 .ensures .0) (c .before .before .test-at4 .ensures .0) (c .before .tests-of .ensures) (c .ways-of .ensures)))
