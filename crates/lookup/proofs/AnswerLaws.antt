@@ -6,14 +6,14 @@ use mathlib.Core.Bool.{Bool, true, false, not}
 use Rattle.shape.specs.Numbers.{accepted}
 use Rattle.text.specs.Text.{written}
 use Rattle.text.specs.declared.Written.{Written}
-use Rattle.lookup.specs.Codes.{isTarget, isConvention, architectureOf, systemOf, conventionOf}
+use Rattle.codes.specs.Codes.{isTarget, isConvention, architectureOf, systemOf, conventionOf, noneNumber, codeOf}
 use Rattle.lookup.specs.Rows.{forTarget, forConvention}
-use Rattle.lookup.specs.Attributes.{asked, attribute}
-use Rattle.lookup.specs.Lookup.{noneNumber, numberOf, codeOf, targetAnswer, conventionAnswer, askedAnswer, nameAnswer, nameWritten, attributeAnswer, attributeWritten}
-use Rattle.lookup.specs.declared.codes.Architecture.{Architecture}
-use Rattle.lookup.specs.declared.codes.System.{System}
-use Rattle.lookup.specs.declared.codes.Convention.{Convention}
-use Rattle.lookup.proofs.CodeLaws.{known, unknown}
+use Rattle.attributes.specs.Attributes.{asked, attribute, nameAnswer, nameWritten}
+use Rattle.lookup.specs.Lookup.{numberOf, targetAnswer, conventionAnswer, askedAnswer, attributeAnswer, attributeWritten}
+use Rattle.codes.specs.declared.Architecture.{Architecture}
+use Rattle.codes.specs.declared.System.{System}
+use Rattle.codes.specs.declared.Convention.{Convention}
+use Rattle.codes.proofs.CodeLaws.{known, unknown}
 
 module _ (architecture system : ℕ) {t : Bool} (e : t ≡ isTarget architecture system) where
   module _ (n : not t ≡ true) where

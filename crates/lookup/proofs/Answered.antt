@@ -8,15 +8,15 @@ use mathlib.Core.Bool.{Bool, true, false, cond, _&&_}
 use mathlib.Core.Option.{Option, none, some}
 use lib.Dec.{lit<}
 use lib.ListN.{getD}
-use Rattle.lookup.specs.Codes.{isTarget, isConvention, architectureOf, systemOf, conventionOf, conventionCode, isWindows, isElf, isDarwin, isX86, isX86-64}
+use Rattle.codes.specs.Codes.{isTarget, isConvention, architectureOf, systemOf, conventionOf, conventionCode, noneNumber, codeOf, isWindows, isElf, isDarwin, isX86, isX86-64}
 use Rattle.lookup.specs.Rows.{forTarget, forConvention, byRuntime, regparmRows}
-use Rattle.lookup.specs.Attributes.{is, asked, askedOnX86, askedOnX86-64}
-use Rattle.lookup.specs.Lookup.{noneNumber, numberOf, codeOf, targetAnswer, conventionAnswer, askedAnswer}
-use Rattle.lookup.specs.declared.codes.Architecture.{Architecture}
-use Rattle.lookup.specs.declared.codes.Architecture.the-variants.{X86, «X86_64», Aarch64, Riscv64, Other}
-use Rattle.lookup.specs.declared.codes.System.{System}
-use Rattle.lookup.specs.declared.codes.Convention.{Convention}
-use Rattle.lookup.specs.declared.codes.Convention.the-variants.{Target, Ms, Sysv, Stdcall, Fastcall, Regparm, NoCalleeSaved, PreserveNone}
+use Rattle.attributes.specs.Attributes.{is, asked, askedOnX86, askedOnX86-64}
+use Rattle.lookup.specs.Lookup.{numberOf, targetAnswer, conventionAnswer, askedAnswer}
+use Rattle.codes.specs.declared.Architecture.{Architecture}
+use Rattle.codes.specs.declared.Architecture.the-variants.{X86, «X86_64», Aarch64, Riscv64, Other}
+use Rattle.codes.specs.declared.System.{System}
+use Rattle.codes.specs.declared.Convention.{Convention}
+use Rattle.codes.specs.declared.Convention.the-variants.{Target, Ms, Sysv, Stdcall, Fastcall, Regparm, NoCalleeSaved, PreserveNone}
 
 data Row : Option ℕ → Type 0 where
   nothing : Row none

@@ -1,7 +1,5 @@
-pub mod CodeLaws
 pub mod RowLaws
-pub mod NameLaws
-pub mod AskedLaws
 pub mod AnswerLaws
 pub mod Answered
+mod PopLaws
 mod Unique

@@ -5,10 +5,10 @@ use mathlib.Core.Bool.{Bool, true, false, cond}
 use mathlib.Core.Option.{Option, none}
 use native.Mathlib.Omega.{arith}
 use lib.ListN.{getD, List·getD-eq-default}
-use Rattle.lookup.specs.Codes.{isWindows}
+use Rattle.codes.specs.Codes.{isWindows, noneNumber}
 use Rattle.lookup.specs.Rows.{regparmRows}
-use Rattle.lookup.specs.Lookup.{noneNumber, numberOf}
-use Rattle.lookup.specs.declared.codes.System.{System}
+use Rattle.lookup.specs.Lookup.{numberOf}
+use Rattle.codes.specs.declared.System.{System}
 
 pub one-architecture : (b : Bool) (o : Option ℕ) {x r : ℕ} → x ≡ numberOf o → r ≡ cond b x noneNumber → r ≡ numberOf (cond b o none)
 one-architecture true o e h = h ∙ e

@@ -1,4 +1,2 @@
-pub mod Codes
 pub mod Rows
-pub mod Attributes
 pub mod Lookup

@@ -3,25 +3,14 @@ use Prim.Native.Nat.{ℕ}
 use mathlib.Core.List.{List}
 use mathlib.Core.Bool.{Bool, cond, _&&_}
 use mathlib.Core.Option.{Option, none, some}
-use Rattle.shape.specs.Numbers.{accepted, most-word}
-use Rattle.text.specs.Text.{written, putAnswer, putWritten}
 use Rattle.text.specs.declared.Written.{Written}
-use Rattle.lookup.specs.Codes.{isTarget, isConvention, architectureOf, systemOf, conventionOf, conventionCode}
+use Rattle.codes.specs.Codes.{isTarget, isConvention, architectureOf, systemOf, conventionOf, noneNumber, codeOf}
 use Rattle.lookup.specs.Rows.{forTarget, forConvention}
-use Rattle.lookup.specs.Attributes.{asked, attribute, calleePops}
-use Rattle.lookup.specs.declared.codes.Convention.{Convention}
-
--- the number of none (REFERENCE 1.5)
-abbrev pub noneNumber : ℕ
-noneNumber = most-word
+use Rattle.attributes.specs.Attributes.{asked, attribute, calleePops, nameAnswer, nameWritten}
 
 abbrev pub numberOf : Option ℕ → ℕ
 numberOf none = noneNumber
 numberOf (some n) = n
-
-abbrev pub codeOf : Option Convention → ℕ
-codeOf none = noneNumber
-codeOf (some convention) = conventionCode convention
 
 unfoldable pub targetAnswer : ℕ → ℕ → Bool → ℕ
 targetAnswer architecture system msvc =
@@ -39,16 +28,6 @@ askedAnswer architecture system msvc name =
 
 unfoldable pub popsAnswer : ℕ → Bool
 popsAnswer convention = isConvention convention && calleePops (conventionOf convention)
-
--- no name: none; a name: what writing it answers
-unfoldable pub nameAnswer : Option (List ℕ) → ℕ → Written
-nameAnswer none room = written accepted noneNumber
-nameAnswer (some name) room = putAnswer name room
-
--- no name leaves every byte as it was
-unfoldable pub nameWritten : Option (List ℕ) → List ℕ → List ℕ
-nameWritten none out = out
-nameWritten (some name) out = putWritten name out
 
 abbrev pub nameOf : ℕ → Option (List ℕ)
 nameOf convention = cond (isConvention convention) (attribute (conventionOf convention)) none

@@ -4,12 +4,12 @@ use mathlib.Core.List.{List, [], _∷_}
 use mathlib.Core.Bool.{Bool, cond}
 use mathlib.Core.Option.{Option, none, some}
 use lib.ListN.{getD}
-use Rattle.lookup.specs.Codes.{isWindows, isDarwin, isX86, isX86-64}
-use Rattle.lookup.specs.declared.codes.Architecture.{Architecture}
-use Rattle.lookup.specs.declared.codes.Architecture.the-variants.{X86, «X86_64», Aarch64, Riscv64, Other}
-use Rattle.lookup.specs.declared.codes.System.{System}
-use Rattle.lookup.specs.declared.codes.Convention.{Convention}
-use Rattle.lookup.specs.declared.codes.Convention.the-variants.{Target, Ms, Sysv, Stdcall, Fastcall, Regparm, NoCalleeSaved, PreserveNone}
+use Rattle.codes.specs.Codes.{isWindows, isDarwin, isX86, isX86-64}
+use Rattle.codes.specs.declared.Architecture.{Architecture}
+use Rattle.codes.specs.declared.Architecture.the-variants.{X86, «X86_64», Aarch64, Riscv64, Other}
+use Rattle.codes.specs.declared.System.{System}
+use Rattle.codes.specs.declared.Convention.{Convention}
+use Rattle.codes.specs.declared.Convention.the-variants.{Target, Ms, Sysv, Stdcall, Fastcall, Regparm, NoCalleeSaved, PreserveNone}
 
 -- descriptions by number (REFERENCE 5.5)
 abbrev pub sysv-amd64 : ℕ

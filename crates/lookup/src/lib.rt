@@ -1,11 +1,10 @@
 // Which description a target and a convention follow, and which attribute asks for which convention (REFERENCE 6). Architectures, systems
 // and conventions come as codes; a code that isn't known answers none, also where the lookup would not read it.
-mod attributes;
-mod codes;
 mod rows;
 
 use attributes::write_attribute;
 use codes::FASTCALL;
+pub use codes::NONE;
 use codes::STDCALL;
 use codes::architecture_of;
 use codes::convention_of;
@@ -18,9 +17,6 @@ use text::Written;
 ghost use mathlib.Core.Path.{_≡_};
 ghost use lib.ListN.{length};
 ghost use Rattle.lookup.specs.Lookup.{targetAnswer, conventionAnswer, askedAnswer, attributeAnswer, attributeWritten, popsAnswer};
-
-// The answer where there is nothing to answer: no description, no convention, no attribute.
-pub const NONE: u64 = 18446744073709551615;
 
 // The description that a target follows.
 pub fn for_target(architecture: u64, system: u64, msvc: bool) -> u64

@@ -3,14 +3,14 @@ ghost use mathlib.Core.Path.{_≡_};
 ghost use mathlib.Core.Bool.{cond};
 ghost use mathlib.Core.Option.{none};
 ghost use lib.ListN.{getD};
-ghost use Rattle.lookup.specs.Codes.{isWindows, isX86, isX86-64};
-ghost use Rattle.lookup.specs.Lookup.{noneNumber, numberOf};
+ghost use Rattle.codes.specs.Codes.{isWindows, isX86, isX86-64, noneNumber};
+ghost use Rattle.lookup.specs.Lookup.{numberOf};
 ghost use Rattle.lookup.specs.Rows.{forTarget, forConvention, byRuntime, regparmRows};
-use crate::NONE;
-use crate::codes::Architecture;
-use crate::codes::Convention;
-use crate::codes::System;
-use crate::codes::is_windows;
+use codes::Architecture;
+use codes::Convention;
+use codes::NONE;
+use codes::System;
+use codes::is_windows;
 
 const SYSV_AMD64: u64 = 0;
 

@@ -1,5 +1,5 @@
 -- `callee_pops` meets its contract: its two codes are those of the conventions whose callee pops.
-use Rattle.lookup.proofs.CodeLaws.{pops}
+use Rattle.lookup.proofs.PopLaws.{pops}
 use Rattle.lookup.proofs.callee_pops.Statement.{statement}
 use Rattle.lookup.proofs.callee_pops.Tie as tie
 

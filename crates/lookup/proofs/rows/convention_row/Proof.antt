@@ -1,7 +1,7 @@
 -- `convention_row` meets its contract: each arm answers for its convention, where its architecture is the one that has it.
 use mathlib.Core.Path.{refl}
 use mathlib.Core.Option.{some}
-use Rattle.lookup.specs.Codes.{isX86, isX86-64}
+use Rattle.codes.specs.Codes.{isX86, isX86-64}
 use Rattle.lookup.proofs.RowLaws.{one-architecture}
 use borrow.Author.Needs.{needs}
 use Rattle.lookup.proofs.rows.convention_row.Statement.{statement}

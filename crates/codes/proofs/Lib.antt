@@ -1,0 +1,2 @@
+pub mod CodeLaws
+mod Unique
