@@ -151,18 +151,16 @@ module _ (D : Description) where
       let four = four-packed (D .arguments) (and-left (leb (length (D .arguments)) 4) (heldTests (D .arguments)) h) in
       simp (four .0, four .1)
 
--- A list as its four tests and its ways were read.
-pub list-read : (row : List ℕ) (first : ℕ) {a b c d t w : ℕ}
+-- The tests of a list, each as it was read from its place.
+pub tests-read : (row : List ℕ) (first : ℕ) {a b c d : ℕ}
     → a ≡ pairOf (getD row first 0) (getD row (first + 1) 0)
     → b ≡ pairOf (getD row (first + 3) 0) (getD row (first + 3 + 1) 0)
     → c ≡ pairOf (getD row (first + 6) 0) (getD row (first + 6 + 1) 0)
     → d ≡ pairOf (getD row (first + 9) 0) (getD row (first + 9 + 1) 0)
-    → t ≡ testsOf a b c d
-    → w ≡ waysOf (getD row (first + 2) 0) (getD row (first + 5) 0) (getD row (first + 8) 0) (getD row (first + 11) 0)
-    → record { tests = t; ways = w } ≡ listOf row first
+    → testsOf a b c d ≡ listOf row first .tests
 unfolding listOf
-list-read row first ea eb ec ed et ew =
+tests-read row first ea eb ec ed =
     let second : first + 4 ≡ first + 3 + 1 = omega arith in
     let third : first + 7 ≡ first + 6 + 1 = omega arith in
     let fourth : first + 10 ≡ first + 9 + 1 = omega arith in
-    rw (et, ew, ea, eb, ec, ed, second, third, fourth)
+    rw (ea, eb, ec, ed, second, third, fourth)

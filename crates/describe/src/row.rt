@@ -2,7 +2,7 @@
 ghost use mathlib.Core.Path.{_≡_};
 ghost use Prim.Native.Nat.{_+_, _≤_, _<_};
 ghost use lib.ListN.{getD};
-ghost use Rattle.describe.specs.Row.{returnRule, argumentRule, ruleOf, listOf, pairOf, testsOf, waysOf, firstRule, laterRules, banksOf, scalarsOf, othersOf, returnPointerOf, variadicOf};
+ghost use Rattle.describe.specs.Row.{returnRule, argumentRule, ruleOf, listOf, pairOf, waysOf, firstRule, laterRules, banksOf, scalarsOf, othersOf, returnPointerOf, variadicOf};
 ghost use Rattle.describe.specs.Codes.{testFrom, sizeFrom, travelFrom, shortFrom, returnPointerFrom, variadicFrom, stackArgsFrom, narrowFrom, bitIntsFrom, cleanupFrom};
 use crate::codes::*;
 use crate::*;
@@ -155,12 +155,7 @@ fn list_of(row: [u8; WIDTH], first: usize) -> Rules
     ensures { λ r. ⌜ r ≡ listOf row first ⌝ }
 {
     Rules {
-        tests: tests_of(
-            test_at(row, first),
-            test_at(row, first + 3),
-            test_at(row, first + 6),
-            test_at(row, first + 9),
-        ),
+        tests: tests_of(row, first),
         ways: ways_of(
             row[first + 2],
             row[first + 5],
@@ -168,6 +163,18 @@ fn list_of(row: [u8; WIDTH], first: usize) -> Rules
             row[first + 11],
         ),
     }
+}
+
+// The tests of a list's four rules as one number, the first rule's lowest.
+fn tests_of(row: [u8; WIDTH], first: usize) -> u64
+    requires { ⌜ first ≤ 20 ⌝ }
+    ensures { λ r. ⌜ r ≡ listOf row first .tests ⌝ }
+{
+    let a = test_at(row, first);
+    let b = test_at(row, first + 3);
+    let c = test_at(row, first + 6);
+    let d = test_at(row, first + 9);
+    a + 65536 * (b + 65536 * (c + 65536 * d))
 }
 
 // The test of the rule whose first byte stands at `at`.
@@ -185,13 +192,7 @@ fn pair(code: u8, number: u8) -> u64
     wide(code) + 256 * wide(number)
 }
 
-fn tests_of(a: u64, b: u64, c: u64, d: u64) -> u64
-    requires { ⌜ (a < 65536) × ((b < 65536) × ((c < 65536) × (d < 65536))) ⌝ }
-    ensures { λ r. ⌜ r ≡ testsOf a b c d ⌝ }
-{
-    a + 65536 * (b + 65536 * (c + 65536 * d))
-}
-
+// The ways of a list's four rules, likewise.
 fn ways_of(a: u8, b: u8, c: u8, d: u8) -> u64
     ensures { λ r. ⌜ r ≡ waysOf a b c d ⌝ }
 {
