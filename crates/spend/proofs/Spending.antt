@@ -24,6 +24,7 @@ use Rattle.describe.specs.Questions.{isByReference, returnsByReference}
 use Rattle.spend.specs.declared.Left.{Left}
 use Rattle.spend.specs.declared.Way as ways
 use Rattle.spend.specs.declared.Slots.{Slots}
+use Rattle.spend.specs.declared.Spent.{Spent}
 use Rattle.spend.specs.declared.Decision.{Decision}
 use Rattle.spend.specs.declared.Step as steps
 use Rattle.spend.specs.Ways.{spends, nothing, plain, piecesOf, cutSlots, oneSlot}
@@ -52,10 +53,11 @@ drains-none cost left h = rw (le-ltb _ _ h)
 pub cost-split : (shared : Bool) (count floats n : ℕ) → shared ≡ false → n ≡ count - floats → n ≡ integerCost shared count floats
 cost-split shared count floats n h en = rw (en, h)
 
-pub cuts : (size width given n : ℕ) → n ≡ length (cut size width) → (r : Decision)
-    → r ≡ piecesOf (record { count = n; floats = 0; source = cutSlots size width .source }) (spends 0 given 0 0)
-    → r ≡ piecesOf (cutSlots size width) (spends 0 given 0 0)
-cuts size width given n en r er = rw (er, en)
+pub cuts : (size width n : ℕ) → n ≡ length (cut size width) → _≡_ {A = Slots} (record { count = n; floats = 0; source = cutSlots size width .source }) (cutSlots size width)
+cuts size width n en = rw en
+
+pub given : (way : ways.Way) (want left n : ℕ) → n ≡ min want left → (r : Decision) → r ≡ plain way (spends 0 n 0 0) → r ≡ plain way (spends 0 (min want left) 0 0)
+given way want left n en r er = rw (er, en)
 
 -- ---- an integer argument
 
@@ -70,10 +72,10 @@ module _ (start : ℕ) (S : Scalars) (I want : ℕ) (r : Decision) where
     whole-short h er = rw (er, whole, lt-leb _ _ h)
 
   module _ (part : S .«wide_integer_is_all_or_nothing» ≡ false) where
-    pub any-integer : (ltb 1 want && (S .«wide_integer_starts_even» || S .«wide_integer_drains»)) ≡ false → (n : ℕ) → n ≡ min want I
-        → r ≡ direct 0 n 0 0 → r ≡ integerArgument start S I want
+    pub any-integer : (ltb 1 want && (S .«wide_integer_starts_even» || S .«wide_integer_drains»)) ≡ false
+        → r ≡ direct 0 (min want I) 0 0 → r ≡ integerArgument start S I want
     unfolding integerArgument
-    any-integer h n en er = rw (er, en, part, h)
+    any-integer h er = rw (er, part, h)
 
     module _ (paired : (ltb 1 want && (S .«wide_integer_starts_even» || S .«wide_integer_drains»)) ≡ true) (used : ℕ) (eu : used ≡ start - I) (skipped : ℕ) (es : skipped ≡ skipOf (S .«wide_integer_starts_even») used I) (rest : ℕ) (et : rest ≡ I - skipped) where
       opened : integerArgument start S I want
@@ -92,49 +94,70 @@ module _ (start : ℕ) (S : Scalars) (I want : ℕ) (r : Decision) where
 
 -- ---- a scalar argument
 
-module _ (B : Banks) (S : Scalars) (left : Left) (s : Scalar) (r : Decision) (byref : Bool) (eb : byref ≡ isByReference S (s .size)) where
-  pub line-reference : byref ≡ true → (n : ℕ) → n ≡ min 1 (left .integer) → r ≡ reference n → r ≡ scalarArgument B S left s
+and-true : (b : Bool) → (b && true) ≡ b
+and-true true = refl
+and-true false = refl
+
+and-false : (b : Bool) → (b && false) ≡ false
+and-false true = refl
+and-false false = refl
+
+pub not-by-reference : (S : Scalars) (size : ℕ) (byref : Bool) → byref ≡ isByReference S size → byref ≡ false → isByReference S size ≡ false
+not-by-reference S size byref eb h = sym eb ∙ h
+
+module _ (B : Banks) (S : Scalars) (left : Left) (s : Scalar) (r : Decision) where
+  pub line-reference : (byref : Bool) → byref ≡ isByReference S (s .size) → byref ≡ true → r ≡ reference (min 1 (left .integer)) → r ≡ scalarArgument B S left s
   unfolding scalarArgument
-  line-reference h n en er = rw (er, en, ← eb, h)
+  line-reference byref eb h er = rw (er, ← eb, h)
 
-  module _ (nb : byref ≡ false) where
-    pub line-memory : (isFloat (s .kind) && eqb (s .kind) (S .«in_memory»)) ≡ true → r ≡ direct 0 0 0 0 → r ≡ scalarArgument B S left s
-    unfolding scalarArgument
-    line-memory h er = rw (er, ← eb, nb, h)
+  -- an integer: the lines that are its own
+  module _ (byref : Bool) (eb : byref ≡ isByReference S (s .size)) (nb : byref ≡ false) (i : s .kind ≡ integer) (want : ℕ) (ew : want ≡ wantOf (s .size) (B .«integer_width»)) where
+    integer-lines : scalarArgument B S left s
+        ≡ cond (S .«wide_integer_in_memory» && ltb 1 want) (direct (left .integer) 0 0 0)
+        (cond (B .shared) (direct 0 (takes 1 (left .integer)) 0 0) (integerArgument (B .integer) S (left .integer) want))
+    unfolding scalarArgument inRegisters
+    integer-lines = rw (← eb, nb, eq-eqb _ _ i, and-true, and-false, ← ew)
 
-    module _ (nm : (isFloat (s .kind) && eqb (s .kind) (S .«in_memory»)) ≡ false) (want : ℕ) (ew : want ≡ wantOf (s .size) (B .«integer_width»)) where
-      pub line-wide : ((S .«wide_integer_in_memory» && eqb (s .kind) integer) && ltb 1 want) ≡ true → r ≡ direct (left .integer) 0 0 0 → r ≡ scalarArgument B S left s
-      unfolding scalarArgument
-      line-wide h er = rw (er, ← eb, nb, nm, ← ew, h)
+    pub line-wide : (S .«wide_integer_in_memory» && ltb 1 want) ≡ true → r ≡ direct (left .integer) 0 0 0 → r ≡ scalarArgument B S left s
+    line-wide h er = rw (er, integer-lines, h)
 
-      module _ (nw : ((S .«wide_integer_in_memory» && eqb (s .kind) integer) && ltb 1 want) ≡ false) where
-        pub line-cut : (left .«integers_only» && isFloat (s .kind)) ≡ true → (n : ℕ) → n ≡ min want (left .integer)
-            → r ≡ piecesOf (cutSlots (s .size) (B .«integer_width»)) (spends 0 n 0 0) → r ≡ scalarArgument B S left s
-        unfolding scalarArgument
-        line-cut h n en er = rw (er, en, ← eb, nb, nm, ← ew, nw, h)
+    module _ (nw : (S .«wide_integer_in_memory» && ltb 1 want) ≡ false) where
+      pub line-shared : B .shared ≡ true → r ≡ direct 0 (min 1 (left .integer)) 0 0 → r ≡ scalarArgument B S left s
+      line-shared h er = rw (er, integer-lines, nw, h)
 
-        pub line-registers : (left .«integers_only» && isFloat (s .kind)) ≡ false → r ≡ inRegisters B S left s want → r ≡ scalarArgument B S left s
-        unfolding scalarArgument
-        line-registers h er = rw (er, ← eb, nb, nm, ← ew, nw, h)
+      pub line-integer : B .shared ≡ false → r ≡ integerArgument (B .integer) S (left .integer) want → r ≡ scalarArgument B S left s
+      line-integer h er = rw (er, integer-lines, nw, h)
 
-module _ (B : Banks) (S : Scalars) (left : Left) (s : Scalar) (want : ℕ) (r : Decision) where
-  pub line-shared : B .shared ≡ true → (n : ℕ) → n ≡ min 1 (left .integer) → r ≡ direct 0 n 0 0 → r ≡ inRegisters B S left s want
-  unfolding inRegisters
-  line-shared h n en er = rw (er, en, h)
+  -- a float: the lines that are its own
+  module _ (nb : isByReference S (s .size) ≡ false) (f : s .kind ≡ integer → ⊥) where
+    float-lines : scalarArgument B S left s
+        ≡ cond (eqb (s .kind) (S .«in_memory»)) (direct 0 0 0 0)
+        (cond (left .«integers_only») (piecesOf (cutSlots (s .size) (B .«integer_width»)) (spends 0 (takes (wantOf (s .size) (B .«integer_width»)) (left .integer)) 0 0))
+        (cond (B .shared) (direct 0 (takes 1 (left .integer)) 0 0)
+        (cond (leb (s .size) (B .«float_width»)) (direct 0 0 0 (takes 1 (left .float)))
+        (direct 0 (takes (wantOf (s .size) (B .«integer_width»)) (left .integer)) 0 0))))
+    unfolding scalarArgument inRegisters
+    float-lines = rw (nb, ne-eqb _ _ f, and-false, and-true)
 
-  module _ (ns : B .shared ≡ false) where
-    pub line-float : (isFloat (s .kind) && leb (s .size) (B .«float_width»)) ≡ true → (n : ℕ) → n ≡ min 1 (left .float) → r ≡ direct 0 0 0 n → r ≡ inRegisters B S left s want
-    unfolding inRegisters
-    line-float h n en er = rw (er, en, ns, h)
+    pub float-memory : s .kind ≡ S .«in_memory» → r ≡ direct 0 0 0 0 → r ≡ scalarArgument B S left s
+    float-memory h er = rw (er, float-lines, eq-eqb _ _ h)
 
-    module _ (nf : (isFloat (s .kind) && leb (s .size) (B .«float_width»)) ≡ false) where
-      pub line-wider : (s .kind ≡ integer → ⊥) → (n : ℕ) → n ≡ min want (left .integer) → r ≡ direct 0 n 0 0 → r ≡ inRegisters B S left s want
-      unfolding inRegisters
-      line-wider h n en er = rw (er, en, ns, nf, ne-eqb _ _ h)
+    module _ (nm : s .kind ≡ S .«in_memory» → ⊥) where
+      pub float-cut : left .«integers_only» ≡ true → (want : ℕ) → want ≡ wantOf (s .size) (B .«integer_width») → (n : ℕ) → n ≡ min want (left .integer)
+          → (parts : Slots) → parts ≡ cutSlots (s .size) (B .«integer_width») → r ≡ piecesOf parts (spends 0 n 0 0) → r ≡ scalarArgument B S left s
+      float-cut h want ew n en parts ep er = rw (er, ep, en, ew, float-lines, ne-eqb _ _ nm, h)
 
-      pub line-integer : s .kind ≡ integer → r ≡ integerArgument (B .integer) S (left .integer) want → r ≡ inRegisters B S left s want
-      unfolding inRegisters
-      line-integer h er = rw (er, ns, nf, eq-eqb _ _ h)
+      module _ (ni : left .«integers_only» ≡ false) where
+        pub float-shared : B .shared ≡ true → r ≡ direct 0 (min 1 (left .integer)) 0 0 → r ≡ scalarArgument B S left s
+        float-shared h er = rw (er, float-lines, ne-eqb _ _ nm, ni, h)
+
+        module _ (ns : B .shared ≡ false) where
+          pub float-narrow : s .size ≤ B .«float_width» → (n : ℕ) → n ≡ min 1 (left .float) → r ≡ direct 0 0 0 n → r ≡ scalarArgument B S left s
+          float-narrow h n en er = rw (er, en, float-lines, ne-eqb _ _ nm, ni, ns, le-leb _ _ h)
+
+          pub float-wider : B .«float_width» < s .size → (want : ℕ) → want ≡ wantOf (s .size) (B .«integer_width»)
+              → r ≡ direct 0 (min want (left .integer)) 0 0 → r ≡ scalarArgument B S left s
+          float-wider h want ew er = rw (er, ew, float-lines, ne-eqb _ _ nm, ni, ns, lt-leb _ _ h)
 
 -- ---- what comes back
 
@@ -142,11 +165,11 @@ module _ (pointer : ReturnPointer) (I : ℕ) (r : Decision) where
   pub own-pointer : pointer ≡ Dedicated → r ≡ reference 0 → r ≡ byPointer pointer I
   own-pointer e er = rw (er, e)
 
-  pub first-pointer : pointer ≡ FirstArgument → (n : ℕ) → n ≡ min 1 I → r ≡ reference n → r ≡ byPointer pointer I
-  first-pointer e n en er = rw (er, en, e)
+  pub first-pointer : pointer ≡ FirstArgument → r ≡ reference (min 1 I) → r ≡ byPointer pointer I
+  first-pointer e er = rw (er, e)
 
-  pub popped-pointer : pointer ≡ FirstArgumentPopped → (n : ℕ) → n ≡ min 1 I → r ≡ reference n → r ≡ byPointer pointer I
-  popped-pointer e n en er = rw (er, en, e)
+  pub popped-pointer : pointer ≡ FirstArgumentPopped → r ≡ reference (min 1 I) → r ≡ byPointer pointer I
+  popped-pointer e er = rw (er, e)
 
 module _ (S : Scalars) (pointer : ReturnPointer) (left : Left) (s : Scalar) (r : Decision) (byref : Bool) (eb : byref ≡ returnsByReference S (s .size)) where
   pub return-direct : not byref ≡ true → r ≡ direct 0 0 0 0 → r ≡ scalarReturn S pointer left s
@@ -155,9 +178,9 @@ module _ (S : Scalars) (pointer : ReturnPointer) (left : Left) (s : Scalar) (r :
 
   module _ (nd : not byref ≡ false) where
     pub return-float : (eqb (s .kind) integer && not (eqb (S .«wide_integer_returns_in») integer)) ≡ true
-        → r ≡ piecesOf (oneSlot (S .«wide_integer_returns_in») 0 1) (spends 0 0 0 0) → r ≡ scalarReturn S pointer left s
+        → (one : Slots) → one ≡ oneSlot (S .«wide_integer_returns_in») 0 1 → r ≡ piecesOf one (spends 0 0 0 0) → r ≡ scalarReturn S pointer left s
     unfolding scalarReturn
-    return-float h er = rw (er, ← eb, nd, h)
+    return-float h one eo er = rw (er, eo, ← eb, nd, h)
 
     pub return-pointer : (eqb (s .kind) integer && not (eqb (S .«wide_integer_returns_in») integer)) ≡ false
         → r ≡ byPointer pointer (left .integer) → r ≡ scalarReturn S pointer left s
@@ -170,8 +193,8 @@ module _ (pointer : ReturnPointer) (returning : Bool) (I : ℕ) (r : Decision) w
   pub reference-back : returning ≡ true → r ≡ byPointer pointer I → r ≡ byReference pointer returning I
   reference-back h er = rw (er, h)
 
-  pub reference-out : returning ≡ false → (n : ℕ) → n ≡ min 1 I → r ≡ reference n → r ≡ byReference pointer returning I
-  reference-out h n en er = rw (er, en, h)
+  pub reference-out : returning ≡ false → r ≡ reference (min 1 I) → r ≡ byReference pointer returning I
+  reference-out h er = rw (er, h)
 
 module _ (returning : Bool) (I want : ℕ) (r : Decision) where
   pub memory-back : returning ≡ true → r ≡ memory 0 0 0 0 → r ≡ inMemoryAndSpend returning I want
@@ -224,16 +247,14 @@ module _ (B : Banks) (pointer : ReturnPointer) (returning : Bool) (left : Left) 
   unfolding travelOf
   travel-found e r er = rw (er, e)
 
-  pub travel-integers : rule .then ≡ AsIntegers → (n : ℕ) → n ≡ length (cut size (B .«integer_width»)) → (r : steps.Step)
-      → r ≡ inSlots (B .shared) returning left (rule .short) (record { count = n; floats = 0; source = cutSlots size (B .«integer_width») .source })
-      → r ≡ travelOf B pointer returning left rule size found
-  unfolding travelOf
-  travel-integers e n en r er = rw (er, en, e)
+  module _ (cutOrOne : Slots) (r : steps.Step) (er : r ≡ inSlots (B .shared) returning left (rule .short) cutOrOne) where
+    pub travel-integers : rule .then ≡ AsIntegers → cutOrOne ≡ cutSlots size (B .«integer_width») → r ≡ travelOf B pointer returning left rule size found
+    unfolding travelOf
+    travel-integers e ec = rw (er, ec, e)
 
-  pub travel-one : rule .then ≡ AsOneInteger → (r : steps.Step) → r ≡ inSlots (B .shared) returning left (rule .short) (oneSlot integer size 0)
-      → r ≡ travelOf B pointer returning left rule size found
-  unfolding travelOf
-  travel-one e r er = rw (er, e)
+    pub travel-one : rule .then ≡ AsOneInteger → cutOrOne ≡ oneSlot integer size 0 → r ≡ travelOf B pointer returning left rule size found
+    unfolding travelOf
+    travel-one e ec = rw (er, ec, e)
 
   pub travel-reference : rule .then ≡ ByReference → (d : Decision) → d ≡ byReference pointer returning (left .integer) → steps.the-variants.Decided d ≡ travelOf B pointer returning left rule size found
   unfolding travelOf

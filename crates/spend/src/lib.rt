@@ -8,9 +8,12 @@ use describe::Short;
 use describe::Travel;
 use shape::Scalar;
 ghost use mathlib.Core.Path.{_≡_};
-ghost use Prim.Native.Nat.{_-_};
+ghost use mathlib.Core.Bool.{false};
+ghost use Prim.Native.Nat.{_-_, min};
+ghost use Rattle.shape.specs.Numbers.{integer};
+ghost use Rattle.describe.specs.Questions.{isByReference};
 ghost use Rattle.spend.specs.Ways.{wayNumber, spends, plain, piecesOf, cutSlots, oneSlot};
-ghost use Rattle.spend.specs.Spending.{wantOf, scalarArgument, inRegisters, integerArgument, skipOf, scalarReturn, byPointer, travelOf, byReference, inMemoryAndSpend, inSlots, integerCost, floatCost, drainOf};
+ghost use Rattle.spend.specs.Spending.{wantOf, scalarArgument, integerArgument, skipOf, scalarReturn, byPointer, travelOf, byReference, inMemoryAndSpend, inSlots, integerCost, floatCost, drainOf};
 
 // What a call has left: registers in each bank, and whether floats go in integer registers alone.
 pub struct Left {
@@ -80,67 +83,80 @@ pub fn way_number(way: Way) -> u64
     }
 }
 
-// A scalar argument: the first of the ten lines of REFERENCE 9.2 that applies.
+// A scalar argument: the first of the ten lines of REFERENCE 9.2 that applies. The kind is asked once: an integer has the lines 3, 5 and 8 to
+// 10, a float the lines 2 and 4 to 7.
 pub fn scalar_argument(banks: Banks, scalars: Scalars, left: Left, s: Scalar) -> Decision
     ensures { λ r. ⌜ r ≡ scalarArgument banks scalars left s ⌝ }
 {
+    // 1: wide goes by reference, and the size isn't that of a register
     if describe::scalar_is_by_reference(scalars, s.size) {
-        return integers(Way::Reference, 0, shape::least(1, left.integer));
-    }
-    if (s.kind != shape::INTEGER) & (s.kind == scalars.in_memory) {
-        return integers(Way::Direct, 0, 0);
-    }
-    let want = registers(s.size, banks.integer_width);
-    if scalars.wide_integer_in_memory & (s.kind == shape::INTEGER) & (want > 1) {
-        return integers(Way::Direct, left.integer, 0);
-    }
-    if left.integers_only & (s.kind != shape::INTEGER) {
-        return cut_float(
-            s.size,
-            banks.integer_width,
-            shape::least(want, left.integer),
-        );
-    }
-    in_registers(banks, scalars, left, s, want)
-}
-
-// The last six of the ten lines: a scalar that goes in the registers of a bank as it is.
-fn in_registers(banks: Banks, scalars: Scalars, left: Left, s: Scalar, want: u64) -> Decision
-    ensures { λ r. ⌜ r ≡ inRegisters banks scalars left s want ⌝ }
-{
-    if banks.shared {
-        return integers(Way::Direct, 0, shape::least(1, left.integer));
-    }
-    if (s.kind != shape::INTEGER) & (s.size <= banks.float_width) {
-        return floats(shape::least(1, left.float));
+        return by_address(left.integer);
     }
     if s.kind != shape::INTEGER {
-        return integers(Way::Direct, 0, shape::least(want, left.integer));
+        return float_argument(banks, scalars, left, s);
+    }
+    let want = registers(s.size, banks.integer_width);
+    // 3: wide integers in memory
+    if scalars.wide_integer_in_memory & (want > 1) {
+        return direct(left.integer, 0);
+    }
+    // 5: a shared bank
+    if banks.shared {
+        return taking(1, left.integer);
     }
     integer_argument(banks.integer, scalars, left.integer, want)
 }
 
-// The last three of the ten lines: an integer that wants so many registers.
+// A float that doesn't go by reference: the lines 2 and 4 to 7.
+fn float_argument(banks: Banks, scalars: Scalars, left: Left, s: Scalar) -> Decision
+    requires { ⌜ (isByReference scalars (s .size) ≡ false) × (s .kind ≡ integer → ⊥) ⌝ }
+    ensures { λ r. ⌜ r ≡ scalarArgument banks scalars left s ⌝ }
+{
+    // 2: the description's memory format
+    if s.kind == scalars.in_memory {
+        return direct(0, 0);
+    }
+    // 4: integers-only
+    if left.integers_only {
+        let given = shape::least(registers(s.size, banks.integer_width), left.integer);
+        return pieces(cut_slots(s.size, banks.integer_width), given, 0);
+    }
+    // 5: a shared bank
+    if banks.shared {
+        return taking(1, left.integer);
+    }
+    // 6: no wider than the float width
+    if s.size <= banks.float_width {
+        return floats(shape::least(1, left.float));
+    }
+    // 7: a wider float
+    taking(registers(s.size, banks.integer_width), left.integer)
+}
+
+// The lines 8 to 10: an integer that wants so many registers.
 fn integer_argument(start: u64, scalars: Scalars, left: u64, want: u64) -> Decision
     ensures { λ r. ⌜ r ≡ integerArgument start scalars left want ⌝ }
 {
+    // 8: all or nothing
     if scalars.wide_integer_is_all_or_nothing {
         if want <= left {
-            return integers(Way::Direct, 0, want);
+            return direct(0, want);
         }
-        return integers(Way::Direct, 0, 0);
+        return direct(0, 0);
     }
+    // 9: wide, with an even start or a drain
     if (want > 1) & (scalars.wide_integer_starts_even | scalars.wide_integer_drains) {
         let skipped = skip(scalars.wide_integer_starts_even, minus(start, left), left);
         if want <= minus(left, skipped) {
-            return integers(Way::Direct, skipped, want);
+            return direct(skipped, want);
         }
         if scalars.wide_integer_drains {
-            return integers(Way::Direct, left, 0);
+            return direct(left, 0);
         }
-        return integers(Way::Direct, skipped, 0);
+        return direct(skipped, 0);
     }
-    integers(Way::Direct, 0, shape::least(want, left))
+    // 10: any other integer
+    taking(want, left)
 }
 
 // Passed over for an even start: one, where an odd number is used and one is left.
@@ -158,10 +174,10 @@ pub fn scalar_return(scalars: Scalars, pointer: ReturnPointer, left: Left, s: Sc
     ensures { λ r. ⌜ r ≡ scalarReturn scalars pointer left s ⌝ }
 {
     if !describe::scalar_returns_by_reference(scalars, s.size) {
-        return integers(Way::Direct, 0, 0);
+        return direct(0, 0);
     }
     if (s.kind == shape::INTEGER) & (scalars.wide_integer_returns_in != shape::INTEGER) {
-        return one_float(scalars.wide_integer_returns_in);
+        return pieces(one_slot(scalars.wide_integer_returns_in, 0, 1), 0, 0);
     }
     by_pointer(pointer, left.integer)
 }
@@ -172,8 +188,8 @@ fn by_pointer(pointer: ReturnPointer, left: u64) -> Decision
 {
     match pointer {
         ReturnPointer::Dedicated => integers(Way::Reference, 0, 0),
-        ReturnPointer::FirstArgument => integers(Way::Reference, 0, shape::least(1, left)),
-        ReturnPointer::FirstArgumentPopped => integers(Way::Reference, 0, shape::least(1, left)),
+        ReturnPointer::FirstArgument => by_address(left),
+        ReturnPointer::FirstArgumentPopped => by_address(left),
     }
 }
 
@@ -200,26 +216,14 @@ pub fn travel(
             returning,
             left,
             short,
-            Slots {
-                count: slots::parts(size, width),
-                floats: 0,
-                source: Source::Cut { size, width },
-            },
+            cut_slots(size, width),
         ),
         Travel::AsOneInteger => in_slots(
             banks.shared,
             returning,
             left,
             short,
-            Slots {
-                count: 1,
-                floats: 0,
-                source: Source::One {
-                    kind: shape::INTEGER,
-                    offset: 0,
-                    size,
-                },
-            },
+            one_slot(shape::INTEGER, size, 0),
         ),
         Travel::ByReference => Step::Decided(by_reference(pointer, returning, left.integer)),
         Travel::InMemory => Step::Decided(integers(Way::Memory, 0, 0)),
@@ -237,7 +241,7 @@ fn by_reference(pointer: ReturnPointer, returning: bool, left: u64) -> Decision
     if returning {
         return by_pointer(pointer, left);
     }
-    integers(Way::Reference, 0, shape::least(1, left))
+    by_address(left)
 }
 
 fn in_memory_and_spend(returning: bool, left: u64, want: u64) -> Decision
@@ -301,6 +305,26 @@ pub fn registers(size: u64, width: u64) -> u64
     ensures { λ r. ⌜ r ≡ wantOf size width ⌝ }
 {
     shape::most(slots::parts(size, width), 1)
+}
+
+// Direct, and given takes `want` of the integer registers that are left.
+fn taking(want: u64, left: u64) -> Decision
+    ensures { λ r. ⌜ r ≡ plain Way.Direct (spends 0 (min want left) 0 0) ⌝ }
+{
+    direct(0, shape::least(want, left))
+}
+
+fn direct(passed: u64, given: u64) -> Decision
+    ensures { λ r. ⌜ r ≡ plain Way.Direct (spends passed given 0 0) ⌝ }
+{
+    integers(Way::Direct, passed, given)
+}
+
+// Reference, and given takes 1 of the integer registers that are left.
+fn by_address(left: u64) -> Decision
+    ensures { λ r. ⌜ r ≡ plain Way.Reference (spends 0 (min 1 left) 0 0) ⌝ }
+{
+    integers(Way::Reference, 0, shape::least(1, left))
 }
 
 // A decision without slots that spends integer registers alone.
@@ -370,38 +394,30 @@ fn pieces(found: Slots, integer: u64, float: u64) -> Decision
     }
 }
 
-// A float as integers, given so many registers.
-fn cut_float(size: u64, width: u64, given: u64) -> Decision
-    ensures { λ r. ⌜ r ≡ piecesOf (cutSlots size width) (spends 0 given 0 0) ⌝ }
+// A size cut into integers of a width.
+fn cut_slots(size: u64, width: u64) -> Slots
+    ensures { λ r. ⌜ r ≡ cutSlots size width ⌝ }
 {
-    pieces(
-        Slots {
-            count: slots::parts(size, width),
-            floats: 0,
-            source: Source::Cut { size, width },
-        },
-        given,
-        0,
-    )
+    Slots {
+        count: slots::parts(size, width),
+        floats: 0,
+        source: Source::Cut { size, width },
+    }
 }
 
-// One float slot at the start, given no register.
-fn one_float(format: u64) -> Decision
-    ensures { λ r. ⌜ r ≡ piecesOf (oneSlot format 0 1) (spends 0 0 0 0) ⌝ }
+// One slot at the start: its kind, its size, and 1 where it is a float.
+fn one_slot(kind: u64, size: u64, floats: u64) -> Slots
+    ensures { λ r. ⌜ r ≡ oneSlot kind size floats ⌝ }
 {
-    pieces(
-        Slots {
-            count: 1,
-            floats: 1,
-            source: Source::One {
-                kind: format,
-                offset: 0,
-                size: 0,
-            },
+    Slots {
+        count: 1,
+        floats,
+        source: Source::One {
+            kind,
+            offset: 0,
+            size,
         },
-        0,
-        0,
-    )
+    }
 }
 
 fn minus(a: u64, b: u64) -> u64

@@ -13,20 +13,14 @@ integers-requires c κs = search needs
 enum-told-2 : tie.Need-enum-told-2
 enum-told-2 c = search needs
 
-least-requires : tie.Need-least-requires
-least-requires c κs = search needs
-
-integers-requires-2 : tie.Need-integers-requires-2
-integers-requires-2 c κs = search needs
+by-address-requires : tie.Need-by-address-requires
+by-address-requires c κs = search needs
 
 enum-told-3 : tie.Need-enum-told-3
 enum-told-3 c = search needs
 
-least-requires-2 : tie.Need-least-requires-2
-least-requires-2 c κs = search needs
-
-integers-requires-3 : tie.Need-integers-requires-3
-integers-requires-3 c κs = search needs
+by-address-requires-2 : tie.Need-by-address-requires-2
+by-address-requires-2 c κs = search needs
 
 returns : tie.Need-returns
 returns c = search (own-pointer)
@@ -44,11 +38,9 @@ by-pointer-spec =
     enum-told
     integers-requires
     enum-told-2
-    least-requires
-    integers-requires-2
+    by-address-requires
     enum-told-3
-    least-requires-2
-    integers-requires-3
+    by-address-requires-2
     returns
     returns-2
     returns-3)

@@ -10,15 +10,11 @@ by-pointer-requires c κs = search needs
 returns : tie.Need-returns
 returns c = search (reference-back)
 
-least-requires : tie.Need-least-requires
-least-requires c κs = search needs
-
-integers-requires : tie.Need-integers-requires
-integers-requires c κs = search needs
+by-address-requires : tie.Need-by-address-requires
+by-address-requires c κs = search needs
 
 returns-2 : tie.Need-returns-2
 returns-2 c = search (reference-out)
 
 pub by-reference-spec : {M : Type 1} → statement M
-by-reference-spec =
-    tie.close (tie.spec by-pointer-requires returns least-requires integers-requires returns-2)
+by-reference-spec = tie.close (tie.spec by-pointer-requires returns by-address-requires returns-2)

@@ -7,14 +7,17 @@ use Rattle.spend.proofs.scalar_return.Tie as tie
 scalar-returns-by-reference-requires : tie.Need-scalar-returns-by-reference-requires
 scalar-returns-by-reference-requires c κs = search needs
 
-integers-requires : tie.Need-integers-requires
-integers-requires c κs = search needs
+direct-requires : tie.Need-direct-requires
+direct-requires c κs = search needs
 
 returns : tie.Need-returns
 returns c = search (return-direct)
 
-one-float-requires : tie.Need-one-float-requires
-one-float-requires c κs = search needs
+one-slot-requires : tie.Need-one-slot-requires
+one-slot-requires c κs = search needs
+
+pieces-requires : tie.Need-pieces-requires
+pieces-requires c κs = search needs
 
 returns-2 : tie.Need-returns-2
 returns-2 c = search (return-float)
@@ -30,9 +33,10 @@ scalar-return-spec =
     tie.close
     (tie.spec
     scalar-returns-by-reference-requires
-    integers-requires
+    direct-requires
     returns
-    one-float-requires
+    one-slot-requires
+    pieces-requires
     returns-2
     by-pointer-requires
     returns-3)

@@ -19,14 +19,17 @@ in-slots-requires c κs = search needs
 enum-told-3 : tie.Need-enum-told-3
 enum-told-3 c = search needs
 
-parts-requires : tie.Need-parts-requires
-parts-requires c κs = search needs
+cut-slots-requires : tie.Need-cut-slots-requires
+cut-slots-requires c κs = search needs
 
 in-slots-requires-2 : tie.Need-in-slots-requires-2
 in-slots-requires-2 c κs = search needs
 
 enum-told-4 : tie.Need-enum-told-4
 enum-told-4 c = search needs
+
+one-slot-requires : tie.Need-one-slot-requires
+one-slot-requires c κs = search needs
 
 in-slots-requires-3 : tie.Need-in-slots-requires-3
 in-slots-requires-3 c κs = search needs
@@ -82,9 +85,10 @@ travel-spec =
     enum-told-2
     in-slots-requires
     enum-told-3
-    parts-requires
+    cut-slots-requires
     in-slots-requires-2
     enum-told-4
+    one-slot-requires
     in-slots-requires-3
     enum-told-5
     by-reference-requires
