@@ -1,3 +1,1 @@
-mod Handed
-mod Described
 mod Unique

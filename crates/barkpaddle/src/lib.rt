@@ -1,44 +1,89 @@
-// The exported entries, for a bridge builder in Rust or C (REFERENCE 13): numbers and slices in, numbers out. Each answers what the value form
-// behind it answers. Numbers that say yes or no are set when they aren't 0, and come back as 0 or 1.
-mod calls;
-mod descriptions;
-mod layouts;
-mod targets;
+// The exported entries that start a call, mark it, and ask for its fixed arguments, in numbers and slices (REFERENCE 13.2). The call comes as
+// its description, the counts left and the mark, and goes back in the answer. Returns, arguments after the dots and questions are entries of
+// crates of their own: what the entries of one archive share isn't inlined into any of them (docs/DECISIONS.md).
+ghost use mathlib.Core.Path.{_≡_};
+ghost use mathlib.Core.List.{[]};
+ghost use Rattle.numbers.specs.Numbers.{callFrom, void, scalar, aggregate, inNumbers};
+ghost use Rattle.classify.specs.Answers.{freshAnswer, variadicAnswer, argumentAnswer, argumentWritten};
+use classify::Arg;
+use classify::Call;
+use numbers::Answer;
+use shape::Scalar;
 
-pub use calls::Answer;
-pub use calls::barkpaddle_argument_aggregate;
-pub use calls::barkpaddle_argument_scalar;
-pub use calls::barkpaddle_argument_void;
-pub use calls::barkpaddle_fresh;
-pub use calls::barkpaddle_in_memory;
-pub use calls::barkpaddle_return_aggregate;
-pub use calls::barkpaddle_return_scalar;
-pub use calls::barkpaddle_return_void;
-pub use calls::barkpaddle_variadic;
-pub use calls::barkpaddle_variadic_argument_aggregate;
-pub use calls::barkpaddle_variadic_argument_scalar;
-pub use calls::barkpaddle_variadic_argument_void;
-pub use descriptions::Description;
-pub use descriptions::RuleNumbers;
-pub use descriptions::barkpaddle_argument_rule;
-pub use descriptions::barkpaddle_description;
-pub use descriptions::barkpaddle_name;
-pub use descriptions::barkpaddle_return_rule;
-pub use descriptions::barkpaddle_scalar_is_by_reference;
-pub use descriptions::barkpaddle_scalar_returns_by_reference;
-pub use descriptions::barkpaddle_wide_integer_returns_in;
-pub use layouts::Record;
-pub use layouts::barkpaddle_pieces;
-pub use layouts::barkpaddle_record;
-pub use targets::barkpaddle_asked;
-pub use targets::barkpaddle_attribute;
-pub use targets::barkpaddle_callee_pops;
-pub use targets::barkpaddle_for_convention;
-pub use targets::barkpaddle_for_target;
+// The start of a call on a description.
+#[no_mangle]
+pub extern "C" fn barkpaddle_fresh(abi: u64) -> Answer
+    ensures { λ r. ⌜ r ≡ inNumbers (freshAnswer abi) ⌝ }
+{
+    numbers::in_numbers(Call::fresh(abi))
+}
 
-// A refusal, or one number.
-#[repr(C)]
-pub struct Told {
-    pub refusal: u64,
-    pub value: u64,
+// The same call, to a function whose parameters end in dots.
+#[no_mangle]
+pub extern "C" fn barkpaddle_variadic(
+    abi: u64,
+    integer: u64,
+    float: u64,
+    integers_only: u64,
+) -> Answer
+    ensures { λ r. ⌜ r ≡ inNumbers (variadicAnswer (callFrom abi integer float «integers_only»)) ⌝ }
+{
+    let call = numbers::call_from(abi, integer, float, integers_only);
+    numbers::in_numbers(call.variadic())
+}
+
+// How the next fixed argument travels: nothing travels.
+#[no_mangle]
+pub extern "C" fn barkpaddle_argument_void(
+    abi: u64,
+    integer: u64,
+    float: u64,
+    integers_only: u64,
+    slots: &mut [u64],
+) -> Answer
+    ensures { λ r. ⌜ (r ≡ inNumbers (argumentAnswer (callFrom abi integer float «integers_only») void [] (now (slots .entry)))) × (now (slots .exit) ≡ argumentWritten (callFrom abi integer float «integers_only») void [] (now (slots .entry))) ⌝ }
+{
+    let call = numbers::call_from(abi, integer, float, integers_only);
+    let no_words = [0u64; 0];
+    numbers::in_numbers(call.argument(Arg::Void, &no_words, slots))
+}
+
+// How the next fixed argument travels: a scalar.
+#[no_mangle]
+pub extern "C" fn barkpaddle_argument_scalar(
+    abi: u64,
+    integer: u64,
+    float: u64,
+    integers_only: u64,
+    kind: u64,
+    size: u64,
+    align: u64,
+    slots: &mut [u64],
+) -> Answer
+    ensures { λ r. ⌜ (r ≡ inNumbers (argumentAnswer (callFrom abi integer float «integers_only») (scalar kind size align) [] (now (slots .entry)))) × (now (slots .exit) ≡ argumentWritten (callFrom abi integer float «integers_only») (scalar kind size align) [] (now (slots .entry))) ⌝ }
+{
+    let call = numbers::call_from(abi, integer, float, integers_only);
+    let no_words = [0u64; 0];
+    numbers::in_numbers(call.argument(Arg::Scalar(Scalar { kind, size, align }), &no_words, slots))
+}
+
+// How the next fixed argument travels: an aggregate, its pieces as words.
+#[no_mangle]
+pub extern "C" fn barkpaddle_argument_aggregate(
+    abi: u64,
+    integer: u64,
+    float: u64,
+    integers_only: u64,
+    size: u64,
+    align: u64,
+    complex: u64,
+    floating: u64,
+    words: &[u64],
+    slots: &mut [u64],
+) -> Answer
+    ensures { λ r. ⌜ (r ≡ inNumbers (argumentAnswer (callFrom abi integer float «integers_only») (aggregate size align complex floating) (now (words .entry)) (now (slots .entry)))) × (now (slots .exit) ≡ argumentWritten (callFrom abi integer float «integers_only») (aggregate size align complex floating) (now (words .entry)) (now (slots .entry))) ⌝ }
+{
+    let call = numbers::call_from(abi, integer, float, integers_only);
+    let shape = numbers::shape_from(size, align, complex, floating);
+    numbers::in_numbers(call.argument(Arg::Aggregate(shape), words, slots))
 }

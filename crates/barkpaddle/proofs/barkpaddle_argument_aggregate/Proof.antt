@@ -1,0 +1,26 @@
+-- `barkpaddle_argument_aggregate` hands on what `argument` answers and writes. Assumes nothing.
+use mathlib.Core.Path.{ap}
+use Rattle.classify.specs.declared.Arg as args
+use borrow.Author.Needs.{needs}
+use Rattle.classify.specs.Answers.{argumentAnswer, argumentWritten}
+use Rattle.numbers.proofs.Handed.{handed, written}
+use Rattle.barkpaddle.proofs.barkpaddle_argument_aggregate.Statement.{statement}
+use Rattle.barkpaddle.proofs.barkpaddle_argument_aggregate.Tie as tie
+
+pub barkpaddle-argument-aggregate-spec : {M : Type 1} → statement M
+barkpaddle-argument-aggregate-spec =
+    tie.close
+    (tie.spec
+    (λ c κs. search needs)
+    (λ c κs. search needs)
+    (λ c κs. search needs)
+    (λ c κs. search needs)
+    (λ c. search needs)
+    (λ c.
+    let operation = c .before .before .before in
+    let shape = operation .before .before in
+    let same = ap args.the-variants.Aggregate (shape .shape-from .ensures) in
+    let call = shape .before .call-from .ensures in (
+      handed _ _ call _ _ same _ _ argumentAnswer _ (operation .argument .ensures .0) _ (c .in-numbers .ensures),
+      written _ _ call _ _ same _ _ argumentWritten _ (operation .argument .ensures .1),
+    )))

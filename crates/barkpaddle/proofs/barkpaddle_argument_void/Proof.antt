@@ -1,0 +1,23 @@
+-- `barkpaddle_argument_void` hands on what `argument` answers and writes. Assumes nothing.
+use mathlib.Core.Path.{refl}
+use borrow.Author.Needs.{needs}
+use Rattle.classify.specs.Answers.{argumentAnswer, argumentWritten}
+use Rattle.numbers.proofs.Handed.{handed, written}
+use Rattle.barkpaddle.proofs.barkpaddle_argument_void.Statement.{statement}
+use Rattle.barkpaddle.proofs.barkpaddle_argument_void.Tie as tie
+
+pub barkpaddle-argument-void-spec : {M : Type 1} → statement M
+barkpaddle-argument-void-spec =
+    tie.close
+    (tie.spec
+    (λ c κs. search needs)
+    (λ c. search needs)
+    (λ c κs. search needs)
+    (λ c κs. search needs)
+    (λ c. search needs)
+    (λ c.
+    let operation = c .before .before .before in
+    let call = operation .before .before .before .call-from .ensures in (
+      handed _ _ call _ _ refl _ _ argumentAnswer _ (operation .argument .ensures .0) _ (c .in-numbers .ensures),
+      written _ _ call _ _ refl _ _ argumentWritten _ (operation .argument .ensures .1),
+    )))

@@ -1,0 +1,15 @@
+-- `barkpaddle_variadic` hands on what `variadic` answers. Assumes nothing.
+use borrow.Author.Needs.{needs}
+use Rattle.classify.specs.Answers.{variadicAnswer}
+use Rattle.numbers.proofs.Handed.{started}
+use Rattle.barkpaddle.proofs.barkpaddle_variadic.Statement.{statement}
+use Rattle.barkpaddle.proofs.barkpaddle_variadic.Tie as tie
+
+pub barkpaddle-variadic-spec : {M : Type 1} → statement M
+barkpaddle-variadic-spec =
+    tie.close
+    (tie.spec
+    (λ c κs. search needs)
+    (λ c κs. search needs)
+    (λ c κs. search needs)
+    (λ c. started _ _ (c .before .before .call-from .ensures) variadicAnswer _ (c .before .variadic .ensures) _ (c .in-numbers .ensures)))

@@ -1,0 +1,69 @@
+// The exported entries that say how an argument after the dots travels, in numbers and slices (REFERENCE 13.2). The call comes as its
+// description, the counts left and the mark, and goes back in the answer.
+ghost use mathlib.Core.Path.{_≡_};
+ghost use mathlib.Core.List.{[]};
+ghost use Rattle.numbers.specs.Numbers.{callFrom, void, scalar, aggregate, inNumbers};
+ghost use Rattle.classify.specs.Answers.{dotsAnswer, dotsWritten};
+use classify::Arg;
+use numbers::Answer;
+use shape::Scalar;
+
+// How the next argument after the dots travels: nothing travels.
+#[no_mangle]
+pub extern "C" fn barkpaddle_variadic_argument_void(
+    abi: u64,
+    integer: u64,
+    float: u64,
+    integers_only: u64,
+    slots: &mut [u64],
+) -> Answer
+    ensures { λ r. ⌜ (r ≡ inNumbers (dotsAnswer (callFrom abi integer float «integers_only») void [] (now (slots .entry)))) × (now (slots .exit) ≡ dotsWritten (callFrom abi integer float «integers_only») void [] (now (slots .entry))) ⌝ }
+{
+    let call = numbers::call_from(abi, integer, float, integers_only);
+    let no_words = [0u64; 0];
+    numbers::in_numbers(call.variadic_argument(Arg::Void, &no_words, slots))
+}
+
+// How the next argument after the dots travels: a scalar.
+#[no_mangle]
+pub extern "C" fn barkpaddle_variadic_argument_scalar(
+    abi: u64,
+    integer: u64,
+    float: u64,
+    integers_only: u64,
+    kind: u64,
+    size: u64,
+    align: u64,
+    slots: &mut [u64],
+) -> Answer
+    ensures { λ r. ⌜ (r ≡ inNumbers (dotsAnswer (callFrom abi integer float «integers_only») (scalar kind size align) [] (now (slots .entry)))) × (now (slots .exit) ≡ dotsWritten (callFrom abi integer float «integers_only») (scalar kind size align) [] (now (slots .entry))) ⌝ }
+{
+    let call = numbers::call_from(abi, integer, float, integers_only);
+    let no_words = [0u64; 0];
+    numbers::in_numbers(call.variadic_argument(
+        Arg::Scalar(Scalar { kind, size, align }),
+        &no_words,
+        slots,
+    ))
+}
+
+// How the next argument after the dots travels: an aggregate, its pieces as words.
+#[no_mangle]
+pub extern "C" fn barkpaddle_variadic_argument_aggregate(
+    abi: u64,
+    integer: u64,
+    float: u64,
+    integers_only: u64,
+    size: u64,
+    align: u64,
+    complex: u64,
+    floating: u64,
+    words: &[u64],
+    slots: &mut [u64],
+) -> Answer
+    ensures { λ r. ⌜ (r ≡ inNumbers (dotsAnswer (callFrom abi integer float «integers_only») (aggregate size align complex floating) (now (words .entry)) (now (slots .entry)))) × (now (slots .exit) ≡ dotsWritten (callFrom abi integer float «integers_only») (aggregate size align complex floating) (now (words .entry)) (now (slots .entry))) ⌝ }
+{
+    let call = numbers::call_from(abi, integer, float, integers_only);
+    let shape = numbers::shape_from(size, align, complex, floating);
+    numbers::in_numbers(call.variadic_argument(Arg::Aggregate(shape), words, slots))
+}

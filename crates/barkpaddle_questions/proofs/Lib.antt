@@ -1,0 +1,3 @@
+mod Handed
+mod Described
+mod Unique

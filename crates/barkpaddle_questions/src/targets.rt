@@ -1,0 +1,58 @@
+// Which description a target and a convention follow, in numbers: the codes of REFERENCE 6, and `lookup::NONE` for none.
+ghost use mathlib.Core.Path.{_≡_};
+ghost use lib.ListN.{length};
+ghost use Rattle.describe.specs.Codes.{flag};
+ghost use Rattle.lookup.specs.Lookup.{targetAnswer, conventionAnswer, askedAnswer, attributeAnswer, attributeWritten, popsAnswer};
+ghost use Rattle.numbers.specs.Numbers.{isSet};
+ghost use Rattle.barkpaddle_questions.specs.Answers.{lengthTold};
+use numbers::Told;
+use numbers::flag_number;
+
+// The description that a target follows, or none.
+#[no_mangle]
+pub extern "C" fn barkpaddle_for_target(architecture: u64, system: u64, msvc: u64) -> u64
+    ensures { λ r. ⌜ r ≡ targetAnswer architecture system (isSet msvc) ⌝ }
+{
+    lookup::for_target(architecture, system, msvc != 0)
+}
+
+// The description that a function of a convention follows on a target, or none.
+#[no_mangle]
+pub extern "C" fn barkpaddle_for_convention(
+    architecture: u64,
+    system: u64,
+    msvc: u64,
+    convention: u64,
+) -> u64
+    ensures { λ r. ⌜ r ≡ conventionAnswer architecture system (isSet msvc) convention ⌝ }
+{
+    lookup::for_convention(architecture, system, msvc != 0, convention)
+}
+
+// The convention that an attribute's name asks for on a target, or none.
+#[no_mangle]
+pub extern "C" fn barkpaddle_asked(architecture: u64, system: u64, msvc: u64, name: &[u8]) -> u64
+    ensures { λ r. ⌜ r ≡ askedAnswer architecture system (isSet msvc) (now (name .entry)) ⌝ }
+{
+    lookup::asked(architecture, system, msvc != 0, name)
+}
+
+// The name of the attribute that asks for a convention, at the front of the buffer; how many bytes, or none.
+#[no_mangle]
+pub extern "C" fn barkpaddle_attribute(convention: u64, name: &mut [u8]) -> Told
+    ensures { λ r. ⌜ (r ≡ lengthTold (attributeAnswer convention (length (now (name .entry))))) × (now (name .exit) ≡ attributeWritten convention (now (name .entry))) ⌝ }
+{
+    let written = lookup::attribute(convention, name);
+    Told {
+        refusal: written.refusal,
+        value: written.length,
+    }
+}
+
+// Whether the callee of a convention takes its arguments off the stack.
+#[no_mangle]
+pub extern "C" fn barkpaddle_callee_pops(convention: u64) -> u64
+    ensures { λ r. ⌜ r ≡ flag (popsAnswer convention) ⌝ }
+{
+    flag_number(lookup::callee_pops(convention))
+}

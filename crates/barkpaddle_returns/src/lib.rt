@@ -1,0 +1,65 @@
+// The exported entries that say how the return value of a call comes back, in numbers and slices (REFERENCE 13.2). The call comes as its
+// description, the counts left and the mark, and goes back in the answer.
+ghost use mathlib.Core.Path.{_≡_};
+ghost use mathlib.Core.List.{[]};
+ghost use Rattle.numbers.specs.Numbers.{callFrom, void, scalar, aggregate, inNumbers};
+ghost use Rattle.classify.specs.Answers.{returnsAnswer, returnsWritten};
+use classify::Arg;
+use numbers::Answer;
+use shape::Scalar;
+
+// How the return value comes back: nothing travels.
+#[no_mangle]
+pub extern "C" fn barkpaddle_return_void(
+    abi: u64,
+    integer: u64,
+    float: u64,
+    integers_only: u64,
+    slots: &mut [u64],
+) -> Answer
+    ensures { λ r. ⌜ (r ≡ inNumbers (returnsAnswer (callFrom abi integer float «integers_only») void [] (now (slots .entry)))) × (now (slots .exit) ≡ returnsWritten (callFrom abi integer float «integers_only») void [] (now (slots .entry))) ⌝ }
+{
+    let call = numbers::call_from(abi, integer, float, integers_only);
+    let no_words = [0u64; 0];
+    numbers::in_numbers(call.returns(Arg::Void, &no_words, slots))
+}
+
+// How the return value comes back: a scalar.
+#[no_mangle]
+pub extern "C" fn barkpaddle_return_scalar(
+    abi: u64,
+    integer: u64,
+    float: u64,
+    integers_only: u64,
+    kind: u64,
+    size: u64,
+    align: u64,
+    slots: &mut [u64],
+) -> Answer
+    ensures { λ r. ⌜ (r ≡ inNumbers (returnsAnswer (callFrom abi integer float «integers_only») (scalar kind size align) [] (now (slots .entry)))) × (now (slots .exit) ≡ returnsWritten (callFrom abi integer float «integers_only») (scalar kind size align) [] (now (slots .entry))) ⌝ }
+{
+    let call = numbers::call_from(abi, integer, float, integers_only);
+    let no_words = [0u64; 0];
+    numbers::in_numbers(call.returns(Arg::Scalar(Scalar { kind, size, align }), &no_words, slots))
+}
+
+// How the return value comes back: an aggregate, its pieces as words.
+#[no_mangle]
+pub extern "C" fn barkpaddle_return_aggregate(
+    abi: u64,
+    integer: u64,
+    float: u64,
+    integers_only: u64,
+    size: u64,
+    align: u64,
+    complex: u64,
+    floating: u64,
+    words: &[u64],
+    slots: &mut [u64],
+) -> Answer
+    ensures { λ r. ⌜ (r ≡ inNumbers (returnsAnswer (callFrom abi integer float «integers_only») (aggregate size align complex floating) (now (words .entry)) (now (slots .entry)))) × (now (slots .exit) ≡ returnsWritten (callFrom abi integer float «integers_only») (aggregate size align complex floating) (now (words .entry)) (now (slots .entry))) ⌝ }
+{
+    let call = numbers::call_from(abi, integer, float, integers_only);
+    let shape = numbers::shape_from(size, align, complex, floating);
+    numbers::in_numbers(call.returns(Arg::Aggregate(shape), words, slots))
+}

@@ -1,0 +1,2 @@
+pub mod Handed
+mod Unique
