@@ -5,7 +5,6 @@ ghost use mathlib.Core.Path.{_≡_};
 ghost use mathlib.Core.List.{[]};
 ghost use Rattle.numbers.specs.Numbers.{callFrom, void, scalar, aggregate, inNumbers};
 ghost use Rattle.classify.specs.Answers.{freshAnswer, variadicAnswer, argumentAnswer, argumentWritten};
-use classify::Arg;
 use classify::Call;
 use numbers::Answer;
 use shape::Scalar;
@@ -44,8 +43,7 @@ pub extern "C" fn barkpaddle_argument_void(
     ensures { λ r. ⌜ (r ≡ inNumbers (argumentAnswer (callFrom abi integer float «integers_only») void [] (now (slots .entry)))) × (now (slots .exit) ≡ argumentWritten (callFrom abi integer float «integers_only») void [] (now (slots .entry))) ⌝ }
 {
     let call = numbers::call_from(abi, integer, float, integers_only);
-    let no_words = [0u64; 0];
-    numbers::in_numbers(call.argument(Arg::Void, &no_words, slots))
+    numbers::in_numbers(call.nothing())
 }
 
 // How the next fixed argument travels: a scalar.
@@ -63,8 +61,7 @@ pub extern "C" fn barkpaddle_argument_scalar(
     ensures { λ r. ⌜ (r ≡ inNumbers (argumentAnswer (callFrom abi integer float «integers_only») (scalar kind size align) [] (now (slots .entry)))) × (now (slots .exit) ≡ argumentWritten (callFrom abi integer float «integers_only») (scalar kind size align) [] (now (slots .entry))) ⌝ }
 {
     let call = numbers::call_from(abi, integer, float, integers_only);
-    let no_words = [0u64; 0];
-    numbers::in_numbers(call.argument(Arg::Scalar(Scalar { kind, size, align }), &no_words, slots))
+    numbers::in_numbers(call.argument_scalar(Scalar { kind, size, align }, slots))
 }
 
 // How the next fixed argument travels: an aggregate, its pieces as words.
@@ -85,5 +82,5 @@ pub extern "C" fn barkpaddle_argument_aggregate(
 {
     let call = numbers::call_from(abi, integer, float, integers_only);
     let shape = numbers::shape_from(size, align, complex, floating);
-    numbers::in_numbers(call.argument(Arg::Aggregate(shape), words, slots))
+    numbers::in_numbers(call.argument_aggregate(shape, words, slots))
 }

@@ -4,7 +4,6 @@ ghost use mathlib.Core.Path.{_≡_};
 ghost use mathlib.Core.List.{[]};
 ghost use Rattle.numbers.specs.Numbers.{callFrom, void, scalar, aggregate, inNumbers};
 ghost use Rattle.classify.specs.Answers.{dotsAnswer, dotsWritten};
-use classify::Arg;
 use numbers::Answer;
 use shape::Scalar;
 
@@ -20,8 +19,7 @@ pub extern "C" fn barkpaddle_variadic_argument_void(
     ensures { λ r. ⌜ (r ≡ inNumbers (dotsAnswer (callFrom abi integer float «integers_only») void [] (now (slots .entry)))) × (now (slots .exit) ≡ dotsWritten (callFrom abi integer float «integers_only») void [] (now (slots .entry))) ⌝ }
 {
     let call = numbers::call_from(abi, integer, float, integers_only);
-    let no_words = [0u64; 0];
-    numbers::in_numbers(call.variadic_argument(Arg::Void, &no_words, slots))
+    numbers::in_numbers(call.nothing())
 }
 
 // How the next argument after the dots travels: a scalar.
@@ -39,12 +37,7 @@ pub extern "C" fn barkpaddle_variadic_argument_scalar(
     ensures { λ r. ⌜ (r ≡ inNumbers (dotsAnswer (callFrom abi integer float «integers_only») (scalar kind size align) [] (now (slots .entry)))) × (now (slots .exit) ≡ dotsWritten (callFrom abi integer float «integers_only») (scalar kind size align) [] (now (slots .entry))) ⌝ }
 {
     let call = numbers::call_from(abi, integer, float, integers_only);
-    let no_words = [0u64; 0];
-    numbers::in_numbers(call.variadic_argument(
-        Arg::Scalar(Scalar { kind, size, align }),
-        &no_words,
-        slots,
-    ))
+    numbers::in_numbers(call.variadic_argument_scalar(Scalar { kind, size, align }, slots))
 }
 
 // How the next argument after the dots travels: an aggregate, its pieces as words.
@@ -65,5 +58,5 @@ pub extern "C" fn barkpaddle_variadic_argument_aggregate(
 {
     let call = numbers::call_from(abi, integer, float, integers_only);
     let shape = numbers::shape_from(size, align, complex, floating);
-    numbers::in_numbers(call.variadic_argument(Arg::Aggregate(shape), words, slots))
+    numbers::in_numbers(call.variadic_argument_aggregate(shape, words, slots))
 }

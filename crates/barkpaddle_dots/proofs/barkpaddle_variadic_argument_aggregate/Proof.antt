@@ -1,7 +1,7 @@
--- `barkpaddle_variadic_argument_aggregate` hands on what `variadic_argument` answers and writes. Assumes nothing.
+-- `barkpaddle_variadic_argument_aggregate` hands on what the operation answers and writes. Assumes nothing.
+use borrow.Author.Needs.{needs}
 use mathlib.Core.Path.{ap}
 use Rattle.classify.specs.declared.Arg as args
-use borrow.Author.Needs.{needs}
 use Rattle.classify.specs.Answers.{dotsAnswer, dotsWritten}
 use Rattle.numbers.proofs.Handed.{handed, written}
 use Rattle.barkpaddle_dots.proofs.barkpaddle_variadic_argument_aggregate.Statement.{statement}
@@ -18,9 +18,8 @@ barkpaddle-variadic-argument-aggregate-spec =
     (λ c. search needs)
     (λ c.
     let operation = c .before .before .before in
-    let shape = operation .before .before in
-    let same = ap args.the-variants.Aggregate (shape .shape-from .ensures) in
-    let call = shape .before .call-from .ensures in (
-      handed _ _ call _ _ same _ _ dotsAnswer _ (operation .variadic-argument .ensures .0) _ (c .in-numbers .ensures),
-      written _ _ call _ _ same _ _ dotsWritten _ (operation .variadic-argument .ensures .1),
+    let call = operation .before .before .before .call-from .ensures in
+    let shape = ap args.the-variants.Aggregate (operation .before .before .shape-from .ensures) in (
+      handed _ _ call _ _ shape _ _ dotsAnswer _ (operation .variadic-argument-aggregate .ensures .0) _ (c .in-numbers .ensures),
+      written _ _ call _ _ shape _ _ dotsWritten _ (operation .variadic-argument-aggregate .ensures .1),
     )))

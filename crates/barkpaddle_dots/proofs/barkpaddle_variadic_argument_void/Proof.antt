@@ -1,8 +1,10 @@
--- `barkpaddle_variadic_argument_void` hands on what `variadic_argument` answers and writes. Assumes nothing.
-use mathlib.Core.Path.{refl}
+-- `barkpaddle_variadic_argument_void` hands on what the operation answers and writes. Assumes nothing.
 use borrow.Author.Needs.{needs}
+use mathlib.Core.Path.{refl}
 use Rattle.classify.specs.Answers.{dotsAnswer, dotsWritten}
 use Rattle.numbers.proofs.Handed.{handed, written}
+use Rattle.classify.specs.declared.Arg as args
+use Rattle.classify.proofs.Operations.{dots-void}
 use Rattle.barkpaddle_dots.proofs.barkpaddle_variadic_argument_void.Statement.{statement}
 use Rattle.barkpaddle_dots.proofs.barkpaddle_variadic_argument_void.Tie as tie
 
@@ -11,13 +13,10 @@ barkpaddle-variadic-argument-void-spec =
     tie.close
     (tie.spec
     (λ c κs. search needs)
-    (λ c. search needs)
     (λ c κs. search needs)
     (λ c κs. search needs)
-    (λ c. search needs)
     (λ c.
-    let operation = c .before .before .before in
-    let call = operation .before .before .before .call-from .ensures in (
-      handed _ _ call _ _ refl _ _ dotsAnswer _ (operation .variadic-argument .ensures .0) _ (c .in-numbers .ensures),
-      written _ _ call _ _ refl _ _ dotsWritten _ (operation .variadic-argument .ensures .1),
+    let call = c .before .before .call-from .ensures in (
+      handed _ _ call args.the-variants.Void _ refl _ _ dotsAnswer _ (dots-void _ _ _ _ _ refl (c .before .nothing .ensures) .0) _ (c .in-numbers .ensures),
+      written _ _ call args.the-variants.Void _ refl _ _ dotsWritten _ (dots-void _ _ _ _ _ refl (c .before .nothing .ensures) .1),
     )))

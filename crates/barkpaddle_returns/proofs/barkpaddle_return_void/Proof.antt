@@ -1,8 +1,10 @@
--- `barkpaddle_return_void` hands on what `returns` answers and writes. Assumes nothing.
-use mathlib.Core.Path.{refl}
+-- `barkpaddle_return_void` hands on what the operation answers and writes. Assumes nothing.
 use borrow.Author.Needs.{needs}
+use mathlib.Core.Path.{refl}
 use Rattle.classify.specs.Answers.{returnsAnswer, returnsWritten}
 use Rattle.numbers.proofs.Handed.{handed, written}
+use Rattle.classify.specs.declared.Arg as args
+use Rattle.classify.proofs.Operations.{returns-void}
 use Rattle.barkpaddle_returns.proofs.barkpaddle_return_void.Statement.{statement}
 use Rattle.barkpaddle_returns.proofs.barkpaddle_return_void.Tie as tie
 
@@ -11,13 +13,10 @@ barkpaddle-return-void-spec =
     tie.close
     (tie.spec
     (λ c κs. search needs)
-    (λ c. search needs)
     (λ c κs. search needs)
     (λ c κs. search needs)
-    (λ c. search needs)
     (λ c.
-    let operation = c .before .before .before in
-    let call = operation .before .before .before .call-from .ensures in (
-      handed _ _ call _ _ refl _ _ returnsAnswer _ (operation .returns .ensures .0) _ (c .in-numbers .ensures),
-      written _ _ call _ _ refl _ _ returnsWritten _ (operation .returns .ensures .1),
+    let call = c .before .before .call-from .ensures in (
+      handed _ _ call args.the-variants.Void _ refl _ _ returnsAnswer _ (returns-void _ _ _ _ _ refl (c .before .nothing .ensures) .0) _ (c .in-numbers .ensures),
+      written _ _ call args.the-variants.Void _ refl _ _ returnsWritten _ (returns-void _ _ _ _ _ refl (c .before .nothing .ensures) .1),
     )))
