@@ -2,7 +2,7 @@
 use Prim.Native.Nat.{ℕ, suc, _+_, _-_, _*_, _/_, _≤_, _<_}
 use mathlib.Core.Path.{_≡_, refl, ap, sym}
 use mathlib.Core.List.{List, [], _∷_}
-use mathlib.Core.Bool.{Bool, true, false, cond, _&&_, not}
+use mathlib.Core.Bool.{Bool, true, false, cond, not}
 use native.Mathlib.Omega.{arith}
 use borrow.Author.Tests.{eq-eqb, ne-eqb, eqb-true}
 use lib.Dec.{eqb}
@@ -14,36 +14,9 @@ use Rattle.shape.specs.Questions.{isFloat, allOf}
 use Rattle.shape.proofs.Words.{pieces-step, pieces-end, length-pieces}
 use Rattle.slots.specs.declared.Slot.{Slot}
 use Rattle.slots.specs.Words.{integerSlot, floatSlot, slotSize, slotWords, wordsOf, putAt, written}
-use Rattle.slots.specs.Search.{floatsIn}
 use Rattle.slots.proofs.Words.{put-split, put-none, length-words, written-short}
 use Rattle.find.specs.Find.{floatsAt, slotOf, eachPiece}
-
-pub and-true : (a b : Bool) → a && b ≡ true → (a ≡ true) × (b ≡ true)
-and-true true b e = (refl, e)
-and-true false b e = absurd (let z : _≡_ {A = ℕ} 0 1 = cc in omega arith)
-
-pub and-false : (a b : Bool) → b ≡ false → a && b ≡ false
-and-false true b e = e
-and-false false b e = refl
-
--- a kind that isn't the integer's is a float's, and the other way round
-pub float-kind : (k : ℕ) → (k ≡ integer → ⊥) → isFloat k ≡ true
-float-kind k h = rw (ne-eqb _ _ h)
-
-pub kind-float : (k : ℕ) → isFloat k ≡ true → k ≡ integer → ⊥
-kind-float k e z = let f : isFloat k ≡ false = rw (eq-eqb _ _ z) in let x : _≡_ {A = ℕ} 0 1 = cc in omega arith
-
--- ---- float slots of one format
-
-pub length-at : (format : ℕ) (ps : List Piece) → length (floatsAt format ps) ≡ length ps
-unfolding floatsAt
-length-at format [] = refl
-length-at format (p ∷ ps) = ap suc (length-at format ps)
-
-pub floats-at : (format : ℕ) (ps : List Piece) → isFloat format ≡ true → floatsIn (floatsAt format ps) ≡ length ps
-unfolding floatsAt floatsIn
-floats-at format [] f = refl
-floats-at format (p ∷ ps) f = let h : floatsIn (floatsAt format ps) ≡ length ps = floats-at format ps f in rw (f, h) (omega arith)
+pub use Rattle.alike.proofs.Alike.{and-true, and-false, float-kind, kind-float, length-at, floats-at}
 
 -- ---- each piece's own slot
 

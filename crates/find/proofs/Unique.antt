@@ -3,16 +3,12 @@ use mathlib.Core.Path.{sym, _∙_}
 use contract.Lifetimes.{Lfts}
 use denote.Ref.{now}
 use Rattle.shape.proofs.OneAnswer.{OneAnswer, OneExit}
-use Rattle.find.proofs.homogeneous.Reads as homogeneous
 use Rattle.find.proofs.float_pair.Reads as float-pair
 use Rattle.find.proofs.x87_stack.Reads as x87-stack
 use Rattle.find.proofs.lone_float.Reads as lone-float
 use Rattle.find.proofs.floating_mode.Reads as floating-mode
 use Rattle.find.proofs.complex_float.Reads as complex-float
 use Rattle.find.proofs.put_pieces.Reads as put-pieces
-
-homogeneous-decides : (κs : Lfts 1) → OneAnswer (homogeneous.Post κs)
-homogeneous-decides κs a r q s t p p′ = p ∙ sym p′
 
 float-pair-decides : (κs : Lfts 1) → OneAnswer (float-pair.Post κs)
 float-pair-decides κs a r q s t p p′ = p ∙ sym p′

@@ -1,8 +1,8 @@
 -- `homogeneous` answers what the definition finds: each way out is one law of the tests that led there. Assumes nothing.
-use Rattle.find.proofs.Tests.{homogeneous-none, homogeneous-many, homogeneous-integer, homogeneous-size, homogeneous-mixed, homogeneous-found}
+use Rattle.alike.proofs.Alike.{homogeneous-none, homogeneous-many, homogeneous-integer, homogeneous-size, homogeneous-mixed, homogeneous-found}
 use borrow.Author.Needs.{needs}
-use Rattle.find.proofs.homogeneous.Statement.{statement}
-use Rattle.find.proofs.homogeneous.Tie as tie
+use Rattle.alike.proofs.homogeneous.Statement.{statement}
+use Rattle.alike.proofs.homogeneous.Tie as tie
 
 returns : tie.Need-returns
 returns c = search (homogeneous-none)

@@ -1,9 +1,9 @@
 -- `fills` answers whether so many of a size make up the whole: the product is that whole only where the quotient is the size. Assumes nothing.
-use Rattle.find.proofs.Tests.{fills-not, fills-small}
+use Rattle.alike.proofs.Alike.{fills-not, fills-small}
 use borrow.Author.Needs.{needs}
 use native.Mathlib.Omega.{arith}
-use Rattle.find.proofs.fills.Statement.{statement}
-use Rattle.find.proofs.fills.Tie as tie
+use Rattle.alike.proofs.fills.Statement.{statement}
+use Rattle.alike.proofs.fills.Tie as tie
 
 div-if1 : tie.Need-div-if1
 div-if1 c = search needs

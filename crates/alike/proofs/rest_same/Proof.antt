@@ -3,12 +3,12 @@ use Prim.Native.Nat.{_≤_, _-_}
 use mathlib.Core.Path.{_≡_, refl}
 use lib.ListN.{length, drop}
 use Rattle.shape.specs.Words.{piecesOf}
-use Rattle.find.specs.Find.{allSame}
-use Rattle.find.proofs.Tests.{same-end, same-broken, same-next}
+use Rattle.alike.specs.Alike.{allSame}
+use Rattle.alike.proofs.Alike.{same-end, same-broken, same-next}
 use borrow.Author.Needs.{needs}
 use native.Mathlib.Omega.{arith}
-use Rattle.find.proofs.rest_same.Statement.{statement}
-use Rattle.find.proofs.rest_same.Tie as tie
+use Rattle.alike.proofs.rest_same.Statement.{statement}
+use Rattle.alike.proofs.rest_same.Tie as tie
 
 abbrev Inv-loop : tie.InvT-loop
 Inv-loop first words at₀ at = (at ≤ length words) × (allSame first (piecesOf (drop 4 words)) ≡ allSame first (piecesOf (drop at words)))
