@@ -2,8 +2,10 @@
 use Prim.Native.Nat.{ℕ, zero, suc, _+_, _-_, _/_, _%_, _≤_, _<_}
 use mathlib.Core.Path.{_≡_, refl, sym, _∙_}
 use mathlib.Core.List.{List, [], _∷_}
+use mathlib.Core.Bool.{Bool, true, false, _||_, not}
 use native.Mathlib.Omega.{arith}
-use borrow.Author.Tests.{lt-ltb, le-ltb}
+use borrow.Author.Tests.{lt-ltb, le-ltb, ltb-true, ltb-false, eqb-true, eqb-false}
+use lib.Dec.{eqb, ltb}
 use lib.ListN.{length, drop}
 use Rattle.shape.specs.declared.Piece.{Piece}
 use Rattle.shape.specs.declared.Scalar.{Scalar}
@@ -64,17 +66,33 @@ pub ruleset piece-laws = (piece-kind, piece-size, piece-offset, piece-align, pie
 
 -- the list
 module _ (ws : List ℕ) where
-  pub list-parts : (length ws % 4 ≡ 0 → ⊥) → bad-list ≡ listRefusal ws
+  list-parts : (length ws % 4 ≡ 0 → ⊥) → bad-list ≡ listRefusal ws
   unfolding listRefusal
   list-parts w = rw (lt-ltb 0 (length ws % 4) (omega arith))
 
-  pub list-many : length ws % 4 ≡ 0 → most-pieces < length ws / 4 → bad-list ≡ listRefusal ws
+  list-many : length ws % 4 ≡ 0 → most-pieces < length ws / 4 → bad-list ≡ listRefusal ws
   unfolding listRefusal
   list-many w n = rw (le-ltb 0 (length ws % 4) (omega arith), length-pieces, lt-ltb _ _ n)
 
-  pub list-accepted : length ws % 4 ≡ 0 → length ws / 4 ≤ most-pieces → accepted ≡ listRefusal ws
+  list-whole : length ws % 4 ≡ 0 → length ws / 4 ≤ most-pieces → accepted ≡ listRefusal ws
   unfolding listRefusal
-  list-accepted w n = rw (le-ltb 0 (length ws % 4) (omega arith), length-pieces, le-ltb _ _ n)
+  list-whole w n = rw (le-ltb 0 (length ws % 4) (omega arith), length-pieces, le-ltb _ _ n)
+
+  pub list-bad : (not (eqb (length ws % 4) 0) || ltb most-pieces (length ws / 4)) ≡ true → bad-list ≡ listRefusal ws
+  list-bad t = go (eqb (length ws % 4) 0) refl (ltb most-pieces (length ws / 4)) refl t
+    where
+      go : (a : Bool) → eqb (length ws % 4) 0 ≡ a → (b : Bool) → ltb most-pieces (length ws / 4) ≡ b → (not a || b) ≡ true → bad-list ≡ listRefusal ws
+      go false ea b eb t = list-parts (eqb-false _ _ ea)
+      go true ea true eb t = list-many (eqb-true _ _ ea) (ltb-true _ _ eb)
+      go true ea false eb t = absurd (let z : _≡_ {A = ℕ} 0 1 = cc in omega arith)
+
+  pub list-accepted : (not (eqb (length ws % 4) 0) || ltb most-pieces (length ws / 4)) ≡ false → accepted ≡ listRefusal ws
+  list-accepted t = go (eqb (length ws % 4) 0) refl (ltb most-pieces (length ws / 4)) refl t
+    where
+      go : (a : Bool) → eqb (length ws % 4) 0 ≡ a → (b : Bool) → ltb most-pieces (length ws / 4) ≡ b → (not a || b) ≡ false → accepted ≡ listRefusal ws
+      go false ea b eb t = absurd (let z : _≡_ {A = ℕ} 0 1 = cc in omega arith)
+      go true ea true eb t = absurd (let z : _≡_ {A = ℕ} 0 1 = cc in omega arith)
+      go true ea false eb t = list-whole (eqb-true _ _ ea) (ltb-false _ _ eb)
 
 -- the loop over the pieces: `total` is what the pieces from the place on decide
 module _ (total : ℕ) (ws : List ℕ) (at : ℕ) (inv : total ≡ piecesRefusal (piecesOf (drop at ws))) (w : at ≤ length ws) where

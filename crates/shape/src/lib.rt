@@ -141,10 +141,7 @@ pub fn check_list(words: &[u64]) -> u64
     ensures { λ r. ⌜ r ≡ listRefusal (now (words .entry)) ⌝ }
 {
     let n = words.len();
-    if n % PIECE != 0 {
-        return BAD_LIST;
-    }
-    if n / PIECE > MOST_PIECES {
+    if (n % PIECE != 0) | (n / PIECE > MOST_PIECES) {
         return BAD_LIST;
     }
     ACCEPTED
