@@ -203,40 +203,38 @@ module _ (returning : Bool) (I want : ℕ) (r : Decision) where
   pub memory-out : returning ≡ false → (n : ℕ) → n ≡ min want I → r ≡ memory 0 n 0 0 → r ≡ inMemoryAndSpend returning I want
   memory-out h n en er = rw (er, en, h)
 
-module _ (shared returning : Bool) (left : Left) (short : Short) (found : Slots) (d : Decision) where
-  pub slots-back : returning ≡ true → d ≡ piecesOf found (spends 0 0 0 0) → steps.the-variants.Decided d ≡ inSlots shared returning left short found
+module _ (shared returning : Bool) (left : Left) (short : Short) (found : Slots) where
+  pub slots-back : returning ≡ true → (d : Decision) → d ≡ piecesOf found (spends 0 0 0 0) → steps.the-variants.Decided d ≡ inSlots shared returning left short found
   unfolding inSlots
-  slots-back h ed = rw (ed, h)
+  slots-back h d ed = rw (ed, h)
 
   module _ (out : returning ≡ false) (i : ℕ) (ei : i ≡ integerCost shared (found .count) (found .floats)) (f : ℕ) (ef : f ≡ floatCost shared (found .floats)) where
-    pub slots-fit : (leb i (left .integer) && leb f (left .float)) ≡ true → d ≡ piecesOf found (spends 0 i 0 f) → steps.the-variants.Decided d ≡ inSlots shared returning left short found
+    pub slots-fit : (leb i (left .integer) && leb f (left .float)) ≡ true → (d : Decision) → d ≡ piecesOf found (spends 0 i 0 f) → steps.the-variants.Decided d ≡ inSlots shared returning left short found
     unfolding inSlots
-    slots-fit h ed = rw (ed, out, ← ei, ← ef, h)
+    slots-fit h d ed = rw (ed, out, ← ei, ← ef, h)
 
-    module _ (miss : (leb i (left .integer) && leb f (left .float)) ≡ false) where
-      opened-short : inSlots shared returning left short found ≡ whenShort short left found i f
-      unfolding inSlots
-      opened-short = rw (out, ← ei, ← ef, miss)
+    pub slots-short : (leb i (left .integer) && leb f (left .float)) ≡ false → (r : steps.Step) → r ≡ whenShort short left found i f → r ≡ inSlots shared returning left short found
+    unfolding inSlots
+    slots-short miss r er = rw (er, out, ← ei, ← ef, miss)
 
-      pub short-unchanged : short ≡ Unchanged → (n : ℕ) → n ≡ min i (left .integer) → (m : ℕ) → m ≡ min f (left .float) → d ≡ piecesOf found (spends 0 n 0 m)
-          → steps.the-variants.Decided d ≡ inSlots shared returning left short found
-      unfolding whenShort
-      short-unchanged e n en m em ed = rw (ed, en, em, opened-short, e)
+module _ (short : Short) (left : Left) (found : Slots) (i f : ℕ) where
+  pub short-unchanged : short ≡ Unchanged → (n : ℕ) → n ≡ min i (left .integer) → (m : ℕ) → m ≡ min f (left .float) → (d : Decision) → d ≡ piecesOf found (spends 0 n 0 m)
+      → steps.the-variants.Decided d ≡ whenShort short left found i f
+  unfolding whenShort
+  short-unchanged e n en m em d ed = rw (ed, en, em, e)
 
-      pub short-memory : short ≡ Memory → d ≡ memory 0 0 0 0 → steps.the-variants.Decided d ≡ inSlots shared returning left short found
-      unfolding whenShort
-      short-memory e ed = rw (ed, opened-short, e)
+  pub short-memory : short ≡ Memory → (d : Decision) → d ≡ memory 0 0 0 0 → steps.the-variants.Decided d ≡ whenShort short left found i f
+  unfolding whenShort
+  short-memory e d ed = rw (ed, e)
 
-      pub short-drain : short ≡ MemoryAndDrain → (n : ℕ) → n ≡ drainOf i (left .integer) → (m : ℕ) → m ≡ drainOf f (left .float) → d ≡ memory n 0 m 0
-          → steps.the-variants.Decided d ≡ inSlots shared returning left short found
-      unfolding whenShort
-      short-drain e n en m em ed = rw (ed, en, em, opened-short, e)
+  pub short-drain : short ≡ MemoryAndDrain → (n : ℕ) → n ≡ drainOf i (left .integer) → (m : ℕ) → m ≡ drainOf f (left .float) → (d : Decision) → d ≡ memory n 0 m 0
+      → steps.the-variants.Decided d ≡ whenShort short left found i f
+  unfolding whenShort
+  short-drain e n en m em d ed = rw (ed, en, em, e)
 
-pub short-next : (shared returning : Bool) (left : Left) (short : Short) (found : Slots) → returning ≡ false
-    → (i : ℕ) → i ≡ integerCost shared (found .count) (found .floats) → (f : ℕ) → f ≡ floatCost shared (found .floats)
-    → (leb i (left .integer) && leb f (left .float)) ≡ false → short ≡ TryNextRule → steps.the-variants.TryNextRule ≡ inSlots shared returning left short found
-unfolding inSlots whenShort
-short-next shared returning left short found out i ei f ef miss e = rw (out, ← ei, ← ef, miss, e)
+  pub short-next : short ≡ TryNextRule → steps.the-variants.TryNextRule ≡ whenShort short left found i f
+  unfolding whenShort
+  short-next e = rw e
 
 module _ (B : Banks) (pointer : ReturnPointer) (returning : Bool) (left : Left) (rule : Rule) (size : ℕ) (found : Slots) where
   pub travel-ignore : rule .then ≡ Ignore → (d : Decision) → d ≡ plain ways.the-variants.Ignore (spends 0 0 0 0) → steps.the-variants.Decided d ≡ travelOf B pointer returning left rule size found

@@ -13,7 +13,7 @@ ghost use Prim.Native.Nat.{_-_, min};
 ghost use Rattle.shape.specs.Numbers.{integer};
 ghost use Rattle.describe.specs.Questions.{isByReference};
 ghost use Rattle.spend.specs.Ways.{wayNumber, spends, plain, piecesOf, cutSlots, oneSlot};
-ghost use Rattle.spend.specs.Spending.{wantOf, scalarArgument, integerArgument, skipOf, scalarReturn, byPointer, travelOf, byReference, inMemoryAndSpend, inSlots, integerCost, floatCost, drainOf};
+ghost use Rattle.spend.specs.Spending.{wantOf, scalarArgument, integerArgument, skipOf, scalarReturn, byPointer, travelOf, byReference, inMemoryAndSpend, inSlots, whenShort, integerCost, floatCost, drainOf};
 
 // What a call has left: registers in each bank, and whether floats go in integer registers alone.
 pub struct Left {
@@ -253,7 +253,7 @@ fn in_memory_and_spend(returning: bool, left: u64, want: u64) -> Decision
     integers(Way::Memory, 0, shape::least(want, left))
 }
 
-// Slots on a return spend nothing; on an argument they cost registers, and what happens when short is the rule's.
+// Slots on a return spend nothing; on an argument they cost registers.
 fn in_slots(shared: bool, returning: bool, left: Left, short: Short, found: Slots) -> Step
     ensures { λ r. ⌜ r ≡ inSlots shared returning left short found ⌝ }
 {
@@ -265,6 +265,13 @@ fn in_slots(shared: bool, returning: bool, left: Left, short: Short, found: Slot
     if (integer <= left.integer) & (float <= left.float) {
         return Step::Decided(pieces(found, integer, float));
     }
+    when_short(short, left, found, integer, float)
+}
+
+// Slots that cost more than is left: what happens is the rule's.
+fn when_short(short: Short, left: Left, found: Slots, integer: u64, float: u64) -> Step
+    ensures { λ r. ⌜ r ≡ whenShort short left found integer float ⌝ }
+{
     match short {
         Short::Unchanged => Step::Decided(pieces(
             found,

@@ -1,5 +1,5 @@
 -- `in_slots` gives the slots their cost, or answers what the rule says where a bank is short. Assumes nothing.
-use Rattle.spend.proofs.Spending.{short-drain, short-memory, short-next, short-unchanged, slots-back, slots-fit}
+use Rattle.spend.proofs.Spending.{slots-back, slots-fit, slots-short}
 use borrow.Author.Needs.{needs}
 use Rattle.spend.proofs.in_slots.Statement.{statement}
 use Rattle.spend.proofs.in_slots.Tie as tie
@@ -22,50 +22,11 @@ pieces-requires-2 c κs = search needs
 returns-2 : tie.Need-returns-2
 returns-2 c = search (slots-fit)
 
-enum-told : tie.Need-enum-told
-enum-told c = search needs
-
-least-requires : tie.Need-least-requires
-least-requires c κs = search needs
-
-least-requires-2 : tie.Need-least-requires-2
-least-requires-2 c κs = search needs
-
-pieces-requires-3 : tie.Need-pieces-requires-3
-pieces-requires-3 c κs = search needs
-
-enum-told-2 : tie.Need-enum-told-2
-enum-told-2 c = search needs
-
-integers-requires : tie.Need-integers-requires
-integers-requires c κs = search needs
-
-enum-told-3 : tie.Need-enum-told-3
-enum-told-3 c = search needs
-
-drain-requires : tie.Need-drain-requires
-drain-requires c κs = search needs
-
-drain-requires-2 : tie.Need-drain-requires-2
-drain-requires-2 c κs = search needs
-
-drained-requires : tie.Need-drained-requires
-drained-requires c κs = search needs
-
-enum-told-4 : tie.Need-enum-told-4
-enum-told-4 c = search needs
+when-short-requires : tie.Need-when-short-requires
+when-short-requires c κs = search needs
 
 returns-3 : tie.Need-returns-3
-returns-3 c = search (short-unchanged)
-
-returns-4 : tie.Need-returns-4
-returns-4 c = search (short-memory)
-
-returns-5 : tie.Need-returns-5
-returns-5 c = search (short-drain)
-
-returns-6 : tie.Need-returns-6
-returns-6 c = search (short-next)
+returns-3 c = search (slots-short)
 
 pub in-slots-spec : {M : Type 1} → statement M
 in-slots-spec =
@@ -77,18 +38,5 @@ in-slots-spec =
     float-cost-requires
     pieces-requires-2
     returns-2
-    enum-told
-    least-requires
-    least-requires-2
-    pieces-requires-3
-    enum-told-2
-    integers-requires
-    enum-told-3
-    drain-requires
-    drain-requires-2
-    drained-requires
-    enum-told-4
-    returns-3
-    returns-4
-    returns-5
-    returns-6)
+    when-short-requires
+    returns-3)
