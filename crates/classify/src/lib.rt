@@ -607,7 +607,7 @@ fn write(decided: Decided, words: &[u64], out: &mut [u64])
             find::put_pieces(words, out);
         }
         Source::Classes { size } => {
-            eightbytes::put_eightbytes(classes, size, out);
+            eightslots::put_eightbytes(classes, size, out);
         }
         Source::Cut { size, width } => {
             slots::cut_integers(size, width, out);

@@ -1,5 +1,5 @@
 -- The pass after the merge: what is done and what is left decide the classes and the counts. Assumes nothing.
-use Prim.Native.Nat.{ℕ, _+_, _-_, _≤_, _<_, min}
+use Prim.Native.Nat.{ℕ, _+_, _-_, _≤_, _<_}
 use mathlib.Core.Path.{_≡_, refl, sym, ap₂, _∙_}
 use mathlib.Core.Bool.{Bool, true, false, cond, not}
 use mathlib.Core.List.{List, [], _∷_, _++_, map, append-assoc, append-nil}
@@ -16,7 +16,7 @@ use Rattle.slots.specs.declared.Found.{Found}
 use Rattle.slots.specs.declared.Found.the-variants.{Slots, Nothing}
 use Rattle.slots.specs.Search.{oneIf, floatsIn, foundOf}
 use Rattle.eightbytes.specs.Class.{Class, None, Integer, Sse, SseUp, X87, Memory, code, classOf, same}
-use Rattle.eightbytes.specs.Eightbytes.{most-limit, eightbytesIn, spoiled, mended, mend, settled, ownSlot, slotOf, upFirst, slotsFrom, slotsFound, codes, slotsIn, Coded}
+use Rattle.eightbytes.specs.Eightbytes.{spoiled, mended, mend, settled, ownSlot, slotOf, upFirst, slotsFrom, slotsFound, codes, slotsIn, Coded}
 use Rattle.eightbytes.proofs.Class.{class-code, sse-code, up-code, mended-low, mended-high}
 use Rattle.eightbytes.proofs.Codes.{map-set, map-take, codes-classes}
 use Rattle.eightbytes.proofs.Rest.{rest, rest-step, rest-set, rest-end}
@@ -102,45 +102,40 @@ module _ (xs : List ℕ) (n i below : ℕ) (h : i < n) (l : n ≤ length xs) (cl
       rw (mend-step, sse-code class) in
       rw (rest-set xs n i class h) (omega arith)
 
--- its end: n is the number of the shape's eightbytes, `xs` the codes at the start
-module _ (size n : ℕ) (xs : List ℕ) (en : n ≡ min (eightbytesIn size) 8) (z : size ≤ most-limit) where
-  whole : eightbytesIn size ≡ n
-  whole = omega arith
-
-  settled-none : spoiled (rest xs n 0) ≡ true → settled (take (eightbytesIn size) (map classOf xs)) ≡ none
+-- its end: n is the number of the shape's eightbytes, `xs` the codes at the start. The counts are the same at any size
+module _ (n : ℕ) (xs : List ℕ) where
+  settled-none : spoiled (rest xs n 0) ≡ true → settled (take n (map classOf xs)) ≡ none
   unfolding settled
-  settled-none s = rw (whole, s)
+  settled-none s = rw s
 
-  pub stop-found : (f : Found) → spoiled (rest xs n 0) ≡ true → f ≡ Nothing → f ≡ foundOf (slotsFound size (settled (take (eightbytesIn size) (map classOf xs))))
+  pub stop-found : (f : Found) → spoiled (rest xs n 0) ≡ true → f ≡ Nothing → (size : ℕ) → f ≡ foundOf (slotsFound size (settled (take n (map classOf xs))))
   unfolding slotsFound foundOf
-  stop-found f s e = rw (settled-none s) e
+  stop-found f s e size = rw (settled-none s) e
 
-  pub stop-classes : (cs : List ℕ) → spoiled (rest xs n 0) ≡ true → cs ≡ codes none → cs ≡ codes (settled (take (eightbytesIn size) (map classOf xs)))
+  pub stop-classes : (cs : List ℕ) → spoiled (rest xs n 0) ≡ true → cs ≡ codes none → cs ≡ codes (settled (take n (map classOf xs)))
   stop-classes cs s e = rw (settled-none s) e
 
   module _ (cs : List ℕ) (i below : ℕ) (past : n ≤ i) (s : spoiled (rest xs n 0) ≡ spoiled (rest cs n i)) where
-    settled-some : settled (take (eightbytesIn size) (map classOf xs)) ≡ some (mend None (rest xs n 0))
+    settled-some : settled (take n (map classOf xs)) ≡ some (mend None (rest xs n 0))
     unfolding settled spoiled
-    settled-some = let c : spoiled (rest xs n 0) ≡ false = rw (s, rest-end cs n i past) in rw (whole, c)
+    settled-some = let c : spoiled (rest xs n 0) ≡ false = rw (s, rest-end cs n i past) in rw c
 
     pub end-found : (count floats : ℕ) → slotsIn (mend None (rest xs n 0)) ≡ count + slotsIn (mend (classOf below) (rest cs n i))
         → ssesIn (mend None (rest xs n 0)) ≡ floats + ssesIn (mend (classOf below) (rest cs n i))
-        → Slots count floats ≡ foundOf (slotsFound size (settled (take (eightbytesIn size) (map classOf xs))))
+        → (size : ℕ) → Slots count floats ≡ foundOf (slotsFound size (settled (take n (map classOf xs))))
     unfolding slotsFound foundOf mend slotsIn ssesIn
-    end-found count floats a b =
+    end-found count floats a b size =
         let ea : slotsIn (mend None (rest xs n 0)) ≡ count = rw (rest-end cs n i past) at a ∙ add-zero count in
         let eb : ssesIn (mend None (rest xs n 0)) ≡ floats = rw (rest-end cs n i past) at b ∙ add-zero floats in
         rw (settled-some, slots-length, slots-floats, ea, eb)
 
-    pub end-classes : i ≤ n → length cs ≡ 8 → Coded cs → drop n cs ≡ drop n xs
-        → drop (eightbytesIn size) xs ≡ replicate (8 - eightbytesIn size) 0
+    pub end-classes : i ≤ n → n ≤ 8 → length cs ≡ 8 → Coded cs → drop n cs ≡ drop n xs → drop n xs ≡ replicate (8 - n) 0
         → mend None (rest xs n 0) ≡ take i (map classOf cs) ++ mend (classOf below) (rest cs n i)
-        → cs ≡ codes (settled (take (eightbytesIn size) (map classOf xs)))
+        → cs ≡ codes (settled (take n (map classOf xs)))
     unfolding codes mend
-    end-classes within l cc b z0 m =
-        let d : drop n cs ≡ replicate (8 - n) 0 = b ∙ rw whole at z0 in
+    end-classes within few l cc b z0 m =
         let e : i ≡ n = omega arith in
         let t : mend None (rest xs n 0) ≡ take n (map classOf cs) = m ∙ rw (rest-end cs n i past, append-nil, e) in
         let k : length (take n (map classOf cs)) ≡ n = simp (length-take, length-map) (omega arith) in
         let g : map code (take n (map classOf cs)) ≡ take n cs = rw (map-take, codes-classes cs cc) in
-        rw (settled-some, t, k, g, ← d) (sym (take-append-drop n cs))
+        rw (settled-some, t, k, g, ← z0, ← b) (sym (take-append-drop n cs))

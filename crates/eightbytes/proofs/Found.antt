@@ -10,7 +10,7 @@ use native.Mathlib.Omega.{arith}
 use borrow.Author.Tests.{lt-ltb, le-ltb, ltb-false}
 use lib.Dec.{ltb}
 use lib.Seq.{take-at}
-use lib.ListN.{length, take, drop, replicate, length-replicate}
+use lib.ListN.{length, take, replicate, length-replicate}
 use Rattle.shape.specs.declared.Piece.{Piece}
 use Rattle.shape.specs.declared.Shape.{Shape}
 use Rattle.slots.specs.declared.Slot.{Slot}
@@ -38,28 +38,20 @@ pub nothing-by : (size : ℕ) (f : Found) → f ≡ Nothing → f ≡ foundOf (s
 unfolding slotsFound foundOf
 nothing-by size f e = e
 
--- within the limit, all eightbytes of the shape have a class
-module _ (limit size m n : ℕ) (em : m ≡ min limit most-limit) (h : size ≤ m) (en : n ≡ min (eightbytesIn size) 8) where
-  own : eightbytesIn size ≡ n
-  own = omega arith
-
-  pub behind : (xs : List ℕ) → drop n xs ≡ replicate (8 - n) 0 → drop (eightbytesIn size) xs ≡ replicate (8 - eightbytesIn size) 0
-  behind xs e = rw own e
-
 module _ (limit : ℕ) (shape : Shape) (ps : List Piece) (m : ℕ) (em : m ≡ min limit most-limit) where
   pub over-limit : m < shape .size → classified limit shape ps ≡ none
   unfolding classified
   over-limit h = rw (← em, lt-ltb _ _ h)
 
-  module _ (n : ℕ) (h : shape .size ≤ m) (en : n ≡ min (eightbytesIn (shape .size)) 8) where
+  -- within it, n is the number of the shape's eightbytes
+  module _ (n : ℕ) (h : shape .size ≤ m) (en : n ≡ eightbytesIn (shape .size)) where
     pub unfit : marked (replicate n None) ps ≡ none → classified limit shape ps ≡ none
     unfolding classified
-    unfit e = rw (← em, le-ltb _ _ h, own limit (shape .size) m n em h en, e)
+    unfit e = rw (← em, le-ltb _ _ h, ← en, e)
 
-    pub fit : (xs : List ℕ) → marked (replicate n None) ps ≡ some (take n (map classOf xs))
-        → classified limit shape ps ≡ settled (take (eightbytesIn (shape .size)) (map classOf xs))
+    pub fit : (xs : List ℕ) → marked (replicate n None) ps ≡ some (take n (map classOf xs)) → classified limit shape ps ≡ settled (take n (map classOf xs))
     unfolding classified
-    fit xs e = rw (← em, le-ltb _ _ h, own limit (shape .size) m n em h en, e)
+    fit xs e = rw (← em, le-ltb _ _ h, ← en, e)
 
 -- ---- for users of the answer
 

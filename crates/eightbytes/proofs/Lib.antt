@@ -3,7 +3,6 @@ pub mod Codes
 pub mod Marks
 pub mod Rest
 pub mod Counts
-pub mod Put
 pub mod Found
 pub mod At
 pub mod Pair

@@ -1,40 +1,19 @@
--- At most two eightbytes: their classes and counts where no class is SseUp or above, and the writing of their slots without a loop.
--- Assumes nothing.
-use Prim.Native.Nat.{ℕ, zero, suc, _+_, _-_, _*_, _/_, _≤_, _<_}
-use mathlib.Core.Path.{_≡_, refl, sym, ap, _∙_}
-use mathlib.Core.Bool.{Bool, true, false, not, _||_}
-use mathlib.Core.List.{List, [], _∷_, map, append-nil}
+-- At most two eightbytes whose classes come before SseUp: they stay as they are, a slot for each. Assumes nothing.
+use Prim.Native.Nat.{ℕ, zero, suc, _+_, _-_, _≤_, _<_}
+use mathlib.Core.Path.{_≡_, refl, sym, ap}
+use mathlib.Core.Bool.{false, _||_}
+use mathlib.Core.List.{List, [], _∷_, map}
 use mathlib.Core.Option.Option.{some}
 use native.Mathlib.Omega.{arith}
-use native.Mathlib.Nat.{sub-zero, zero-add}
-use borrow.Author.Tests.{le-leb, leb-true, leb-false, not-true, not-false}
-use lib.Dec.{eqb, leb}
+use lib.Dec.{eqb}
 use lib.ListN.{length-map, length, getD, take, drop, replicate, length-take, take-append-drop}
 use Rattle.slots.specs.declared.Found.the-variants.{Slots}
 use Rattle.slots.specs.Search.{oneIf, foundOf}
-use Rattle.slots.specs.Words.{slotSize, wordsOf, putAt, written}
-use Rattle.slots.proofs.Words.{put-none}
 use Rattle.eightbytes.specs.Class.{Class, None, SseUp, X87, Memory, code, classOf, same}
-use Rattle.eightbytes.specs.Eightbytes.{eightbytesIn, spoiled, mended, mend, settled, slotOf, slotsFound, codes, slotsOf, slotsIn, Coded}
+use Rattle.eightbytes.specs.Eightbytes.{spoiled, mended, mend, settled, slotsFound, codes, slotsIn, Coded}
 use Rattle.eightbytes.proofs.Class.{sse-code}
 use Rattle.eightbytes.proofs.Codes.{map-take, codes-classes}
 use Rattle.eightbytes.proofs.Counts.{ssesIn, slots-length, slots-floats}
-use Rattle.eightbytes.proofs.Rest.{rest-end}
-use Rattle.eightbytes.proofs.Put.{left, left-step, left-end, up-some, put-short, put-start, room-start, room-turn, put-turn}
-use Rattle.eightbytes.proofs.Found.{few-slots}
-
--- ---- room for the slots of the first n classes
-
-module _ (xs : List ℕ) (n room : ℕ) where
-  pub room-all : n ≤ room → true ≡ leb (slotsIn (take n (map classOf xs))) room
-  room-all h =
-      let l : length (take n (map classOf xs)) ≤ n = simp length-take (omega arith) in
-      sym (le-leb (slotsIn (take n (map classOf xs))) room (omega (arith, few-slots (take n (map classOf xs)))))
-
-  pub room-counted : (count : ℕ) → count ≡ slotsIn (take n (map classOf xs)) → leb count room ≡ leb (slotsIn (take n (map classOf xs))) room
-  room-counted count e = rw e
-
--- ---- classes below SseUp stay as they are
 
 low-spoil : (x : ℕ) → x < 3 → (same (classOf x) X87 || same (classOf x) Memory) ≡ false
 unfolding code classOf same
@@ -92,61 +71,16 @@ low-floats (suc zero) (x ∷ y ∷ xs) z l d =
 low-floats (suc (suc zero)) (x ∷ y ∷ xs) z l d = rw (sse-code x, sse-code y) (omega arith)
 low-floats (suc (suc (suc m))) (x ∷ y ∷ xs) z l d = absurd (omega arith)
 
-module _ (size : ℕ) (xs : List ℕ) (z : size ≤ 16) (l : length xs ≡ 8) (h : getD xs 0 0 < 3) (k : getD xs 1 0 < 3)
-    (d : drop (eightbytesIn size) xs ≡ replicate (8 - eightbytesIn size) 0) where
-  two : eightbytesIn size ≤ 2
-  two = omega arith
-
-  pub pair-found : (n f g : ℕ) → n ≡ eightbytesIn size → f ≡ oneIf (eqb (getD xs 0 0) 2) → g ≡ oneIf (eqb (getD xs 1 0) 2)
-      → Slots n (f + g) ≡ foundOf (slotsFound size (settled (take (eightbytesIn size) (map classOf xs))))
+module _ (n : ℕ) (xs : List ℕ) (two : n ≤ 2) (l : length xs ≡ 8) (h : getD xs 0 0 < 3) (k : getD xs 1 0 < 3) (d : drop n xs ≡ replicate (8 - n) 0) where
+  pub pair-found : (size f g : ℕ) → f ≡ oneIf (eqb (getD xs 0 0) 2) → g ≡ oneIf (eqb (getD xs 1 0) 2)
+      → Slots n (f + g) ≡ foundOf (slotsFound size (settled (take n (map classOf xs))))
   unfolding slotsFound foundOf
-  pair-found n f g en ef eg =
-      rw (low-settled (eightbytesIn size) xs two l h k, slots-length, slots-floats, low-count (eightbytesIn size) xs two l h k, low-floats (eightbytesIn size) xs two l d, en, ef, eg)
+  pair-found size f g ef eg =
+      rw (low-settled n xs two l h k, slots-length, slots-floats, low-count n xs two l h k, low-floats n xs two l d, ef, eg)
 
-  pub pair-classes : Coded xs → xs ≡ codes (settled (take (eightbytesIn size) (map classOf xs)))
+  pub pair-classes : Coded xs → xs ≡ codes (settled (take n (map classOf xs)))
   unfolding codes
   pair-classes cc =
-      let e : length (take (eightbytesIn size) (map classOf xs)) ≡ eightbytesIn size = simp (length-take, length-map) (omega (arith, two)) in
-      let g : map code (take (eightbytesIn size) (map classOf xs)) ≡ take (eightbytesIn size) xs = rw (map-take code (eightbytesIn size) (map classOf xs), codes-classes xs cc) in
-      rw (low-settled (eightbytesIn size) xs two l h k, e, g, ← d) (sym (take-append-drop (eightbytesIn size) xs))
-
--- ---- their slots
-
-pub put-empty : (size : ℕ) (xs ws : List ℕ) → length xs ≡ 8 → size ≡ 0 → ws ≡ written (slotsOf size xs) ws
-unfolding wordsOf
-put-empty size xs ws l e =
-    rw (put-start size 0 xs ws (omega arith) l, left-end size xs 0 0 (omega arith)) (sym (put-none ws 0 (omega arith)))
-
-last-left : (size : ℕ) (xs : List ℕ) (n i : ℕ) → i < n → n ≤ i + 1 → n ≤ length xs
-    → left size xs n i ≡ slotOf (classOf (getD xs i 0)) false (8 * i) (size - 8 * i)
-last-left size xs n i h g l = rw (left-step size xs n i h l, left-end size xs n (i + 1) g, rest-end xs n (i + 1) g, append-nil)
-
-pub put-one : (size : ℕ) (xs ws ws′ : List ℕ) → length xs ≡ 8 → (size ≡ 0 → ⊥) → size ≤ 8
-    → ws′ ≡ putAt ws 0 (wordsOf (slotOf (classOf (getD xs 0 0)) false 0 size)) → ws′ ≡ written (slotsOf size xs) ws
-put-one size xs ws ws′ l z h e =
-    rw (put-start size 1 xs ws (omega arith) l, last-left size xs 1 0 (omega arith) (omega arith) (omega arith), sub-zero) e
-
-module _ (size : ℕ) (xs ws : List ℕ) (l : length xs ≡ 8) (g : 8 < size) (h : size ≤ 16) (room : ℕ) (er : room ≡ length ws / slotSize)
-    (b : Bool) (eb : b ≡ leb (slotsIn (take 2 (map classOf xs))) room) where
-  pub put-neither : not b ≡ true → ws ≡ written (slotsOf size xs) ws
-  put-neither f =
-      put-short size 2 (slotsIn (take 2 (map classOf xs))) room xs ws (omega arith) l refl er (leb-false _ _ (sym eb ∙ not-true b f))
-
-  module _ (f : not b ≡ false) (next : ℕ) (ws′ : List ℕ)
-      (en : next ≡ 0 + length (wordsOf (slotOf (classOf (getD xs 0 0)) (eqb (getD xs 1 0) 3) 0 size)))
-      (ew : ws′ ≡ putAt ws 0 (wordsOf (slotOf (classOf (getD xs 0 0)) (eqb (getD xs 1 0) 3) 0 size))) where
-    all-fit : 0 + length (wordsOf (left size xs 2 0)) ≤ length ws
-    all-fit = rw zero-add (room-start size 2 xs (slotsIn (take 2 (map classOf xs))) room ws refl er (leb-true _ _ (sym eb ∙ not-false b f)))
-
-    -- the next place is inside
-    pub put-behind : (m : ℕ) → m ≡ length ws → next ≤ m
-    put-behind m em =
-        let r : next + length (wordsOf (left size xs 2 1)) ≤ m =
-        room-turn size 2 xs 0 (omega arith) (omega arith) (eqb (getD xs 1 0) 3) (up-some xs 2 1 (omega arith) (omega arith)) ws 0 all-fit next (rw sub-zero en) m em in
-        omega arith
-
-    pub put-both : (ws″ : List ℕ) → ws″ ≡ putAt ws′ next (wordsOf (slotOf (classOf (getD xs 1 0)) false 8 (size - 8))) → ws″ ≡ written (slotsOf size xs) ws
-    put-both ws″ e =
-        let t : written (slotsOf size xs) ws ≡ putAt ws′ next (wordsOf (left size xs 2 1)) =
-        put-turn size 2 xs 0 (omega arith) (omega arith) (eqb (getD xs 1 0) 3) (up-some xs 2 1 (omega arith) (omega arith)) ws 0 all-fit next (rw sub-zero en) (written (slotsOf size xs) ws) ws′ (put-start size 2 xs ws (omega arith) l) (rw sub-zero ew) in
-        rw (t, last-left size xs 2 1 (omega arith) (omega arith) (omega arith)) e
+      let e : length (take n (map classOf xs)) ≡ n = simp (length-take, length-map) (omega (arith, two)) in
+      let g : map code (take n (map classOf xs)) ≡ take n xs = rw (map-take code n (map classOf xs), codes-classes xs cc) in
+      rw (low-settled n xs two l h k, e, g, ← d) (sym (take-append-drop n xs))

@@ -210,7 +210,7 @@ fn put_eightbytes_within(
     let mut each = [0u64; 24];
     let answer = eightbytes::eightbytes(shape, pieces, limit);
     let classes = answer.classes;
-    eightbytes::put_eightbytes(classes, shape.size, &mut each);
+    eightslots::put_eightbytes(classes, shape.size, &mut each);
     let a = append(out, at, b"eightbytes ");
     let b = put_number(out, a, limit);
     let found = answer.found;

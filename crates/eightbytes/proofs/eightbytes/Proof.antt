@@ -1,5 +1,5 @@
 -- `eightbytes` answers the search. The invariant: the classes as they are, and the pieces that are left, decide the classes of all. Assumes nothing.
-use Prim.Native.Nat.{_-_, _≤_, _<_, min}
+use Prim.Native.Nat.{_-_, _≤_, _<_}
 use mathlib.Core.Path.{_≡_, refl, _∙_}
 use mathlib.Core.List.{map}
 use mathlib.Core.Option.Option.{none, some}
@@ -10,7 +10,7 @@ use Rattle.eightbytes.specs.Class.{None, classOf}
 use Rattle.eightbytes.specs.Eightbytes.{eightbytesIn, lastOf, mark, marked, settled, classified, Coded}
 use Rattle.eightbytes.proofs.Codes.{coded-is, coded-zeros}
 use Rattle.eightbytes.proofs.Marks.{marked-start, behind-start, marked-end, marked-stop, marked-turn, marked-behind, marked-length, inside}
-use Rattle.eightbytes.proofs.Found.{found-by, classes-by, nothing-by, over-limit, unfit, fit, behind}
+use Rattle.eightbytes.proofs.Found.{found-by, classes-by, nothing-by, over-limit, unfit, fit}
 use borrow.Author.Needs.{needs}
 use native.Mathlib.Omega.{arith}
 use Rattle.eightbytes.proofs.eightbytes.Statement.{statement}
@@ -60,7 +60,7 @@ returns-2 : tie.Need-returns-2 Inv-loop μ-loop
 returns-2 c =
     let a = c .before .before .before .before .before .before .before .before .before .before .args in
     let n = c .before .before .before .before .before .before .parts .result in
-    let en : n ≡ min (eightbytesIn (a .shape .size)) 8 = omega (arith, length-cut (a .shape .size) 8) in
+    let en : n ≡ eightbytesIn (a .shape .size) = omega (arith, length-cut (a .shape .size) 8) in
     let k : n ≤ length (c .before .before .before .before .before .loop .classes) = omega arith in
     let m : marked (replicate n None) (piecesOf (a .words .now)) ≡ none = search (marked-stop) in
     let e : classified (a .limit) (a .shape) (piecesOf (a .words .now)) ≡ none = search (unfit) in
@@ -70,7 +70,7 @@ mark-requires : tie.Need-mark-requires Inv-loop μ-loop
 mark-requires c κs =
     let s = c .before .before .before .before .before .before .before .before .before .args .shape .size in
     let n = c .before .before .before .before .before .parts .result in
-    let en : n ≡ min (eightbytesIn s) 8 = omega (arith, length-cut s 8) in
+    let en : n ≡ eightbytesIn s = omega (arith, length-cut s 8) in
     let k : n ≤ length (c .before .before .before .before .loop .classes) = omega arith in
     let i : lastOf (c .before .before .piece-at .result) < n = search (inside) in
     (c .before .before .before .before .loop .inv .1, omega arith)
@@ -86,7 +86,7 @@ loop-again c =
     let l = c .before .before .before .before .before .loop in
     let s = c .before .before .before .before .before .before .before .before .before .before .args .shape .size in
     let n = c .before .before .before .before .before .before .parts .result in
-    let en : n ≡ min (eightbytesIn s) 8 = omega (arith, length-cut s 8) in
+    let en : n ≡ eightbytesIn s = omega (arith, length-cut s 8) in
     let k : n ≤ length (l .classes) = omega arith in
     let m : length (c .mark .result) ≡ length (l .classes) = search (marked-length) in
     let d : drop n (c .mark .result) ≡ drop n (l .classes) = search (marked-behind) in (
@@ -100,16 +100,15 @@ loop-again c =
 settle-requires : tie.Need-settle-requires Inv-loop μ-loop
 settle-requires c κs =
     let s = c .before .before .before .before .before .before .args .shape .size in
-    let en : c .before .before .parts .result ≡ min (eightbytesIn s) 8 = omega (arith, length-cut s 8) in
-    let d : drop (eightbytesIn s) (c .before .loop .classes) ≡ replicate (8 - eightbytesIn s) 0 = search (behind) in
-    (c .before .loop .inv .1, omega arith, d, omega arith)
+    let en : c .before .before .parts .result ≡ eightbytesIn s = omega (arith, length-cut s 8) in
+    (c .before .loop .inv .1, omega arith, c .before .loop .inv .3, en)
 
 returns-3 : tie.Need-returns-3 Inv-loop μ-loop
 returns-3 c =
     let a = c .before .before .before .before .before .before .before .args in
-    let en : c .before .before .before .parts .result ≡ min (eightbytesIn (a .shape .size)) 8 = omega (arith, length-cut (a .shape .size) 8) in
+    let en : c .before .before .before .parts .result ≡ eightbytesIn (a .shape .size) = omega (arith, length-cut (a .shape .size) 8) in
     let m : marked (replicate (c .before .before .before .parts .result) None) (piecesOf (a .words .now)) ≡ some (take (c .before .before .before .parts .result) (map classOf (c .before .before .loop .classes))) = search (marked-end) in
-    let e : classified (a .limit) (a .shape) (piecesOf (a .words .now)) ≡ settled (take (eightbytesIn (a .shape .size)) (map classOf (c .before .before .loop .classes))) = search (fit) in
+    let e : classified (a .limit) (a .shape) (piecesOf (a .words .now)) ≡ settled (take (c .before .before .before .parts .result) (map classOf (c .before .before .loop .classes))) = search (fit) in
     (found-by _ _ _ _ e _ (c .settle .ensures .0), classes-by _ _ _ _ e _ (c .settle .ensures .1))
 
 pub eightbytes-spec : {M : Type 1} → statement M

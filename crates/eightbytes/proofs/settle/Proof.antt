@@ -1,4 +1,5 @@
 -- `settle` answers for two low classes what the pass over all of them answers. Assumes nothing.
+use Prim.Native.Nat.{_≤_}
 use borrow.Author.Needs.{needs}
 use native.Mathlib.Omega.{arith}
 use Rattle.eightbytes.proofs.Pair.{pair-found, pair-classes}
@@ -9,7 +10,7 @@ settle-all-requires : tie.Need-settle-all-requires
 settle-all-requires c κs = search needs
 
 returns : tie.Need-returns
-returns c = c .settle-all .ensures
+returns c = (c .settle-all .ensures .0 _, c .settle-all .ensures .1)
 
 array-read-first : tie.Need-array-read-first
 array-read-first c = omega arith
@@ -18,7 +19,7 @@ settle-all-requires-2 : tie.Need-settle-all-requires-2
 settle-all-requires-2 c κs = search needs
 
 returns-2 : tie.Need-returns-2
-returns-2 c = c .settle-all2 .ensures
+returns-2 c = (c .settle-all2 .ensures .0 _, c .settle-all2 .ensures .1)
 
 array-read-second : tie.Need-array-read-second
 array-read-second c = omega arith
@@ -27,7 +28,7 @@ settle-all-requires-3 : tie.Need-settle-all-requires-3
 settle-all-requires-3 c κs = search needs
 
 returns-3 : tie.Need-returns-3
-returns-3 c = c .settle-all3 .ensures
+returns-3 c = (c .settle-all3 .ensures .0 _, c .settle-all3 .ensures .1)
 
 one-if-requires : tie.Need-one-if-requires
 one-if-requires c κs = search needs
@@ -42,9 +43,9 @@ returns-4 : tie.Need-returns-4
 returns-4 c =
     let a = c .before .before .before .before .before .args in
     let p = c .before .before .before .before .before .pre in
-    let low = pair-found (a .size) (a .t1) (omega arith) (omega arith) (omega arith) (omega arith) (p .2) in (
-      low _ _ _ (p .3) (c .before .one-if .ensures .0) (c .one-if2 .ensures .0),
-      pair-classes (a .size) (a .t1) (omega arith) (omega arith) (omega arith) (omega arith) (p .2) (p .0),
+    let two : a .n ≤ 2 = omega arith in (
+      pair-found (a .n) (a .t1) two (omega arith) (omega arith) (omega arith) (p .2) (a .size) _ _ (c .before .one-if .ensures .0) (c .one-if2 .ensures .0),
+      pair-classes (a .n) (a .t1) two (omega arith) (omega arith) (omega arith) (p .2) (p .0),
     )
 
 pub settle-spec : {M : Type 1} → statement M

@@ -1,8 +1,8 @@
 -- `slot_of` answers the slot of an eightbyte that has one. Assumes nothing.
 use borrow.Author.Needs.{needs}
-use Rattle.eightbytes.proofs.Put.{own-integer, own-float}
-use Rattle.eightbytes.proofs.slot_of.Statement.{statement}
-use Rattle.eightbytes.proofs.slot_of.Tie as tie
+use Rattle.eightslots.proofs.Put.{own-integer, own-float}
+use Rattle.eightslots.proofs.slot_of.Statement.{statement}
+use Rattle.eightslots.proofs.slot_of.Tie as tie
 
 least-requires : tie.Need-least-requires
 least-requires c κs = search needs

@@ -1,8 +1,8 @@
 -- `up_at` reads the class at an index below n. Assumes nothing.
 use native.Mathlib.Omega.{arith}
-use Rattle.eightbytes.proofs.Put.{up-none, up-some}
-use Rattle.eightbytes.proofs.up_at.Statement.{statement}
-use Rattle.eightbytes.proofs.up_at.Tie as tie
+use Rattle.eightslots.proofs.Put.{up-none, up-some}
+use Rattle.eightslots.proofs.up_at.Statement.{statement}
+use Rattle.eightslots.proofs.up_at.Tie as tie
 
 returns : tie.Need-returns
 returns c = search (up-none)

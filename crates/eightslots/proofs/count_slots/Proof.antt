@@ -2,13 +2,13 @@
 use Prim.Native.Nat.{_+_, _-_, _≤_}
 use mathlib.Core.Path.{_≡_, sym}
 use native.Mathlib.Nat.{zero-add}
 use Rattle.eightbytes.specs.Eightbytes.{slotsIn}
 use Rattle.eightbytes.proofs.Rest.{rest}
-use Rattle.eightbytes.proofs.Put.{count-end, count-turn}
+use Rattle.eightslots.proofs.Put.{count-end, count-turn}
 use borrow.Author.Needs.{needs}
 use native.Mathlib.Omega.{arith}
-use Rattle.eightbytes.proofs.count_slots.Statement.{statement}
-use Rattle.eightbytes.proofs.count_slots.Tie as tie
+use Rattle.eightslots.proofs.count_slots.Statement.{statement}
+use Rattle.eightslots.proofs.count_slots.Tie as tie
 
 abbrev Inv-loop : tie.InvT-loop
 Inv-loop n classes count₀ i₀ count i = (i ≤ n) × (count ≤ i) × (slotsIn (rest classes n 0) ≡ count + slotsIn (rest classes n i))

@@ -2,8 +2,8 @@
 use Rattle.slots.proofs.Cut.{length-cut}
 use borrow.Author.Needs.{needs}
 use native.Mathlib.Omega.{arith}
-use Rattle.eightbytes.proofs.eightbytes_in.Statement.{statement}
-use Rattle.eightbytes.proofs.eightbytes_in.Tie as tie
+use Rattle.eightslots.proofs.eightbytes_in.Statement.{statement}
+use Rattle.eightslots.proofs.eightbytes_in.Tie as tie
 
 parts-requires : tie.Need-parts-requires
 parts-requires c κs = search needs

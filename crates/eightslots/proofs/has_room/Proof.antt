@@ -1,8 +1,8 @@
 -- `has_room` answers whether the slots fit: n of them do, or as many as there are. Assumes nothing.
 use borrow.Author.Needs.{needs}
-use Rattle.eightbytes.proofs.Pair.{room-all, room-counted}
-use Rattle.eightbytes.proofs.has_room.Statement.{statement}
-use Rattle.eightbytes.proofs.has_room.Tie as tie
+use Rattle.eightslots.proofs.Pair.{room-all, room-counted}
+use Rattle.eightslots.proofs.has_room.Statement.{statement}
+use Rattle.eightslots.proofs.has_room.Tie as tie
 
 returns : tie.Need-returns
 returns c = search (room-all)

@@ -1,8 +1,8 @@
 -- `put_eightbyte` writes the one slot of an eightbyte, or none, and counts its words. Assumes nothing.
 use borrow.Author.Needs.{needs}
-use Rattle.eightbytes.proofs.Put.{put-nothing, next-same, put-own, next-own}
-use Rattle.eightbytes.proofs.put_eightbyte.Statement.{statement}
-use Rattle.eightbytes.proofs.put_eightbyte.Tie as tie
+use Rattle.eightslots.proofs.Put.{put-nothing, next-same, put-own, next-own}
+use Rattle.eightslots.proofs.put_eightbyte.Statement.{statement}
+use Rattle.eightslots.proofs.put_eightbyte.Tie as tie
 
 returns : tie.Need-returns
 returns c = (search (next-same), search (put-nothing))

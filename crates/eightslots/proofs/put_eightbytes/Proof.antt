@@ -3,12 +3,12 @@ use Prim.Native.Nat.{_+_, _-_, _≤_}
 use mathlib.Core.Path.{_≡_, refl}
 use lib.ListN.{length}
 use Rattle.slots.specs.Words.{wordsOf, putAt, written}
 use Rattle.eightbytes.specs.Eightbytes.{slotsOf}
-use Rattle.eightbytes.proofs.Put.{left, put-short, put-start, room-start, room-turn, put-turn, put-end}
+use Rattle.eightslots.proofs.Put.{left, put-short, put-start, room-start, room-turn, put-turn, put-end}
 use borrow.Author.Needs.{needs}
 use native.Mathlib.Omega.{arith}
-use Rattle.eightbytes.proofs.put_eightbytes.Statement.{statement}
-use Rattle.eightbytes.proofs.put_eightbytes.Tie as tie
+use Rattle.eightslots.proofs.put_eightbytes.Statement.{statement}
+use Rattle.eightslots.proofs.put_eightbytes.Tie as tie
 
 abbrev Inv-loop : tie.InvT-loop
 Inv-loop size out₀ classes n at₀ i₀ out at i =

@@ -1,9 +1,9 @@
 -- `put_pair` writes the slots of no, one or two eightbytes where all of them fit. Assumes nothing.
 use borrow.Author.Needs.{needs}
 use native.Mathlib.Omega.{arith}
-use Rattle.eightbytes.proofs.Pair.{put-empty, put-one, put-neither, put-behind, put-both}
-use Rattle.eightbytes.proofs.put_pair.Statement.{statement}
-use Rattle.eightbytes.proofs.put_pair.Tie as tie
+use Rattle.eightslots.proofs.Pair.{put-empty, put-one, put-neither, put-behind, put-both}
+use Rattle.eightslots.proofs.put_pair.Statement.{statement}
+use Rattle.eightslots.proofs.put_pair.Tie as tie
 
 returns : tie.Need-returns
 returns c = put-empty _ _ _ (omega arith) (c .if1 .taken)

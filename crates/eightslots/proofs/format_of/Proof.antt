@@ -1,7 +1,7 @@
 -- `format_of` answers the format of an Sse eightbyte, test by test. Assumes nothing.
 use borrow.Author.Tests.{le-leb, lt-leb}
-use Rattle.eightbytes.proofs.format_of.Statement.{statement}
-use Rattle.eightbytes.proofs.format_of.Tie as tie
+use Rattle.eightslots.proofs.format_of.Statement.{statement}
+use Rattle.eightslots.proofs.format_of.Tie as tie
 
 returns : tie.Need-returns
 returns c = rw (c .if1 .taken)
