@@ -428,8 +428,11 @@ module _ (c : Call) (arg : args.Arg) (ws out : List ℕ) (r : Answer) where
         → (r ≡ dotsAnswer c arg ws out) × (out′ ≡ dotsWritten c arg ws out)
     unfolding dotsAnswer dotsWritten answerTo writtenTo refusalOf argRefusal rust.variadicArgument rules.dotsChoice
     dots-scalar k =
-        rw (e, wordless-passed (described (c .abi) .variadic) (described (c .abi)) (leftOf c) s (piecesOf ws) (piecesOf []),
-        wordless-choice (described (c .abi) .variadic) (described (c .abi)) (leftOf c) s (piecesOf ws) (piecesOf [])) k
+        rw (
+          e,
+          wordless-passed (described (c .abi) .variadic) (described (c .abi)) (leftOf c) s (piecesOf ws) (piecesOf []),
+          wordless-choice (described (c .abi) .variadic) (described (c .abi)) (leftOf c) s (piecesOf ws) (piecesOf []),
+        ) k
 
   module _ (shape : Shape) (e : arg ≡ args.the-variants.Aggregate shape) (out′ : List ℕ) where
     pub returns-aggregate : (r ≡ returnsAnswer c (parts.aggregateArg shape) ws out) × (out′ ≡ returnsWritten c (parts.aggregateArg shape) ws out)

@@ -184,12 +184,7 @@ impl Call {
         perform_aggregate(self, false, Variadic::SameAsFixed, shape, words, out)
     }
 
-    pub fn variadic_argument_aggregate(
-        self,
-        shape: Shape,
-        words: &[u64],
-        out: &mut [u64],
-    ) -> Answer
+    pub fn variadic_argument_aggregate(self, shape: Shape, words: &[u64], out: &mut [u64]) -> Answer
         ensures { λ r. ⌜ (r ≡ dotsAnswer self (parts.aggregateArg shape) (now (words .entry)) (now (out .entry))) × (now (out .exit) ≡ dotsWritten self (parts.aggregateArg shape) (now (words .entry)) (now (out .entry))) ⌝ }
     {
         perform_aggregate(self, false, abis::variadic(self.abi), shape, words, out)

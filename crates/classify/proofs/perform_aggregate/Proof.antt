@@ -15,7 +15,7 @@ perform-aggregate-spec =
     (λ c κs. search (known))
     (λ c κs. search needs)
     (λ c. search needs)
-    (λ c. 
+    (λ c.
     let finish = c .before .before in
     let decide = finish .before .before in
     let left = decide .before in

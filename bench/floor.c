@@ -1,0 +1,53 @@
+/* What the entries cost that decide nothing: the same numbers in, the same checks, an answer of eleven words out, and one fixed way in place
+   of the rules. `bench/run --floor` puts them in the library's place, to tell what of a figure is the interface's and not the classifier's. */
+#include <stdint.h>
+
+typedef uint64_t u64;
+
+typedef struct {
+    u64 refusal, way, abi, integer, float_, integers_only, integers_passed, integers_given, floats_passed, floats_given, slots;
+} answer;
+
+enum { BAD_ABI = 1, BAD_CALL, BAD_LIST, BAD_KIND, BAD_SIZE, BAD_ALIGN, NO_ROOM };
+
+/* the registers that each of the thirty starts with, and the one that takes the mark */
+static const uint8_t integers[30] = {6, 8, 8, 8, 4, 8, 0, 1, 2, 3, 0, 1, 2, 3, 0, 1, 2, 3, 0, 1, 2, 3, 2, 2, 0, 0, 0, 2, 0, 2};
+static const uint8_t floats[30] = {8, 8, 8, 8, 0, 8};
+static const u64 marked = 3;
+
+#define REFUSE_IF(test, number)                                                                                                                \
+    if (test)                                                                                                                                  \
+        return (answer){number, 0, abi, integer, float_, mark != 0, 0, 0, 0, 0, 0};
+
+#define CHECK_CALL                                                                                                                             \
+    REFUSE_IF(abi >= 30, BAD_ABI)                                                                                                              \
+    REFUSE_IF(integer > integers[abi] || float_ > floats[abi] || (mark && abi != marked), BAD_CALL)
+
+answer barkpaddle_fresh(u64 abi) {
+    if (abi >= 30)
+        return (answer){BAD_ABI, 0, 0, 0, 0, 0, 0, 0, 0, 0, 0};
+    return (answer){0, 0, abi, integers[abi], floats[abi], 0, 0, 0, 0, 0, 0};
+}
+
+answer barkpaddle_argument_scalar(u64 abi, u64 integer, u64 float_, u64 mark, u64 kind, u64 size, u64 align, u64 *slots, u64 length) {
+    CHECK_CALL
+    REFUSE_IF(kind > 4, BAD_KIND)
+    REFUSE_IF(size > 64, BAD_SIZE)
+    REFUSE_IF(align > 4096, BAD_ALIGN)
+    u64 given = integer > 0;
+    return (answer){0, 1, abi, integer - given, float_, mark != 0, 0, given, 0, 0, 0};
+}
+
+answer barkpaddle_argument_aggregate(u64 abi, u64 integer, u64 float_, u64 mark, u64 size, u64 align, u64 complex, u64 floating, const u64 *words, u64 count, u64 *slots, u64 length) {
+    CHECK_CALL
+    REFUSE_IF(count % 4 || count > 4096, BAD_LIST)
+    REFUSE_IF(size > 1 << 24, BAD_SIZE)
+    REFUSE_IF(align > 4096, BAD_ALIGN)
+    for (u64 at = 0; at < count; at += 4) {
+        REFUSE_IF(words[at] > 4, BAD_KIND)
+        REFUSE_IF(words[at + 1] > 64 || words[at + 3] > 1 << 24, BAD_SIZE)
+        REFUSE_IF(words[at + 2] > 4096, BAD_ALIGN)
+    }
+    REFUSE_IF(length < 6, NO_ROOM) /* two slots */
+    return (answer){0, 4, abi, integer, float_, mark != 0, 0, 0, 0, 0, 0};
+}
