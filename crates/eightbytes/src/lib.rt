@@ -195,12 +195,14 @@ fn settle_all(classes: [u8; 8], n: usize) -> Classified
     requires { ⌜ (Coded classes) × (n ≤ 8) × (drop n classes ≡ replicate (8 - n) 0) ⌝ }
     ensures { λ r. ⌜ ((size : ℕ) → r .found ≡ foundOf (slotsFound size (settled (take n (map classOf classes))))) × (r .classes ≡ codes (settled (take n (map classOf classes)))) ⌝ }
 {
+    // said once more: the compiler doesn't know the promise, and makes less of a loop with a bound
+    let most = shape::least(n as u64, 8) as usize;
     let mut cs = classes;
     let mut below = NONE;
     let mut count = 0;
     let mut floats = 0;
     let mut i = 0;
-    while i < n {
+    while i < most {
         let class = mended(below, cs[i]);
         if class >= X87 {
             return nothing();

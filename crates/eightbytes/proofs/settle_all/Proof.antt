@@ -17,7 +17,7 @@ use Rattle.eightbytes.proofs.settle_all.Statement.{statement}
 use Rattle.eightbytes.proofs.settle_all.Tie as tie
 
 abbrev Inv-loop : tie.InvT-loop
-Inv-loop n cs₀ below₀ count₀ floats₀ i₀ cs below count floats i =
+Inv-loop n most cs₀ below₀ count₀ floats₀ i₀ cs below count floats i =
     (i ≤ n) × (count ≤ i) × (floats ≤ i) × (below < 6) × (Coded cs) × (length cs ≡ 8) × (drop n cs ≡ drop n cs₀)
     × (spoiled (rest cs₀ n 0) ≡ spoiled (rest cs n i))
     × (mend None (rest cs₀ n 0) ≡ take i (map classOf cs) ++ mend (classOf below) (rest cs n i))
@@ -25,12 +25,15 @@ Inv-loop n cs₀ below₀ count₀ floats₀ i₀ cs below count floats i =
     × (ssesIn (mend None (rest cs₀ n 0)) ≡ floats + ssesIn (mend (classOf below) (rest cs n i)))
 
 abbrev μ-loop : tie.MeasureT-loop
-μ-loop n cs₀ below₀ count₀ floats₀ i₀ cs below count floats i = n - i
+μ-loop n most cs₀ below₀ count₀ floats₀ i₀ cs below count floats i = n - i
+
+least-requires : tie.Need-least-requires Inv-loop μ-loop
+least-requires c κs = search needs
 
 loop-holds : tie.Need-loop-holds Inv-loop μ-loop
 unfolding classOf
 loop-holds c =
-    (omega arith, omega arith, omega arith, omega arith, c .pre .0, omega arith, refl, refl, refl, sym (zero-add _), sym (zero-add _))
+    (omega arith, omega arith, omega arith, omega arith, c .before .pre .0, omega arith, refl, refl, refl, sym (zero-add _), sym (zero-add _))
 
 array-read-mended : tie.Need-array-read-mended Inv-loop μ-loop
 array-read-mended c = omega arith
@@ -44,7 +47,7 @@ nothing-requires c κs = search needs
 returns : tie.Need-returns Inv-loop μ-loop
 returns c =
     let l = c .before .before .before .before .loop in
-    let a = c .before .before .before .before .before .args in
+    let a = c .before .before .before .before .before .before .args in
     let s = spoil-stop (l .cs) (a .n) (l .i) (l .below) (omega arith) (omega arith) _ (c .before .before .mended .ensures) _ (l .inv .7) (omega arith) in
     (stop-found (a .n) (a .classes) _ s (c .nothing .ensures .0), stop-classes (a .n) (a .classes) _ s (c .nothing .ensures .1))
 
@@ -72,7 +75,7 @@ loop-less c = omega arith
 loop-again : tie.Need-loop-again Inv-loop μ-loop
 loop-again c =
     let l = c .before .before .before .before .before .loop in
-    let n = c .before .before .before .before .before .before .args .n in
+    let n = c .before .before .before .before .before .before .before .args .n in
     let e = c .before .before .before .mended .ensures in
     let h : l .i < n = omega arith in
     let k : n ≤ length (l .cs) = omega arith in (
@@ -92,8 +95,8 @@ loop-again c =
 returns-2 : tie.Need-returns-2 Inv-loop μ-loop
 returns-2 c =
     let l = c .before .loop in
-    let a = c .before .before .args in
-    let p = c .before .before .pre in (
+    let a = c .before .before .before .args in
+    let p = c .before .before .before .pre in (
       end-found (a .n) (a .classes) (l .cs) (l .i) (l .below) (omega arith) (l .inv .7) _ _ (l .inv .9) (l .inv .10),
       end-classes (a .n) (a .classes) (l .cs) (l .i) (l .below) (omega arith) (l .inv .7) (omega arith) (p .1) (omega arith) (l .inv .4) (l .inv .6) (p .2) (l .inv .8),
     )
@@ -104,6 +107,7 @@ settle-all-spec =
     (tie.spec
     Inv-loop
     μ-loop
+    least-requires
     loop-holds
     array-read-mended
     mended-requires
