@@ -1,21 +1,18 @@
 // The thirty descriptions, read by number (REFERENCE 5.5), and the questions of REFERENCE 5.7 asked of a number.
 ghost use mathlib.Core.Path.{_≡_};
 ghost use Rattle.describe.specs.Description.{others};
-ghost use Rattle.describe.specs.Row.{encode, packed};
+ghost use Rattle.describe.specs.Row.{encode};
 ghost use Rattle.abis.specs.Abis.{described};
 ghost use Rattle.abis.specs.Answers.{isByReferenceAnswer, returnsByReferenceAnswer, wideReturnsInAnswer, questionRefusal};
 
-mod naming;
-mod table;
+pub mod table;
 
 use describe::Banks;
 use describe::Others;
 use describe::ReturnPointer;
-use describe::Rules;
 use describe::Scalars;
 use describe::Variadic;
 use describe::WIDTH;
-pub use naming::name;
 use table::*;
 
 pub const DESCRIPTIONS: u64 = 30;
@@ -178,83 +175,5 @@ fn named_row(d: u64) -> [u8; WIDTH]
         28 => I386_MSVC_STDCALL,
         29 => I386_MSVC_FASTCALL,
         _ => [0; WIDTH],
-    }
-}
-
-// The list of rules for returns as a walk takes it.
-pub fn return_rules(d: u64) -> Rules
-    ensures { λ r. ⌜ r ≡ packed (described d .returns) ⌝ }
-{
-    match d {
-        0 => describe::return_rules(SYSV_AMD64),
-        1 => describe::return_rules(AAPCS64),
-        2 => describe::return_rules(DARWIN_ARM64),
-        3 => describe::return_rules(WINDOWS_ARM64),
-        4 => describe::return_rules(WIN64),
-        5 => describe::return_rules(RISCV_LP64D),
-        6 => describe::return_rules(I386_SYSV),
-        7 => describe::return_rules(I386_SYSV_REGPARM_1),
-        8 => describe::return_rules(I386_SYSV_REGPARM_2),
-        9 => describe::return_rules(I386_SYSV_REGPARM_3),
-        10 => describe::return_rules(I386_SYSV_REG_STRUCT),
-        11 => describe::return_rules(I386_SYSV_REGPARM_1_REG_STRUCT),
-        12 => describe::return_rules(I386_SYSV_REGPARM_2_REG_STRUCT),
-        13 => describe::return_rules(I386_SYSV_REGPARM_3_REG_STRUCT),
-        14 => describe::return_rules(I386_SYSV_STDCALL),
-        15 => describe::return_rules(I386_SYSV_REGPARM_1_STDCALL),
-        16 => describe::return_rules(I386_SYSV_REGPARM_2_STDCALL),
-        17 => describe::return_rules(I386_SYSV_REGPARM_3_STDCALL),
-        18 => describe::return_rules(I386_SYSV_REG_STRUCT_STDCALL),
-        19 => describe::return_rules(I386_SYSV_REGPARM_1_REG_STRUCT_STDCALL),
-        20 => describe::return_rules(I386_SYSV_REGPARM_2_REG_STRUCT_STDCALL),
-        21 => describe::return_rules(I386_SYSV_REGPARM_3_REG_STRUCT_STDCALL),
-        22 => describe::return_rules(I386_SYSV_FASTCALL),
-        23 => describe::return_rules(I386_SYSV_REG_STRUCT_FASTCALL),
-        24 => describe::return_rules(I386_MINGW),
-        25 => describe::return_rules(I386_MSVC),
-        26 => describe::return_rules(I386_MINGW_STDCALL),
-        27 => describe::return_rules(I386_MINGW_FASTCALL),
-        28 => describe::return_rules(I386_MSVC_STDCALL),
-        29 => describe::return_rules(I386_MSVC_FASTCALL),
-        _ => describe::return_rules([0; WIDTH]),
-    }
-}
-
-// The list of rules for arguments as a walk takes it.
-pub fn argument_rules(d: u64) -> Rules
-    ensures { λ r. ⌜ r ≡ packed (described d .arguments) ⌝ }
-{
-    match d {
-        0 => describe::argument_rules(SYSV_AMD64),
-        1 => describe::argument_rules(AAPCS64),
-        2 => describe::argument_rules(DARWIN_ARM64),
-        3 => describe::argument_rules(WINDOWS_ARM64),
-        4 => describe::argument_rules(WIN64),
-        5 => describe::argument_rules(RISCV_LP64D),
-        6 => describe::argument_rules(I386_SYSV),
-        7 => describe::argument_rules(I386_SYSV_REGPARM_1),
-        8 => describe::argument_rules(I386_SYSV_REGPARM_2),
-        9 => describe::argument_rules(I386_SYSV_REGPARM_3),
-        10 => describe::argument_rules(I386_SYSV_REG_STRUCT),
-        11 => describe::argument_rules(I386_SYSV_REGPARM_1_REG_STRUCT),
-        12 => describe::argument_rules(I386_SYSV_REGPARM_2_REG_STRUCT),
-        13 => describe::argument_rules(I386_SYSV_REGPARM_3_REG_STRUCT),
-        14 => describe::argument_rules(I386_SYSV_STDCALL),
-        15 => describe::argument_rules(I386_SYSV_REGPARM_1_STDCALL),
-        16 => describe::argument_rules(I386_SYSV_REGPARM_2_STDCALL),
-        17 => describe::argument_rules(I386_SYSV_REGPARM_3_STDCALL),
-        18 => describe::argument_rules(I386_SYSV_REG_STRUCT_STDCALL),
-        19 => describe::argument_rules(I386_SYSV_REGPARM_1_REG_STRUCT_STDCALL),
-        20 => describe::argument_rules(I386_SYSV_REGPARM_2_REG_STRUCT_STDCALL),
-        21 => describe::argument_rules(I386_SYSV_REGPARM_3_REG_STRUCT_STDCALL),
-        22 => describe::argument_rules(I386_SYSV_FASTCALL),
-        23 => describe::argument_rules(I386_SYSV_REG_STRUCT_FASTCALL),
-        24 => describe::argument_rules(I386_MINGW),
-        25 => describe::argument_rules(I386_MSVC),
-        26 => describe::argument_rules(I386_MINGW_STDCALL),
-        27 => describe::argument_rules(I386_MINGW_FASTCALL),
-        28 => describe::argument_rules(I386_MSVC_STDCALL),
-        29 => describe::argument_rules(I386_MSVC_FASTCALL),
-        _ => describe::argument_rules([0; WIDTH]),
     }
 }

@@ -34,7 +34,7 @@ fn description(d: u64) {
 
 fn name(out: &mut [u8], d: u64) -> usize {
     let mut space = [0u8; 64];
-    let written = abis::name(d, &mut space);
+    let written = names::name(d, &mut space);
     let a = begin(out, 0, d, b" name ");
     if written.length > 64 {
         return a;

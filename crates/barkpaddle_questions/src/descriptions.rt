@@ -92,7 +92,7 @@ pub extern "C" fn barkpaddle_argument_rule(abi: u64, index: u64) -> RuleNumbers
 pub extern "C" fn barkpaddle_name(abi: u64, name: &mut [u8]) -> Told
     ensures { λ r. ⌜ (r ≡ lengthTold (nameAnswer abi (length (now (name .entry))))) × (now (name .exit) ≡ nameWritten abi (now (name .entry))) ⌝ }
 {
-    let written = abis::name(abi, name);
+    let written = names::name(abi, name);
     Told {
         refusal: written.refusal,
         value: written.length,

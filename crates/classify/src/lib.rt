@@ -463,9 +463,9 @@ fn rules_of(abi: u64, returning: bool) -> Rules
     ensures { λ r. ⌜ r ≡ packed (parts.rulesOf (described abi) returning) ⌝ }
 {
     if returning {
-        return abis::return_rules(abi);
+        return lists::return_rules(abi);
     }
-    abis::argument_rules(abi)
+    lists::argument_rules(abi)
 }
 
 // What a test finds, with the slots beside it: where they stand, and the classes of eightbytes.

@@ -1,10 +1,13 @@
-// The name of a description, written into a lent buffer.
+// The name of a description, written into a lent buffer (REFERENCE 5.5).
 ghost use mathlib.Core.Path.{_≡_};
 ghost use lib.ListN.{length};
 ghost use Rattle.abis.specs.Answers.{nameAnswer, nameWritten};
-use crate::DESCRIPTIONS;
-use crate::table::LENGTHS;
-use crate::table::NAMES;
+
+mod table;
+
+use abis::DESCRIPTIONS;
+use table::LENGTHS;
+use table::NAMES;
 use text::Written;
 
 // The name's bytes go to the front of `out`. A refusal writes nothing.

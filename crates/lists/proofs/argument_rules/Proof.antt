@@ -1,10 +1,10 @@
 -- `argument_rules` gives each number its list: the row of each description is its encoding. Assumes nothing.
 use borrow.Author.Needs.{needs}
 use Rattle.describe.proofs.Cases.{none-below}
 use Rattle.abis.specs.Abis.{described, descriptions, description-count}
 use Rattle.abis.proofs.Rows.{here, past-last, arguments-here}
-use Rattle.abis.proofs.argument_rules.Statement.{statement}
-use Rattle.abis.proofs.argument_rules.Tie as tie
+use Rattle.lists.proofs.argument_rules.Statement.{statement}
+use Rattle.lists.proofs.argument_rules.Tie as tie
 
 pub argument-rules-spec : {M : Type 1} → statement M
 unfolding described descriptions

@@ -1,10 +1,10 @@
 -- `return_rules` gives each number its list: the row of each description is its encoding. Assumes nothing.
 use borrow.Author.Needs.{needs}
 use Rattle.describe.proofs.Cases.{none-below}
 use Rattle.abis.specs.Abis.{described, descriptions, description-count}
 use Rattle.abis.proofs.Rows.{here, past-last, returns-here}
-use Rattle.abis.proofs.return_rules.Statement.{statement}
-use Rattle.abis.proofs.return_rules.Tie as tie
+use Rattle.lists.proofs.return_rules.Statement.{statement}
+use Rattle.lists.proofs.return_rules.Tie as tie
 
 pub return-rules-spec : {M : Type 1} → statement M
 unfolding described descriptions

@@ -2,10 +2,10 @@
 use mathlib.Core.Path.{refl}
 use Prim.Native.Nat.{_<_}
 use borrow.Author.Needs.{needs}
 use Rattle.abis.specs.Abis.{described, descriptions, description-count}
-use Rattle.abis.proofs.Names.{named, unnamed, name-there, length-there, length-cut}
-use Rattle.abis.proofs.naming.name.Statement.{statement}
-use Rattle.abis.proofs.naming.name.Tie as tie
+use Rattle.names.proofs.Names.{named, unnamed, name-there, length-there, length-cut}
+use Rattle.names.proofs.name.Statement.{statement}
+use Rattle.names.proofs.name.Tie as tie
 
 pub name-spec : {M : Type 1} → statement M
 unfolding described descriptions
