@@ -12,7 +12,7 @@ use Rattle.describe.specs.Description.{Description, past, others}
 use Rattle.describe.specs.declared.Rules.{Rules}
 use Rattle.describe.specs.Row.{encode, decode, held, heldBanks, heldFormats, heldRules, heldTests, listOf, packed, returnRule, argumentRule, banksOf, scalarsOf, othersOf, returnPointerOf, variadicOf}
 use Rattle.describe.proofs.Inverse.{return-rule-back, argument-rule-back, banks-back, scalars-back, others-back, decode-back}
-use Rattle.describe.proofs.Packed.{returns-packed, arguments-packed}
+use Rattle.rules.proofs.Packed.{returns-packed, arguments-packed}
 use Rattle.describe.proofs.Numbers.{and-left, and-right}
 use Rattle.abis.specs.Abis.{described, descriptions, blank, description-count}
 use Rattle.abis.proofs.Every.{anywhere}

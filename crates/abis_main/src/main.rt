@@ -100,9 +100,9 @@ fn rules(out: &mut [u8], from: usize, d: u64, returning: bool) -> usize {
     let mut at = from;
     for i in 0..describe::RULES {
         let numbers = if returning {
-            rule_numbers(describe::return_rule(row, i), i)
+            rule_numbers(rules::return_rule(row, i), i)
         } else {
-            rule_numbers(describe::argument_rule(row, i), i)
+            rule_numbers(rules::argument_rule(row, i), i)
         };
         at = rule_line(out, at, d, returning, numbers);
         if decides(numbers) {

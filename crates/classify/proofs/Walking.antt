@@ -19,7 +19,7 @@ use Rattle.describe.specs.declared.ReturnPointer.{ReturnPointer}
 use Rattle.describe.specs.declared.Rules.{Rules}
 use Rattle.describe.specs.Description.{Description, Decides, Ends}
 use Rattle.describe.specs.Row.{packed, firstRule, laterRules, heldTests}
-use Rattle.describe.proofs.Packed.{first-back, later-back, later-less, held-later, ends-later}
+use Rattle.rules.proofs.Packed.{first-back, later-back, later-less, held-later, ends-later}
 use Rattle.abis.specs.Abis.{described}
 use Rattle.abis.proofs.Rows.{returns-held, arguments-held}
 use Rattle.abis.proofs.Lists.{returns-end, arguments-end}

@@ -425,9 +425,9 @@ fn walk(abi: u64, returning: bool, left: Left, shape: Shape, words: &[u64]) -> D
     let mut rules = rules_of(abi, returning);
     loop {
         let these = rules;
-        let later = describe::later_rules(rules);
+        let later = rules::later_rules(rules);
         rules = later;
-        let when = describe::first_test(these);
+        let when = rules::first_test(these);
         let searched = search(banks, when, shape, words);
         let found = searched.found;
         let Found::Slots { count, floats } = found else {
@@ -442,7 +442,7 @@ fn walk(abi: u64, returning: bool, left: Left, shape: Shape, words: &[u64]) -> D
             abis::return_pointer(abi),
             returning,
             left,
-            describe::first_rule(these),
+            rules::first_rule(these),
             shape.size,
             Slots {
                 count,
@@ -725,7 +725,7 @@ fn homogeneous_limit(abi: u64) -> Limit
     let row = abis::row(abi);
     let mut i = 0;
     while i < describe::RULES {
-        let rule = describe::argument_rule(row, i);
+        let rule = rules::argument_rule(row, i);
         i += 1;
         let when = rule.when;
         let limit = limit_of(when);

@@ -2,13 +2,6 @@
 use mathlib.Core.Path.{sym, _∙_}
 use contract.Lifetimes.{Lfts}
 use Rattle.shape.proofs.OneAnswer.{OneAnswer}
-use Rattle.describe.proofs.row.return_rule.Reads as return-rule
-use Rattle.describe.proofs.row.argument_rule.Reads as argument-rule
-use Rattle.describe.proofs.row.return_rules.Reads as return-rules
-use Rattle.describe.proofs.row.argument_rules.Reads as argument-rules
-use Rattle.describe.proofs.row.first_rule.Reads as first-rule
-use Rattle.describe.proofs.row.first_test.Reads as first-test
-use Rattle.describe.proofs.row.later_rules.Reads as later-rules
 use Rattle.describe.proofs.row.banks_of.Reads as banks-of
 use Rattle.describe.proofs.row.scalars_of.Reads as scalars-of
 use Rattle.describe.proofs.row.others_of.Reads as others-of
@@ -17,27 +10,6 @@ use Rattle.describe.proofs.row.variadic_of.Reads as variadic-of
 use Rattle.describe.proofs.scalar_is_by_reference.Reads as scalar-is-by-reference
 use Rattle.describe.proofs.scalar_returns_by_reference.Reads as scalar-returns-by-reference
 use Rattle.describe.proofs.wide_integer_returns_in.Reads as wide-integer-returns-in
-
-return-rule-decides : (κs : Lfts 0) → OneAnswer (return-rule.Post κs)
-return-rule-decides κs a r q s t p p′ = p ∙ sym p′
-
-argument-rule-decides : (κs : Lfts 0) → OneAnswer (argument-rule.Post κs)
-argument-rule-decides κs a r q s t p p′ = p ∙ sym p′
-
-return-rules-decides : (κs : Lfts 0) → OneAnswer (return-rules.Post κs)
-return-rules-decides κs a r q s t p p′ = p ∙ sym p′
-
-argument-rules-decides : (κs : Lfts 0) → OneAnswer (argument-rules.Post κs)
-argument-rules-decides κs a r q s t p p′ = p ∙ sym p′
-
-first-rule-decides : (κs : Lfts 0) → OneAnswer (first-rule.Post κs)
-first-rule-decides κs a r q s t p p′ = p ∙ sym p′
-
-first-test-decides : (κs : Lfts 0) → OneAnswer (first-test.Post κs)
-first-test-decides κs a r q s t p p′ = p ∙ sym p′
-
-later-rules-decides : (κs : Lfts 0) → OneAnswer (later-rules.Post κs)
-later-rules-decides κs a r q s t p p′ = p ∙ sym p′
 
 banks-of-decides : (κs : Lfts 0) → OneAnswer (banks-of.Post κs)
 banks-of-decides κs a r q s t p p′ = p ∙ sym p′

@@ -1,5 +1,5 @@
 // The language of descriptions (REFERENCE 5): what a description says, and the questions that its scalar rules answer by
-// themselves. `row` reads a description from a row of bytes.
+// themselves. `row` reads a description from a row of bytes, but for its rules, which the crate `rules` reads.
 ghost use mathlib.Core.Path.{_≡_};
 ghost use Rattle.describe.specs.Questions.{isByReference, returnsByReference, wideReturnsIn, registerSize};
 
@@ -10,16 +10,9 @@ pub use row::ARGUMENTS;
 pub use row::RETURNS;
 pub use row::RULES;
 pub use row::WIDTH;
-pub use row::argument_rule;
-pub use row::argument_rules;
 pub use row::banks_of;
-pub use row::first_rule;
-pub use row::first_test;
-pub use row::later_rules;
 pub use row::others_of;
 pub use row::return_pointer_of;
-pub use row::return_rule;
-pub use row::return_rules;
 pub use row::scalars_of;
 pub use row::variadic_of;
 

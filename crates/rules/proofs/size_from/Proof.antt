@@ -1,9 +1,9 @@
 -- `size_from` gives the case of each number, arm by arm; the last arm is past the end of the cases before it.
 use mathlib.Core.List.{[], _∷_}
 use Rattle.describe.specs.Codes.{sizeFrom}
 use Rattle.describe.proofs.Cases.{past-end}
-use Rattle.describe.proofs.row.size_from.Statement.{statement}
-use Rattle.describe.proofs.row.size_from.Tie as tie
+use Rattle.rules.proofs.size_from.Statement.{statement}
+use Rattle.rules.proofs.size_from.Tie as tie
 
 pub size-from-spec : {M : Type 1} → statement M
 unfolding sizeFrom

@@ -1,9 +1,9 @@
 -- `rule_of` reads the three bytes of a rule inside the list, and past it answers the rule that stands there.
 use borrow.Author.Needs.{needs}
 use borrow.Author.Tests.{lt-ltb, le-ltb}
 use Rattle.describe.specs.Row.{ruleOf, ruleFrom}
-use Rattle.describe.proofs.row.rule_of.Statement.{statement}
-use Rattle.describe.proofs.row.rule_of.Tie as tie
+use Rattle.rules.proofs.rule_of.Statement.{statement}
+use Rattle.rules.proofs.rule_of.Tie as tie
 
 pub rule-of-spec : {M : Type 1} → statement M
 unfolding ruleOf ruleFrom

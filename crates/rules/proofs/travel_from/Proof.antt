@@ -1,10 +1,10 @@
 -- `travel_from` gives the case of each number, arm by arm; the last arm is past the end of the cases before it.
 use mathlib.Core.List.{[], _∷_}
 use Rattle.describe.specs.declared.Travel.the-variants.{Ignore, AsFound, AsIntegers, AsOneInteger, ByReference, InMemory, InMemoryAndSpend}
 use Rattle.describe.specs.Codes.{travelFrom}
 use Rattle.describe.proofs.Cases.{past-end}
-use Rattle.describe.proofs.row.travel_from.Statement.{statement}
-use Rattle.describe.proofs.row.travel_from.Tie as tie
+use Rattle.rules.proofs.travel_from.Statement.{statement}
+use Rattle.rules.proofs.travel_from.Tie as tie
 
 pub travel-from-spec : {M : Type 1} → statement M
 unfolding travelFrom

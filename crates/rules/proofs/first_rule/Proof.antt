@@ -1,8 +1,8 @@
 -- `first_rule` reads the lowest bytes. Assumes nothing.
 use borrow.Author.Needs.{needs}
 use Rattle.describe.specs.Row.{firstRule, ruleFrom}
-use Rattle.describe.proofs.row.first_rule.Statement.{statement}
-use Rattle.describe.proofs.row.first_rule.Tie as tie
+use Rattle.rules.proofs.first_rule.Statement.{statement}
+use Rattle.rules.proofs.first_rule.Tie as tie
 
 pub first-rule-spec : {M : Type 1} → statement M
 unfolding firstRule ruleFrom

@@ -1,10 +1,10 @@
 -- `test_from` gives the test of each number, arm by arm; the last arm is past the end of the tests before it.
 use borrow.Author.Needs.{needs}
 use Rattle.describe.specs.declared.Test.the-variants.{Eightbytes}
 use Rattle.describe.specs.Codes.{testFrom, firstTests}
 use Rattle.describe.proofs.Cases.{past-end}
-use Rattle.describe.proofs.row.test_from.Statement.{statement}
-use Rattle.describe.proofs.row.test_from.Tie as tie
+use Rattle.rules.proofs.test_from.Statement.{statement}
+use Rattle.rules.proofs.test_from.Tie as tie
 
 pub test-from-spec : {M : Type 1} → statement M
 unfolding testFrom

@@ -1,8 +1,8 @@
 -- `tests_of` reads four tests from their places. Assumes nothing.
-use Rattle.describe.proofs.Packed.{tests-read}
+use Rattle.rules.proofs.Packed.{tests-read}
 use borrow.Author.Needs.{needs}
-use Rattle.describe.proofs.row.tests_of.Statement.{statement}
-use Rattle.describe.proofs.row.tests_of.Tie as tie
+use Rattle.rules.proofs.tests_of.Statement.{statement}
+use Rattle.rules.proofs.tests_of.Tie as tie
 
 returns : tie.Need-returns
 returns c =

@@ -1,8 +1,8 @@
 -- `list_of` reads four rules from their places. Assumes nothing.
 use borrow.Author.Needs.{needs}
 use Rattle.describe.specs.Row.{listOf}
-use Rattle.describe.proofs.row.list_of.Statement.{statement}
-use Rattle.describe.proofs.row.list_of.Tie as tie
+use Rattle.rules.proofs.list_of.Statement.{statement}
+use Rattle.rules.proofs.list_of.Tie as tie
 
 pub list-of-spec : {M : Type 1} → statement M
 unfolding listOf

@@ -1,10 +1,10 @@
 -- `short_from` gives the case of each number, arm by arm; the last arm is past the end of the cases before it.
 use mathlib.Core.List.{[], _∷_}
 use Rattle.describe.specs.declared.Short.the-variants.{Unchanged, Memory, MemoryAndDrain, TryNextRule}
 use Rattle.describe.specs.Codes.{shortFrom}
 use Rattle.describe.proofs.Cases.{past-end}
-use Rattle.describe.proofs.row.short_from.Statement.{statement}
-use Rattle.describe.proofs.row.short_from.Tie as tie
+use Rattle.rules.proofs.short_from.Statement.{statement}
+use Rattle.rules.proofs.short_from.Tie as tie
 
 pub short-from-spec : {M : Type 1} → statement M
 unfolding shortFrom

@@ -1,8 +1,8 @@
 -- `first_test` reads the lowest two bytes. Assumes nothing.
 use borrow.Author.Needs.{needs}
 use Rattle.describe.specs.Row.{firstRule, ruleFrom}
-use Rattle.describe.proofs.row.first_test.Statement.{statement}
-use Rattle.describe.proofs.row.first_test.Tie as tie
+use Rattle.rules.proofs.first_test.Statement.{statement}
+use Rattle.rules.proofs.first_test.Tie as tie
 
 pub first-test-spec : {M : Type 1} → statement M
 unfolding firstRule ruleFrom
