@@ -39,6 +39,7 @@ use Rattle.spend.specs.declared.Decision.{Decision}
 use Rattle.spend.specs.declared.Step as steps
 use Rattle.spend.specs.Ways as made
 use Rattle.spend.specs.Spending as rules
+use Rattle.scalars.specs.Spending as lone
 use Rattle.classify.specs.declared.Arg as args
 use Rattle.classify.specs.Pass.{Pass, ignore, direct, pieces, reference, memory, wayOf, slotsOf, matches}
 use Rattle.classify.specs.Classify as rust
@@ -173,8 +174,8 @@ module _ (arg : args.Arg) (ps : List Piece) (left : Left) where
           (cond (ltb 1 want && (D .scalars .«wide_integer_starts_even» || D .scalars .«wide_integer_drains»))
           (rust.afterPair (D .scalars) want (rust.afterEven (D .scalars) (D .banks .integer) left))
           (less want left))))
-          (chosen (rules.integerArgument (D .banks .integer) (D .scalars) I want) when)
-      unfolding rules.integerArgument rules.skipOf
+          (chosen (lone.integerArgument (D .banks .integer) (D .scalars) I want) when)
+      unfolding lone.integerArgument lone.skipOf
       an-integer want =
           directly (D .scalars .«wide_integer_is_all_or_nothing») _ _ _ _
           (λ (_ : D .scalars .«wide_integer_is_all_or_nothing» ≡ true).
@@ -189,16 +190,16 @@ module _ (arg : args.Arg) (ps : List Piece) (left : Left) where
           (λ _. takes-integers direct _ want refl refl))
 
       in-registers : (s : Scalar) (want : ℕ)
-          → Chooses (passed direct (rust.afterScalar D left s want)) (chosen (rules.inRegisters (D .banks) (D .scalars) left s want) when)
-      unfolding rust.afterScalar rules.inRegisters
+          → Chooses (passed direct (rust.afterScalar D left s want)) (chosen (lone.inRegisters (D .banks) (D .scalars) left s want) when)
+      unfolding rust.afterScalar lone.inRegisters
       in-registers s want =
           directly (D .banks .shared) _ _ _ _ (λ _. takes-integers direct _ 1 refl refl)
           (λ _. directly (isFloat (s .kind) && leb (s .size) (D .banks .«float_width»)) _ _ _ _
           (λ _. plainly direct _ _ _ 0 0 0 (min 1 (left .float)) refl refl (omega arith))
           (λ _. directly (isFloat (s .kind)) _ _ _ _ (λ _. takes-integers direct _ want refl refl) (λ _. an-integer want)))
 
-      scalar-argument : (s : Scalar) → Chooses (rust.scalar D left s) (chosen (rules.scalarArgument (D .banks) (D .scalars) left s) when)
-      unfolding rust.scalar rules.scalarArgument slotsIn
+      scalar-argument : (s : Scalar) → Chooses (rust.scalar D left s) (chosen (lone.scalarArgument (D .banks) (D .scalars) left s) when)
+      unfolding rust.scalar lone.scalarArgument slotsIn
       scalar-argument s =
           let want : ℕ = rules.wantOf (s .size) (D .banks .«integer_width») in
           by-test (isByReference (D .scalars) (s .size)) _ _ _ _ (λ _. takes-integers reference _ 1 refl refl)
@@ -209,8 +210,8 @@ module _ (arg : args.Arg) (ps : List Piece) (left : Left) where
           (λ _. in-registers s want))))
 
       -- a scalar that comes back
-      scalar-return : (s : Scalar) → Chooses (rust.returnedScalar D left s) (chosen (rules.scalarReturn (D .scalars) (D .«return_pointer») left s) when)
-      unfolding rules.scalarReturn slotsIn
+      scalar-return : (s : Scalar) → Chooses (rust.returnedScalar D left s) (chosen (lone.scalarReturn (D .scalars) (D .«return_pointer») left s) when)
+      unfolding lone.scalarReturn slotsIn
       scalar-return s =
           by-test (not (returnsByReference (D .scalars) (s .size))) _ _ _ _ (λ _. spends-nothing direct _ refl refl)
           (λ _. by-test (eqb (s .kind) integer && not (eqb (D .scalars .«wide_integer_returns_in») integer)) _ _ _ _

@@ -31,7 +31,8 @@ use Rattle.spend.specs.declared.Way as ways
 use Rattle.spend.specs.declared.Spent.{Spent}
 use Rattle.spend.specs.declared.Decision.{Decision}
 use Rattle.spend.specs.Ways as made
-use Rattle.spend.specs.Spending.{wantOf, skipOf, integerArgument, inRegisters, scalarArgument, byPointer, scalarReturn}
+use Rattle.spend.specs.Spending.{wantOf, byPointer}
+use Rattle.scalars.specs.Spending.{skipOf, integerArgument, inRegisters, scalarArgument, scalarReturn}
 use Rattle.classify.specs.declared.Arg as args
 use Rattle.classify.specs.declared.Call.{Call}
 use Rattle.classify.specs.declared.Answer.{Answer}

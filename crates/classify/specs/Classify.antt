@@ -1,6 +1,7 @@
 -- The Rust's behaviour, restated over readable descriptions, shapes and calls, function by function in the order of classify.rs: how each value
 -- travels, its slots, and the counts left as the Rust computes them. Subtraction stops at 0, as the Rust's saturating one does. What is passed
--- over and given is not here: that is spend/specs/Spending.antt and Spending.antt beside this file, and a theorem has the two agree.
+-- over and given is not here: that is spend/specs/Spending.antt, scalars/specs/Spending.antt and Spending.antt beside this file, and a theorem
+-- has the two agree.
 use Prim.Native.Nat.{ℕ, _-_, _%_, max}
 use mathlib.Core.List.{List, [], _∷_}
 use mathlib.Core.Bool.{Bool, true, false, _&&_, _||_, not, cond}

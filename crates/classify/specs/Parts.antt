@@ -33,7 +33,7 @@ use Rattle.spend.specs.declared.Way as ways
 use Rattle.spend.specs.declared.Source as sources
 use Rattle.spend.specs.declared.Decision.{Decision}
 use Rattle.spend.specs.Ways as made
-use Rattle.spend.specs.Spending.{scalarArgument, scalarReturn}
+use Rattle.scalars.specs.Spending.{scalarArgument, scalarReturn}
 use Rattle.classify.specs.declared.Arg as args
 use Rattle.classify.specs.declared.Call.{Call}
 use Rattle.classify.specs.declared.Answer.{Answer}

@@ -1,5 +1,5 @@
--- How an operation spends registers (REFERENCE 9.3 to 9.5), over the lines and ways of spend/specs/Spending.antt: what each value passes over and
--- is given, and by which rule.
+-- How an operation spends registers (REFERENCE 9.3 to 9.5), over the lines of scalars/specs/Spending.antt and the ways of
+-- spend/specs/Spending.antt: what each value passes over and is given, and by which rule.
 use Prim.Native.Nat.{ℕ}
 use mathlib.Core.List.{List, [], _∷_}
 use mathlib.Core.Bool.{Bool, true, false, _&&_, not, cond}
@@ -22,7 +22,8 @@ use Rattle.spend.specs.declared.Slots.{Slots}
 use Rattle.spend.specs.declared.Decision.{Decision}
 use Rattle.spend.specs.declared.Step as steps
 use Rattle.spend.specs.Ways as made
-use Rattle.spend.specs.Spending.{scalarArgument, scalarReturn, travelOf}
+use Rattle.spend.specs.Spending.{travelOf}
+use Rattle.scalars.specs.Spending.{scalarArgument, scalarReturn}
 use Rattle.classify.specs.declared.Arg as args
 use Rattle.classify.specs.Pass.{matches}
 

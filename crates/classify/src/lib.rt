@@ -321,12 +321,12 @@ fn decide_scalar(abi: u64, returning: bool, variadic: Variadic, left: Left, s: S
     ensures { λ r. ⌜ r ≡ parts.scalarBy (described abi) returning variadic left s ⌝ }
 {
     if returning {
-        return spend::scalar_return(abis::scalars(abi), abis::return_pointer(abi), left, s);
+        return scalars::scalar_return(abis::scalars(abi), abis::return_pointer(abi), left, s);
     }
     if always_memory(variadic) {
         return spends_nothing(Way::Direct, Source::Empty, 0);
     }
-    spend::scalar_argument(
+    scalars::scalar_argument(
         abis::banks(abi),
         abis::scalars(abi),
         left_for(variadic, left),

@@ -13,6 +13,7 @@ use Rattle.find.specs.Find.{foundIf, floatsAt, allSame, isHomogeneous, homogene
 use Rattle.eightbytes.specs.Class as class
 use Rattle.eightbytes.specs.Eightbytes as eight
 use Rattle.spend.specs.Spending as rules
+use Rattle.scalars.specs.Spending as lone
 use Rattle.classify.specs.Pass.{matches}
 use Rattle.classify.specs.Classify as rust
 use Rattle.classify.specs.Spending as spending
@@ -20,5 +21,5 @@ use Rattle.classify.specs.Answers as answers
 use Rattle.ledger.specs.Twelve.{twelve, answerTo, expected}
 
 pub twelve-calls : map answerTo twelve ≡ map expected twelve
-unfolding scalarRefusal pieceRefusal piecesRefusal listRefusal shapeRefusal allOf isAllOf piecesOf upTo cut floatsIn wordsOf putAt written abis.descriptions described foundIf floatsAt allSame isHomogeneous homogeneous slotOf fitsOne floatPair x87Stack loneFloat class.code class.same class.merge eight.cover eight.mark eight.fits eight.marked eight.spoiled eight.mend eight.settled eight.classified eight.slotsFrom eight.slotsFound eight.eightbytes rules.wantOf rules.skipOf rules.integerArgument rules.inRegisters rules.scalarArgument rules.whenShort rules.inSlots rules.travelOf matches rust.afterScalar rust.scalar rust.shortOf rust.inRegisters rust.travel rust.apply rust.returns rust.argument spending.aggregate spending.returnChoice spending.argumentChoice answers.callRefusal answers.argRefusal answers.refusalOf answers.inRoom answers.answerTo answers.writtenTo answers.returnsAnswer answers.returnsWritten answers.argumentAnswer answers.argumentWritten
+unfolding scalarRefusal pieceRefusal piecesRefusal listRefusal shapeRefusal allOf isAllOf piecesOf upTo cut floatsIn wordsOf putAt written abis.descriptions described foundIf floatsAt allSame isHomogeneous homogeneous slotOf fitsOne floatPair x87Stack loneFloat class.code class.same class.merge eight.cover eight.mark eight.fits eight.marked eight.spoiled eight.mend eight.settled eight.classified eight.slotsFrom eight.slotsFound eight.eightbytes rules.wantOf lone.skipOf lone.integerArgument lone.inRegisters lone.scalarArgument rules.whenShort rules.inSlots rules.travelOf matches rust.afterScalar rust.scalar rust.shortOf rust.inRegisters rust.travel rust.apply rust.returns rust.argument spending.aggregate spending.returnChoice spending.argumentChoice answers.callRefusal answers.argRefusal answers.refusalOf answers.inRoom answers.answerTo answers.writtenTo answers.returnsAnswer answers.returnsWritten answers.argumentAnswer answers.argumentWritten
 twelve-calls = refl

@@ -3,22 +3,38 @@ use mathlib.Core.Path.{sym, _∙_}
 use contract.Lifetimes.{Lfts}
 use Rattle.shape.proofs.OneAnswer.{OneAnswer}
 use Rattle.spend.proofs.way_number.Reads as way-number
-use Rattle.spend.proofs.scalar_argument.Reads as scalar-argument
-use Rattle.spend.proofs.scalar_return.Reads as scalar-return
 use Rattle.spend.proofs.travel.Reads as travel
+use Rattle.spend.proofs.by_pointer.Reads as by-pointer
 use Rattle.spend.proofs.registers.Reads as registers
+use Rattle.spend.proofs.by_address.Reads as by-address
+use Rattle.spend.proofs.integers.Reads as integers
+use Rattle.spend.proofs.pieces.Reads as pieces
+use Rattle.spend.proofs.cut_slots.Reads as cut-slots
+use Rattle.spend.proofs.one_slot.Reads as one-slot
 
 way-number-decides : (κs : Lfts 0) → OneAnswer (way-number.Post κs)
 way-number-decides κs a r q s t p p′ = p ∙ sym p′
 
-scalar-argument-decides : (κs : Lfts 0) → OneAnswer (scalar-argument.Post κs)
-scalar-argument-decides κs a r q s t p p′ = p ∙ sym p′
-
-scalar-return-decides : (κs : Lfts 0) → OneAnswer (scalar-return.Post κs)
-scalar-return-decides κs a r q s t p p′ = p ∙ sym p′
-
 travel-decides : (κs : Lfts 0) → OneAnswer (travel.Post κs)
 travel-decides κs a r q s t p p′ = p ∙ sym p′
 
+by-pointer-decides : (κs : Lfts 0) → OneAnswer (by-pointer.Post κs)
+by-pointer-decides κs a r q s t p p′ = p ∙ sym p′
+
 registers-decides : (κs : Lfts 0) → OneAnswer (registers.Post κs)
 registers-decides κs a r q s t p p′ = p ∙ sym p′
+
+by-address-decides : (κs : Lfts 0) → OneAnswer (by-address.Post κs)
+by-address-decides κs a r q s t p p′ = p ∙ sym p′
+
+integers-decides : (κs : Lfts 0) → OneAnswer (integers.Post κs)
+integers-decides κs a r q s t p p′ = p ∙ sym p′
+
+pieces-decides : (κs : Lfts 0) → OneAnswer (pieces.Post κs)
+pieces-decides κs a r q s t p p′ = p ∙ sym p′
+
+cut-slots-decides : (κs : Lfts 0) → OneAnswer (cut-slots.Post κs)
+cut-slots-decides κs a r q s t p p′ = p ∙ sym p′
+
+one-slot-decides : (κs : Lfts 0) → OneAnswer (one-slot.Post κs)
+one-slot-decides κs a r q s t p p′ = p ∙ sym p′

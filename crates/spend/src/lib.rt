@@ -1,19 +1,15 @@
-// What one value spends of the registers that a call has left, and how it travels: a scalar argument, a scalar that comes back, and an
-// aggregate that a rule matched. Passed over and given are counted here; the rules are those of docs/REFERENCE.md, 9.2 to 9.4.
+// What one value spends of the registers that a call has left, and how it travels: the types of a decision, what decisions are made of, and an
+// aggregate that a rule matched. Passed over and given are counted here; the rules are those of docs/REFERENCE.md, 9.3. A scalar's rules, 9.2
+// and 9.4, are in the crate scalars, which makes its decisions with the functions here.
 use describe::Banks;
 use describe::ReturnPointer;
 use describe::Rule;
-use describe::Scalars;
 use describe::Short;
 use describe::Travel;
-use shape::Scalar;
 ghost use mathlib.Core.Path.{_≡_};
-ghost use mathlib.Core.Bool.{false};
 ghost use Prim.Native.Nat.{_-_, min};
-ghost use Rattle.shape.specs.Numbers.{integer};
-ghost use Rattle.describe.specs.Questions.{isByReference};
 ghost use Rattle.spend.specs.Ways.{wayNumber, spends, plain, piecesOf, cutSlots, oneSlot};
-ghost use Rattle.spend.specs.Spending.{wantOf, scalarArgument, integerArgument, skipOf, scalarReturn, byPointer, travelOf, byReference, inMemoryAndSpend, inSlots, whenShort, integerCost, floatCost, drainOf};
+ghost use Rattle.spend.specs.Spending.{wantOf, byPointer, travelOf, byReference, inMemoryAndSpend, inSlots, whenShort, integerCost, floatCost, drainOf};
 
 // What a call has left: registers in each bank, and whether floats go in integer registers alone.
 pub struct Left {
@@ -83,116 +79,6 @@ pub fn way_number(way: Way) -> u64
     }
 }
 
-// A scalar argument: the first of the ten lines of REFERENCE 9.2 that applies. The kind is asked once: an integer has the lines 3, 5 and 8 to
-// 10, a float the lines 2 and 4 to 7.
-pub fn scalar_argument(banks: Banks, scalars: Scalars, left: Left, s: Scalar) -> Decision
-    ensures { λ r. ⌜ r ≡ scalarArgument banks scalars left s ⌝ }
-{
-    // 1: wide goes by reference, and the size isn't that of a register
-    if describe::scalar_is_by_reference(scalars, s.size) {
-        return by_address(left.integer);
-    }
-    if s.kind != shape::INTEGER {
-        return float_argument(banks, scalars, left, s);
-    }
-    let want = registers(s.size, banks.integer_width);
-    // 3: wide integers in memory
-    if scalars.wide_integer_in_memory & (want > 1) {
-        return direct(left.integer, 0);
-    }
-    // 5: a shared bank
-    if banks.shared {
-        return taking(1, left.integer);
-    }
-    integer_argument(banks.integer, scalars, left.integer, want)
-}
-
-// A float that doesn't go by reference: the lines 2 and 4 to 7.
-fn float_argument(banks: Banks, scalars: Scalars, left: Left, s: Scalar) -> Decision
-    requires { ⌜ (isByReference scalars (s .size) ≡ false) × (s .kind ≡ integer → ⊥) ⌝ }
-    ensures { λ r. ⌜ r ≡ scalarArgument banks scalars left s ⌝ }
-{
-    // 2: the description's memory format
-    if s.kind == scalars.in_memory {
-        return direct(0, 0);
-    }
-    // 4: integers-only
-    if left.integers_only {
-        let given = shape::least(registers(s.size, banks.integer_width), left.integer);
-        return pieces(cut_slots(s.size, banks.integer_width), given, 0);
-    }
-    // 5: a shared bank
-    if banks.shared {
-        return taking(1, left.integer);
-    }
-    // 6: no wider than the float width
-    if s.size <= banks.float_width {
-        return floats(shape::least(1, left.float));
-    }
-    // 7: a wider float
-    taking(registers(s.size, banks.integer_width), left.integer)
-}
-
-// The lines 8 to 10: an integer that wants so many registers.
-fn integer_argument(start: u64, scalars: Scalars, left: u64, want: u64) -> Decision
-    ensures { λ r. ⌜ r ≡ integerArgument start scalars left want ⌝ }
-{
-    // 8: all or nothing
-    if scalars.wide_integer_is_all_or_nothing {
-        if want <= left {
-            return direct(0, want);
-        }
-        return direct(0, 0);
-    }
-    // 9: wide, with an even start or a drain
-    if (want > 1) & (scalars.wide_integer_starts_even | scalars.wide_integer_drains) {
-        let skipped = skip(scalars.wide_integer_starts_even, minus(start, left), left);
-        if want <= minus(left, skipped) {
-            return direct(skipped, want);
-        }
-        if scalars.wide_integer_drains {
-            return direct(left, 0);
-        }
-        return direct(skipped, 0);
-    }
-    // 10: any other integer
-    taking(want, left)
-}
-
-// Passed over for an even start: one, where an odd number is used and one is left.
-fn skip(even: bool, used: u64, left: u64) -> u64
-    ensures { λ r. ⌜ r ≡ skipOf even used left ⌝ }
-{
-    if even & (used % 2 == 1) {
-        return shape::least(1, left);
-    }
-    0
-}
-
-// A scalar that comes back (REFERENCE 9.4).
-pub fn scalar_return(scalars: Scalars, pointer: ReturnPointer, left: Left, s: Scalar) -> Decision
-    ensures { λ r. ⌜ r ≡ scalarReturn scalars pointer left s ⌝ }
-{
-    if !describe::scalar_returns_by_reference(scalars, s.size) {
-        return direct(0, 0);
-    }
-    if (s.kind == shape::INTEGER) & (scalars.wide_integer_returns_in != shape::INTEGER) {
-        return pieces(one_slot(scalars.wide_integer_returns_in, 0, 1), 0, 0);
-    }
-    by_pointer(pointer, left.integer)
-}
-
-// What comes back through an address: it takes an argument register unless it has one of its own.
-fn by_pointer(pointer: ReturnPointer, left: u64) -> Decision
-    ensures { λ r. ⌜ r ≡ byPointer pointer left ⌝ }
-{
-    match pointer {
-        ReturnPointer::Dedicated => integers(Way::Reference, 0, 0),
-        ReturnPointer::FirstArgument => by_address(left),
-        ReturnPointer::FirstArgumentPopped => by_address(left),
-    }
-}
-
 // An aggregate of this size under a rule whose test found these slots (REFERENCE 9.3).
 pub fn travel(
     banks: Banks,
@@ -242,6 +128,17 @@ fn by_reference(pointer: ReturnPointer, returning: bool, left: u64) -> Decision
         return by_pointer(pointer, left);
     }
     by_address(left)
+}
+
+// What comes back through an address: it takes an argument register unless it has one of its own.
+pub fn by_pointer(pointer: ReturnPointer, left: u64) -> Decision
+    ensures { λ r. ⌜ r ≡ byPointer pointer left ⌝ }
+{
+    match pointer {
+        ReturnPointer::Dedicated => integers(Way::Reference, 0, 0),
+        ReturnPointer::FirstArgument => by_address(left),
+        ReturnPointer::FirstArgumentPopped => by_address(left),
+    }
 }
 
 fn in_memory_and_spend(returning: bool, left: u64, want: u64) -> Decision
@@ -314,28 +211,15 @@ pub fn registers(size: u64, width: u64) -> u64
     shape::most(slots::parts(size, width), 1)
 }
 
-// Direct, and given takes `want` of the integer registers that are left.
-fn taking(want: u64, left: u64) -> Decision
-    ensures { λ r. ⌜ r ≡ plain Way.Direct (spends 0 (min want left) 0 0) ⌝ }
-{
-    direct(0, shape::least(want, left))
-}
-
-fn direct(passed: u64, given: u64) -> Decision
-    ensures { λ r. ⌜ r ≡ plain Way.Direct (spends passed given 0 0) ⌝ }
-{
-    integers(Way::Direct, passed, given)
-}
-
 // Reference, and given takes 1 of the integer registers that are left.
-fn by_address(left: u64) -> Decision
+pub fn by_address(left: u64) -> Decision
     ensures { λ r. ⌜ r ≡ plain Way.Reference (spends 0 (min 1 left) 0 0) ⌝ }
 {
     integers(Way::Reference, 0, shape::least(1, left))
 }
 
 // A decision without slots that spends integer registers alone.
-fn integers(way: Way, passed: u64, given: u64) -> Decision
+pub fn integers(way: Way, passed: u64, given: u64) -> Decision
     ensures { λ r. ⌜ r ≡ plain way (spends passed given 0 0) ⌝ }
 {
     Decision {
@@ -347,22 +231,6 @@ fn integers(way: Way, passed: u64, given: u64) -> Decision
             integers_given: given,
             floats_passed: 0,
             floats_given: 0,
-        },
-    }
-}
-
-fn floats(given: u64) -> Decision
-    ensures { λ r. ⌜ r ≡ plain Way.Direct (spends 0 0 0 given) ⌝ }
-{
-    Decision {
-        way: Way::Direct,
-        slots: Source::Empty,
-        count: 0,
-        spent: Spent {
-            integers_passed: 0,
-            integers_given: 0,
-            floats_passed: 0,
-            floats_given: given,
         },
     }
 }
@@ -384,7 +252,7 @@ fn drained(integers: u64, floats: u64) -> Decision
 }
 
 // Slots that are given so many registers of each bank.
-fn pieces(found: Slots, integer: u64, float: u64) -> Decision
+pub fn pieces(found: Slots, integer: u64, float: u64) -> Decision
     ensures { λ r. ⌜ r ≡ piecesOf found (spends 0 integer 0 float) ⌝ }
 {
     let slots = found.source;
@@ -402,7 +270,7 @@ fn pieces(found: Slots, integer: u64, float: u64) -> Decision
 }
 
 // A size cut into integers of a width.
-fn cut_slots(size: u64, width: u64) -> Slots
+pub fn cut_slots(size: u64, width: u64) -> Slots
     ensures { λ r. ⌜ r ≡ cutSlots size width ⌝ }
 {
     Slots {
@@ -413,7 +281,7 @@ fn cut_slots(size: u64, width: u64) -> Slots
 }
 
 // One slot at the start: its kind, its size, and 1 where it is a float.
-fn one_slot(kind: u64, size: u64, floats: u64) -> Slots
+pub fn one_slot(kind: u64, size: u64, floats: u64) -> Slots
     ensures { λ r. ⌜ r ≡ oneSlot kind size floats ⌝ }
 {
     Slots {

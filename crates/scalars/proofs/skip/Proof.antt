@@ -1,8 +1,8 @@
 -- `skip` passes over one register where an even start needs it and one is left. Assumes nothing.
-use Rattle.spend.proofs.Spending.{skips, skips-none}
+use Rattle.scalars.proofs.Spending.{skips, skips-none}
 use borrow.Author.Needs.{needs}
-use Rattle.spend.proofs.skip.Statement.{statement}
-use Rattle.spend.proofs.skip.Tie as tie
+use Rattle.scalars.proofs.skip.Statement.{statement}
+use Rattle.scalars.proofs.skip.Tie as tie
 
 least-requires : tie.Need-least-requires
 least-requires c κs = search needs

@@ -1,8 +1,8 @@
 -- `scalar_argument` answers the first of the ten lines that applies: each way out is one law of the tests that led there. Assumes nothing.
-use Rattle.spend.proofs.Spending.{line-integer, line-reference, line-shared, line-wide, not-by-reference}
+use Rattle.scalars.proofs.Spending.{line-integer, line-reference, line-shared, line-wide, not-by-reference}
 use borrow.Author.Needs.{needs}
-use Rattle.spend.proofs.scalar_argument.Statement.{statement}
-use Rattle.spend.proofs.scalar_argument.Tie as tie
+use Rattle.scalars.proofs.scalar_argument.Statement.{statement}
+use Rattle.scalars.proofs.scalar_argument.Tie as tie
 
 scalar-is-by-reference-requires : tie.Need-scalar-is-by-reference-requires
 scalar-is-by-reference-requires c κs = search needs

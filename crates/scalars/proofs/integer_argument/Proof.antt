@@ -1,8 +1,8 @@
 -- `integer_argument` answers the first of the lines for an integer that applies. Assumes nothing.
-use Rattle.spend.proofs.Spending.{any-integer, pair-drains, pair-fits, pair-short, whole-fits, whole-short}
+use Rattle.scalars.proofs.Spending.{any-integer, pair-drains, pair-fits, pair-short, whole-fits, whole-short}
 use borrow.Author.Needs.{needs}
-use Rattle.spend.proofs.integer_argument.Statement.{statement}
-use Rattle.spend.proofs.integer_argument.Tie as tie
+use Rattle.scalars.proofs.integer_argument.Statement.{statement}
+use Rattle.scalars.proofs.integer_argument.Tie as tie
 
 direct-requires : tie.Need-direct-requires
 direct-requires c κs = search needs

@@ -1,8 +1,8 @@
 -- `taking` gives what is wanted or what is left. Assumes nothing.
 use Rattle.spend.proofs.Spending.{given}
 use borrow.Author.Needs.{needs}
-use Rattle.spend.proofs.taking.Statement.{statement}
-use Rattle.spend.proofs.taking.Tie as tie
+use Rattle.scalars.proofs.taking.Statement.{statement}
+use Rattle.scalars.proofs.taking.Tie as tie
 
 least-requires : tie.Need-least-requires
 least-requires c κs = search needs

@@ -1,8 +1,8 @@
 -- `float_argument` answers the first of the lines for a float that applies. Assumes nothing.
-use Rattle.spend.proofs.Spending.{float-cut, float-memory, float-narrow, float-shared, float-wider}
+use Rattle.scalars.proofs.Spending.{float-cut, float-memory, float-narrow, float-shared, float-wider}
 use borrow.Author.Needs.{needs}
-use Rattle.spend.proofs.float_argument.Statement.{statement}
-use Rattle.spend.proofs.float_argument.Tie as tie
+use Rattle.scalars.proofs.float_argument.Statement.{statement}
+use Rattle.scalars.proofs.float_argument.Tie as tie
 
 direct-requires : tie.Need-direct-requires
 direct-requires c κs = search needs

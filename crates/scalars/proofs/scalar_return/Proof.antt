@@ -1,8 +1,8 @@
 -- `scalar_return` answers the line that applies to a scalar that comes back. Assumes nothing.
-use Rattle.spend.proofs.Spending.{return-direct, return-float, return-pointer}
+use Rattle.scalars.proofs.Spending.{return-direct, return-float, return-pointer}
 use borrow.Author.Needs.{needs}
-use Rattle.spend.proofs.scalar_return.Statement.{statement}
-use Rattle.spend.proofs.scalar_return.Tie as tie
+use Rattle.scalars.proofs.scalar_return.Statement.{statement}
+use Rattle.scalars.proofs.scalar_return.Tie as tie
 
 scalar-returns-by-reference-requires : tie.Need-scalar-returns-by-reference-requires
 scalar-returns-by-reference-requires c κs = search needs
