@@ -1,11 +1,14 @@
 -- The argument that a question stands for, one law for each form, and an answer in numbers. Assumes nothing.
 use mathlib.Core.Path.{_≡_}
 use mathlib.Core.Bool.{not}
+use mathlib.Core.List.{List}
 use lib.Dec.{eqb}
 use borrow.Author.Tests.{eq-eqb, ne-eqb}
 use Prim.Native.Nat.{ℕ}
 use Rattle.spend.specs.Ways.{wayNumber}
+use Rattle.classify.specs.declared.Arg as args
 use Rattle.classify.specs.declared.Arg.the-variants.{Void, Scalar, Aggregate}
+use Rattle.classify.specs.declared.Call.{Call}
 use Rattle.classify.specs.declared.Answer.{Answer}
 use Rattle.bridge.specs.declared.What.{What}
 use Rattle.bridge.specs.declared.Answered.{Answered}
@@ -47,3 +50,14 @@ pub in-numbers : (a : Answer) (n : ℕ) → n ≡ wayNumber (a .outcome .way)
     })
     (lent a)
 in-numbers a n h = rw h
+
+-- An operation on a call and what is asked, from what the method behind it answers and writes.
+module _ (k : Call) (w : What) (v : args.Arg) (ev : v ≡ argOf w) (words out : List ℕ) where
+  pub told-of : (f : Call → args.Arg → List ℕ → List ℕ → Answer) (a : Answer) → a ≡ f k v words out → (r : Answered) → r ≡ lent a → r ≡ lent (f k (argOf w) words out)
+  told-of f a ea r er = rw (er, ea, ev)
+
+  pub written-of : (f : Call → args.Arg → List ℕ → List ℕ → List ℕ) (after : List ℕ) → after ≡ f k v words out → after ≡ f k (argOf w) words out
+  written-of f after e = rw (e, ev)
+
+pub marked-of : (k : Call) (f : Call → Answer) (a : Answer) → a ≡ f k → (r : Answered) → r ≡ lent a → r ≡ lent (f k)
+marked-of k f a ea r er = rw (er, ea)

@@ -1,5 +1,7 @@
 -- `returns_of` answers what the call's method answers, in numbers, and leaves what that leaves in the buffer. Assumes nothing.
 use borrow.Author.Needs.{needs}
+use Rattle.classify.specs.Answers.{returnsAnswer, returnsWritten}
+use Rattle.bridge.proofs.Laws.{told-of, written-of}
 use Rattle.bridge.proofs.returns_of.Statement.{statement}
 use Rattle.bridge.proofs.returns_of.Tie as tie
 
@@ -16,7 +18,12 @@ same-length : tie.Need-same-length
 same-length c = search needs
 
 returns : tie.Need-returns
-returns c = (cc, cc)
+returns c =
+    let operation = c .before .before .before in
+    let arg = operation .before .before .arg-of .ensures in (
+      told-of _ _ _ arg _ _ returnsAnswer _ (operation .returns .ensures .0) _ (c .told .ensures),
+      written-of _ _ _ arg _ _ returnsWritten _ (operation .returns .ensures .1),
+    )
 
 pub returns-of-spec : {M : Type 1} → statement M
 returns-of-spec = tie.close (tie.spec arg-of-requires returns-requires told-requires same-length returns)

@@ -1,5 +1,7 @@
 -- `variadic_argument_of` answers what the call's method answers, in numbers, and leaves what that leaves in the buffer. Assumes nothing.
 use borrow.Author.Needs.{needs}
+use Rattle.classify.specs.Answers.{dotsAnswer, dotsWritten}
+use Rattle.bridge.proofs.Laws.{told-of, written-of}
 use Rattle.bridge.proofs.variadic_argument_of.Statement.{statement}
 use Rattle.bridge.proofs.variadic_argument_of.Tie as tie
 
@@ -16,7 +18,12 @@ same-length : tie.Need-same-length
 same-length c = search needs
 
 returns : tie.Need-returns
-returns c = (cc, cc)
+returns c =
+    let operation = c .before .before .before in
+    let arg = operation .before .before .arg-of .ensures in (
+      told-of _ _ _ arg _ _ dotsAnswer _ (operation .variadic-argument .ensures .0) _ (c .told .ensures),
+      written-of _ _ _ arg _ _ dotsWritten _ (operation .variadic-argument .ensures .1),
+    )
 
 pub variadic-argument-of-spec : {M : Type 1} → statement M
 variadic-argument-of-spec = tie.close (tie.spec arg-of-requires variadic-argument-requires told-requires same-length returns)

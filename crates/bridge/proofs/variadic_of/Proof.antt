@@ -1,5 +1,7 @@
 -- `variadic_of` answers what the call's method answers, in numbers. Assumes nothing.
 use borrow.Author.Needs.{needs}
+use Rattle.classify.specs.Answers.{variadicAnswer}
+use Rattle.bridge.proofs.Laws.{marked-of}
 use Rattle.bridge.proofs.variadic_of.Statement.{statement}
 use Rattle.bridge.proofs.variadic_of.Tie as tie
 
@@ -10,7 +12,7 @@ told-requires : tie.Need-told-requires
 told-requires c κs = search needs
 
 returns : tie.Need-returns
-returns c = cc
+returns c = marked-of _ variadicAnswer _ (c .before .variadic .ensures) _ (c .told .ensures)
 
 pub variadic-of-spec : {M : Type 1} → statement M
 variadic-of-spec = tie.close (tie.spec variadic-requires told-requires returns)
