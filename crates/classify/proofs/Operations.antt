@@ -15,8 +15,8 @@ use Rattle.shape.specs.Questions.{isFloat}
 use Rattle.shape.specs.Words.{piecesOf}
 use Rattle.shape.specs.Check.{orElse}
 use Rattle.shape.proofs.Accepted.{refuse-none, else-none}
-use Rattle.slots.specs.Words.{slotSize, wordsOf, written}
-use Rattle.slots.proofs.Words.{put-none, written-short}
+use Rattle.slots.specs.Words.{slotSize, written}
+use Rattle.slots.proofs.Words.{written-short}
 use Rattle.describe.specs.declared.Banks.{Banks}
 use Rattle.describe.specs.declared.Scalars.{Scalars}
 use Rattle.describe.specs.declared.ReturnPointer.{ReturnPointer}
@@ -43,7 +43,7 @@ use Rattle.classify.specs.Classify.{Passed, leaves}
 use Rattle.classify.specs.Spending as rules
 use Rattle.classify.specs.Answers.{descriptions, leftOf, isBadCall, callRefusal, argRefusal, refusalOf, refused, done, orAnswer, inRoom, answerTo, unlessRefused, writtenTo, voidAnswer, returnsAnswer, returnsWritten, argumentAnswer, argumentWritten, dotsAnswer, dotsWritten}
 use Rattle.classify.specs.Parts as parts
-use Rattle.classify.proofs.Steps.{or-refused}
+use Rattle.classify.proofs.Steps.{or-refused, nothing-written}
 use Rattle.classify.proofs.Agree.{Agrees, slotsFor, argument-agrees, returns-agrees, dots-agrees}
 
 -- ---- what decides a value
@@ -360,16 +360,12 @@ module _ (c : Call) (ws out : List ℕ) (returning : Bool) (variadic : Variadic)
   unfolding voidAnswer parts.performed refusalOf argRefusal
   void-performed = rw (or-accepted, void-finished)
 
-  none-written : (o : List ℕ) → written [] o ≡ o
-  unfolding written wordsOf
-  none-written o = put-none o 0 (omega arith)
-
   void-kept : out ≡ parts.performedIn c (parts.decideBy (described (c .abi)) returning variadic (leftOf c) args.the-variants.Void (piecesOf ws)) args.the-variants.Void ws out
   unfolding parts.performedIn parts.finishedIn parts.slotsIn refusalOf argRefusal
   void-kept = rw or-accepted (same (callRefusal c))
     where
       same : (n : ℕ) → out ≡ unlessRefused n (cond (ltb (length out / slotSize) 0) out (written [] out)) out
-      same zero = rw (le-ltb (length out / slotSize) 0 (omega arith)) (sym (none-written out))
+      same zero = rw (le-ltb (length out / slotSize) 0 (omega arith)) (nothing-written out)
       same (suc n) = refl
 
   abbrev Void-is : (r : Answer) → Type 0

@@ -191,10 +191,14 @@ module _ (D : Description) (returning : Bool) (r : Rules) where
 
 -- ---- the writing and the answer
 
+pub nothing-written : (out : List ℕ) → out ≡ written [] out
+unfolding written wordsOf
+nothing-written out = sym (put-none out 0 (omega arith))
+
 module _ (source : sources.Source) (cs : List ℕ) (ps : List Piece) (out : List ℕ) where
   pub write-none : source ≡ sources.the-variants.Empty → out ≡ written (parts.slotsIn source cs ps) out
-  unfolding parts.slotsIn written wordsOf
-  write-none e = rw e (sym (put-none out 0 (omega arith)))
+  unfolding parts.slotsIn
+  write-none e = rw e (nothing-written out)
 
   module _ (out′ : List ℕ) where
     pub write-each : source ≡ sources.the-variants.EachPiece → out′ ≡ written (eachPiece ps) out → out′ ≡ written (parts.slotsIn source cs ps) out
@@ -216,16 +220,16 @@ module _ (source : sources.Source) (cs : List ℕ) (ps : List Piece) (out : List
 -- and of a scalar
 module _ (source : sources.Source) (out : List ℕ) where
   pub scalar-none : source ≡ sources.the-variants.Empty → out ≡ written (parts.slotsInScalar source) out
-  unfolding parts.slotsInScalar written wordsOf
-  scalar-none e = rw e (sym (put-none out 0 (omega arith)))
+  unfolding parts.slotsInScalar
+  scalar-none e = rw e (nothing-written out)
 
   pub scalar-each : source ≡ sources.the-variants.EachPiece → out ≡ written (parts.slotsInScalar source) out
-  unfolding parts.slotsInScalar written wordsOf
-  scalar-each e = rw e (sym (put-none out 0 (omega arith)))
+  unfolding parts.slotsInScalar
+  scalar-each e = rw e (nothing-written out)
 
   pub scalar-classes : (size : ℕ) → source ≡ sources.the-variants.Classes size → out ≡ written (parts.slotsInScalar source) out
-  unfolding parts.slotsInScalar written wordsOf
-  scalar-classes size e = rw e (sym (put-none out 0 (omega arith)))
+  unfolding parts.slotsInScalar
+  scalar-classes size e = rw e (nothing-written out)
 
   module _ (out′ : List ℕ) where
     pub scalar-cut : (size width : ℕ) → source ≡ sources.the-variants.Cut size width → out′ ≡ written (cut size width) out → out′ ≡ written (parts.slotsInScalar source) out
