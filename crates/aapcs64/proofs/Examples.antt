@@ -15,7 +15,8 @@ use Rattle.abis.specs.Abis.{described, descriptions}
 use Rattle.spend.specs.declared.Left.{Left}
 use Rattle.spend.specs.Spending.{wantOf}
 use Rattle.classify.specs.declared.Arg.the-variants as args
-use Rattle.classify.specs.Pass.{direct, pieces, reference, memory, matches}
+use Rattle.search.specs.Matches.{matches}
+use Rattle.classify.specs.Pass.{direct, pieces, reference, memory}
 use Rattle.classify.specs.Classify.{Passed, passed, leaves, shortOf, inRegisters, travel, apply, afterScalar, argument, returns}
 use Rattle.classify.specs.Classify as classify
 use Rattle.aapcs64.specs.Aapcs64.{Fundamental, integral, floating, fundamental, v, x, part, registers, stack, copy, copyOnStack, state, Passing, passing, allOf, insert, addressable, count, isHfaOf, isHfa, memberParts, wordParts, stageC, parameter, comes, throughX8, Returning, returning, result}

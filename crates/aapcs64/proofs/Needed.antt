@@ -19,7 +19,8 @@ use Rattle.slots.specs.Cut.{upTo, cut}
 use Rattle.find.specs.Find.{foundIf, floatsAt, allSame, isHomogeneous, homogeneous}
 use Rattle.find.proofs.Each.{and-true}
 use Rattle.abis.specs.Abis.{described, descriptions}
-use Rattle.classify.specs.Pass.{ignore, pieces, matches}
+use Rattle.search.specs.Matches.{matches}
+use Rattle.classify.specs.Pass.{ignore, pieces}
 use Rattle.classify.specs.Classify.{Passed, passed, leaves, shortOf, inRegisters, travel, apply, argument}
 use Rattle.aapcs64.specs.Aapcs64.{Register, v, x, part, Place, registers, stack, copy, copyOnStack, state, Passing, passing, allOf, insert, addressable, count, isHfaOf, isHfa, memberParts, wordParts, stageC, parameter}
 use Rattle.aapcs64.specs.Told.{mostAlign, partsOf, told, toldPassed}

@@ -17,7 +17,8 @@ use Rattle.slots.specs.Cut.{cut}
 use Rattle.find.specs.Find.{foundIf, homogeneous}
 use Rattle.abis.specs.Abis.{described, descriptions}
 use Rattle.classify.specs.declared.Arg.the-variants.{Aggregate}
-use Rattle.classify.specs.Pass.{pieces, reference, memory, matches}
+use Rattle.search.specs.Matches.{matches}
+use Rattle.classify.specs.Pass.{pieces, reference, memory}
 use Rattle.classify.specs.Classify.{Passed, passed, leaves, drainedTo, shortOf, inRegisters, travel, orElse, apply, argument, returns}
 
 -- slots of which some are floats: in registers, or in memory with each short bank drained

@@ -40,13 +40,15 @@ use Rattle.spend.specs.declared.Step as steps
 use Rattle.spend.specs.Ways as made
 use Rattle.spend.specs.Spending as rules
 use Rattle.scalars.specs.Spending as lone
+use Rattle.search.specs.Matches.{matches, sourceOf}
+use Rattle.writing.specs.Slots.{slotsIn}
 use Rattle.classify.specs.declared.Arg as args
-use Rattle.classify.specs.Pass.{Pass, ignore, direct, pieces, reference, memory, wayOf, slotsOf, matches}
+use Rattle.classify.specs.Pass.{Pass, ignore, direct, pieces, reference, memory, wayOf, slotsOf}
 use Rattle.classify.specs.Classify as rust
 use Rattle.classify.specs.Classify.{Passed, passed, leaves, less, lessBoth, returns, argument, variadicArgument}
 use Rattle.classify.specs.Spending as spending
 use Rattle.classify.specs.Spending.{Chosen, chosen, returnChoice, argumentChoice, dotsChoice}
-use Rattle.classify.specs.Parts.{after, argClasses, slotsIn}
+use Rattle.classify.specs.Parts.{after, argClasses}
 use Rattle.classify.proofs.Sources.{source-slots, floats-cut}
 
 -- what a decision of the rules comes to, against what the Rust answers
@@ -259,7 +261,7 @@ module _ (arg : args.Arg) (ps : List Piece) (left : Left) where
       in-slots shared returning short ef = rw (en, ef) (where-fits short returning _ _ _ _ refl refl)
 
     travels : (D : Description) (then : Travel) (short : Short) (shape : Shape) (returning : Bool) (ss : List Slot)
-        → ss ≡ slotsIn (spending.sourceOf when (shape .size)) (argClasses arg when ps) ps
+        → ss ≡ slotsIn (sourceOf when (shape .size)) (argClasses arg when ps) ps
         → Chooses (rust.orElse (rust.travelBy then D left short ss shape returning) rest)
         (spending.orNext
         (rules.travelBy then (D .banks) (D .«return_pointer») returning left short (shape .size) (spending.slotsOf when (shape .size) ss)) when next)

@@ -42,9 +42,10 @@ use Rattle.find.proofs.Finds.{homogeneous-few, pair-few, x87-few, lone-one, mod
 use Rattle.eightbytes.proofs.Found.{at-most}
 use Rattle.spend.specs.declared.Left.{Left}
 use Rattle.spend.specs.Spending.{wantOf}
+use Rattle.search.specs.Matches.{matches}
 use Rattle.classify.specs.declared.Arg as args
 use Rattle.classify.specs.declared.Call.{Call}
-use Rattle.classify.specs.Pass.{pieces, slotsOf, matches}
+use Rattle.classify.specs.Pass.{pieces, slotsOf}
 use Rattle.classify.specs.Classify.{Passed, passed, leaves, lessBoth, isIntegersOnly, scalar, integerCostOf, floatCostOf, shortOf, inRegisters, travelBy, travel, orElse, tried, apply, returnedScalar, returns, argument, inMemoryAlways, variadicBy, variadicArgument}
 use Rattle.classify.specs.Answers as answers
 use Rattle.classify.specs.Answers.{leftOf, isBadCall, callRefusal, argRefusal, refusalOf}

@@ -25,7 +25,7 @@ use Rattle.spend.specs.declared.Step.{Step}
 use Rattle.spend.specs.declared.Step.the-variants.{Decided, TryNextRule}
 use Rattle.spend.specs.Ways as made
 use Rattle.spend.specs.Spending.{integerCost, floatCost, whenShort, inSlots, travelBy, travelOf}
-use Rattle.classify.specs.Pass.{matches}
+use Rattle.search.specs.Matches.{matches}
 
 pub decides-found : (B : Banks) (rule : Rule) (shape : Shape) (ps : List Piece) → Decides rule → matches B (rule .when) shape ps ≡ found []
 unfolding matches

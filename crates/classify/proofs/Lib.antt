@@ -3,7 +3,6 @@ pub mod Sources
 pub mod Agree
 pub mod Ends
 pub mod Walking
-pub mod Aligned
 pub mod Operations
 pub mod Eight
 mod Unique

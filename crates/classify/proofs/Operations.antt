@@ -33,6 +33,9 @@ use Rattle.spend.specs.declared.Decision.{Decision}
 use Rattle.spend.specs.Ways as made
 use Rattle.spend.specs.Spending.{wantOf, byPointer}
 use Rattle.scalars.specs.Spending.{skipOf, integerArgument, inRegisters, scalarArgument, scalarReturn}
+use Rattle.search.specs.Searched.{noSource, noClasses}
+use Rattle.writing.specs.Slots.{slotsIn, slotsInScalar}
+use Rattle.writing.proofs.Writing.{nothing-written}
 use Rattle.classify.specs.declared.Arg as args
 use Rattle.classify.specs.declared.Call.{Call}
 use Rattle.classify.specs.declared.Answer.{Answer}
@@ -43,7 +46,7 @@ use Rattle.classify.specs.Classify.{Passed, leaves}
 use Rattle.classify.specs.Spending as rules
 use Rattle.classify.specs.Answers.{descriptions, leftOf, isBadCall, callRefusal, argRefusal, refusalOf, refused, done, orAnswer, inRoom, answerTo, unlessRefused, writtenTo, voidAnswer, returnsAnswer, returnsWritten, argumentAnswer, argumentWritten, dotsAnswer, dotsWritten}
 use Rattle.classify.specs.Parts as parts
-use Rattle.classify.proofs.Steps.{or-refused, nothing-written}
+use Rattle.classify.proofs.Steps.{or-refused}
 use Rattle.classify.proofs.Agree.{Agrees, slotsFor, argument-agrees, returns-agrees, dots-agrees}
 
 -- ---- what decides a value
@@ -55,7 +58,7 @@ module _ (abi : ℕ) (returning : Bool) (variadic : Variadic) (left : Left) (s :
   scalar-back h S eS p ep er = rw (er, eS, ep, h)
 
   module _ (h : returning ≡ false) (m : Bool) (em : m ≡ parts.isAlwaysMemory variadic) where
-    pub scalar-memory : m ≡ true → r ≡ parts.spendsNothing ways.the-variants.Direct parts.noSource 0 → r ≡ parts.scalarBy (described abi) returning variadic left s
+    pub scalar-memory : m ≡ true → r ≡ parts.spendsNothing ways.the-variants.Direct noSource 0 → r ≡ parts.scalarBy (described abi) returning variadic left s
     unfolding parts.scalarBy
     scalar-memory z er = rw (er, h, ← em, z)
 
@@ -199,7 +202,7 @@ module _ (c : Call) (arg : args.Arg) (ws out : List ℕ) (n : ℕ) (en : n ≡ r
 -- the slots of a scalar stand in no pieces and no classes
 module _ (cs : List ℕ) (ps : List Piece) where
   record Alone (d : Decision) : Type 0 where
-    same : parts.slotsInScalar (d .slots) ≡ parts.slotsIn (d .slots) cs ps
+    same : slotsInScalar (d .slots) ≡ slotsIn (d .slots) cs ps
 
   either : (b : Bool) (x y : Decision) → Alone x → Alone y → Alone (cond b x y)
   either true x y p q = p
@@ -207,7 +210,7 @@ module _ (cs : List ℕ) (ps : List Piece) where
 
   -- no slots, a size cut, or one slot
   empty : (w : ways.Way) (spent : Spent) → Alone (made.plain w spent)
-  unfolding parts.slotsIn parts.slotsInScalar
+  unfolding slotsIn slotsInScalar
   empty w spent = record { same = refl }
 
   integer-alone : (start : ℕ) (S : Scalars) (I want : ℕ) → Alone (integerArgument start S I want)
@@ -226,7 +229,7 @@ module _ (cs : List ℕ) (ps : List Piece) where
       (either (isFloat (s .kind)) _ _ (empty _ _) (integer-alone (B .integer) S (left .integer) want)))
 
   argument-alone : (B : Banks) (S : Scalars) (left : Left) (s : Scalar) → Alone (scalarArgument B S left s)
-  unfolding scalarArgument parts.slotsIn parts.slotsInScalar
+  unfolding scalarArgument slotsIn slotsInScalar
   argument-alone B S left s =
       let want : ℕ = wantOf (s .size) (B .«integer_width») in
       either (isByReference S (s .size)) _ _ (empty _ _)
@@ -240,7 +243,7 @@ module _ (cs : List ℕ) (ps : List Piece) where
   pointer-alone Dedicated I = empty _ _
 
   return-alone : (S : Scalars) (p : ReturnPointer) (left : Left) (s : Scalar) → Alone (scalarReturn S p left s)
-  unfolding scalarReturn parts.slotsIn parts.slotsInScalar
+  unfolding scalarReturn slotsIn slotsInScalar
   return-alone S p left s =
       either (not (returnsByReference S (s .size))) _ _ (empty _ _)
       (either (eqb (s .kind) integer && not (eqb (S .«wide_integer_returns_in») integer)) _ _ (record { same = refl }) (pointer-alone p (left .integer)))
@@ -260,17 +263,17 @@ module _ (c : Call) (s : Scalar) (out : List ℕ) (n : ℕ) (en : n ≡ refusalO
     (returning : Bool) (variadic : Variadic) (left : Left) (el : left ≡ leftOf c) (d : Decision)
     (ed : d ≡ parts.scalarBy (described (c .abi)) returning variadic left s) (r : Answer) (out′ : List ℕ)
     (e : (r ≡ parts.finished c d out) × (out′ ≡ parts.finishedScalarIn d out)) where
-  in-parts : (r ≡ parts.finished c d out) × (out′ ≡ parts.finishedIn (parts.decided d parts.noClasses) [] out)
+  in-parts : (r ≡ parts.finished c d out) × (out′ ≡ parts.finishedIn (parts.decided d noClasses) [] out)
   in-parts =
-      (e .0, e .1 ∙ finished-alone parts.noClasses [] d out (rw ed (scalar-alone parts.noClasses [] (described (c .abi)) returning variadic left s)))
+      (e .0, e .1 ∙ finished-alone noClasses [] d out (rw ed (scalar-alone noClasses [] (described (c .abi)) returning variadic left s)))
 
   pub scalar-done : r ≡ parts.performed c (parts.decideBy (described (c .abi)) returning variadic (leftOf c) (parts.scalarArg s) []) (parts.scalarArg s) [] out
   unfolding piecesOf
-  scalar-done = perform-done c (parts.scalarArg s) [] out n en z returning variadic left el (parts.decided d parts.noClasses) (rw ed) r out′ in-parts
+  scalar-done = perform-done c (parts.scalarArg s) [] out n en z returning variadic left el (parts.decided d noClasses) (rw ed) r out′ in-parts
 
   pub scalar-written : out′ ≡ parts.performedIn c (parts.decideBy (described (c .abi)) returning variadic (leftOf c) (parts.scalarArg s) []) (parts.scalarArg s) [] out
   unfolding piecesOf
-  scalar-written = perform-written c (parts.scalarArg s) [] out n en z returning variadic left el (parts.decided d parts.noClasses) (rw ed) r out′ in-parts
+  scalar-written = perform-written c (parts.scalarArg s) [] out n en z returning variadic left el (parts.decided d noClasses) (rw ed) r out′ in-parts
 
 -- and what it comes to, by the rules
 module _ (c : Call) (arg : args.Arg) (ws out : List ℕ) (p : Passed) (k : rules.Chosen)
@@ -361,7 +364,7 @@ module _ (c : Call) (ws out : List ℕ) (returning : Bool) (variadic : Variadic)
   void-performed = rw (or-accepted, void-finished)
 
   void-kept : out ≡ parts.performedIn c (parts.decideBy (described (c .abi)) returning variadic (leftOf c) args.the-variants.Void (piecesOf ws)) args.the-variants.Void ws out
-  unfolding parts.performedIn parts.finishedIn parts.slotsIn refusalOf argRefusal
+  unfolding parts.performedIn parts.finishedIn slotsIn refusalOf argRefusal
   void-kept = rw or-accepted (same (callRefusal c))
     where
       same : (n : ℕ) → out ≡ unlessRefused n (cond (ltb (length out / slotSize) 0) out (written [] out)) out

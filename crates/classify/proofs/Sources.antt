@@ -15,9 +15,9 @@ use Rattle.describe.specs.declared.Test.the-variants.{Anything, Empty, SizeOneO
 use Rattle.find.specs.Find.{foundIf}
 use Rattle.find.proofs.Finds.{homogeneous-slots, pair-slots, x87-slots, lone-slots, mode-slots, complex-slots}
 use Rattle.eightbytes.proofs.Found.{answer}
-use Rattle.classify.specs.Pass.{matches}
-use Rattle.classify.specs.Spending.{sourceOf}
-use Rattle.classify.specs.Parts.{classesBy, slotsIn}
+use Rattle.search.specs.Matches.{matches, sourceOf}
+use Rattle.search.specs.Searched.{classesBy}
+use Rattle.writing.specs.Slots.{slotsIn}
 
 -- a test of the size alone finds no slot
 pub none-found : (b : Bool) (ss : List Slot) → foundIf b [] ≡ found ss → [] ≡ ss

@@ -1,46 +1,36 @@
 -- The laws of the parts of an operation: each way out of the code is one line of a definition. A law's premises are the tests and the callees'
 -- promises as the code has them. Assumes nothing.
 use Prim.Native.Nat.{ℕ, zero, suc, _-_, _/_, _≤_, _<_}
-use mathlib.Core.Path.{_≡_, refl, sym}
+use mathlib.Core.Path.{_≡_, refl}
 use mathlib.Core.List.{List, []}
 use mathlib.Core.Bool.{Bool, true, false, _&&_, _||_, not}
-use native.Mathlib.Omega.{arith}
 use borrow.Author.Tests.{lt-ltb, le-ltb, le-leb, lt-leb}
-use lib.Dec.{ltb, eqb, leb}
+use lib.Dec.{ltb}
 use lib.ListN.{length}
 use Rattle.shape.specs.declared.Scalar.{Scalar}
 use Rattle.shape.specs.declared.Shape.{Shape}
 use Rattle.shape.specs.declared.Piece.{Piece}
 use Rattle.shape.specs.Numbers.{accepted, bad-abi, bad-call, no-room}
+use Rattle.shape.specs.Words.{piecesOf}
 use Rattle.shape.specs.Check.{scalarRefusal, shapeRefusal}
 use Rattle.shape.proofs.Check.{else-first}
-use Rattle.slots.specs.declared.Found.{Found}
-use Rattle.slots.specs.declared.Found as founds
-use Rattle.slots.specs.Words.{slot, slotSize, slotWords, putAt, wordsOf, written}
-use Rattle.slots.specs.Cut.{cut}
-use Rattle.slots.specs.Search.{foundOf, floatsIn}
-use Rattle.slots.proofs.Words.{put-none}
+use Rattle.slots.specs.Words.{slotSize, written}
 use Rattle.describe.specs.declared.Banks.{Banks}
-use Rattle.describe.specs.declared.Test.{Test}
-use Rattle.describe.specs.declared.Test.the-variants.{Anything, Empty, SizeOneOf, SizeAtMost, Homogeneous, FloatPair, X87Stack, LoneFloat, FloatingMode, ComplexFloat, Eightbytes}
 use Rattle.describe.specs.declared.Rules.{Rules}
 use Rattle.describe.specs.declared.Variadic.{Variadic}
 use Rattle.describe.specs.Description.{Description}
 use Rattle.describe.specs.Row.{packed}
-use Rattle.find.specs.Find.{foundIf, homogeneous, floatPair, x87Stack, loneFloat, floatingMode, complexFloat, eachPiece}
-use Rattle.eightbytes.specs.declared.Classified.{Classified}
-use Rattle.eightbytes.specs.Eightbytes as eight
 use Rattle.abis.specs.Abis.{described}
-use Rattle.spend.specs.declared.Source as sources
 use Rattle.spend.specs.declared.Decision.{Decision}
+use Rattle.writing.specs.Slots.{slotsIn, slotsInScalar}
+use Rattle.memory.specs.InMemory.{inMemory}
 use Rattle.classify.specs.declared.Arg as args
 use Rattle.classify.specs.declared.Call.{Call}
 use Rattle.classify.specs.declared.Answer.{Answer}
+use Rattle.classify.specs.declared.InMemory.{InMemory}
 use Rattle.classify.specs.declared.Decided.{Decided}
-use Rattle.classify.specs.declared.Searched.{Searched}
-use Rattle.classify.specs.Pass.{matches}
 use Rattle.classify.specs.Classify.{leaves, variadic, isIntegersOnly}
-use Rattle.classify.specs.Answers.{descriptions, callOf, callRefusal, argRefusal, refusalOf, refused, done, orAnswer, freshAnswer, variadicAnswer, voidAnswer}
+use Rattle.classify.specs.Answers.{descriptions, callOf, callRefusal, argRefusal, refusalOf, refused, done, orAnswer, freshAnswer, variadicAnswer, voidAnswer, orAlign, inMemoryAnswer}
 use Rattle.classify.specs.Parts as parts
 
 -- ---- check
@@ -108,78 +98,6 @@ module _ (c : Call) (n : ℕ) (en : n ≡ callRefusal c) (r : Answer) where
   unfolding voidAnswer
   void-done z er = rw (er, ← en, z)
 
--- ---- the search
-
-module _ (matched : Bool) (r : Searched) where
-  pub matched-whole : matched ≡ true → r ≡ parts.searched (founds.the-variants.Slots 0 0) parts.noSource parts.noClasses
-      → r ≡ parts.searched (parts.foundWhere matched) parts.noSource parts.noClasses
-  matched-whole h er = rw (er, h)
-
-  pub missed-whole : matched ≡ false → r ≡ parts.searched founds.the-variants.Nothing parts.noSource parts.noClasses
-      → r ≡ parts.searched (parts.foundWhere matched) parts.noSource parts.noClasses
-  missed-whole h er = rw (er, h)
-
-found-where : (b : Bool) → parts.foundWhere b ≡ foundOf (foundIf b [])
-unfolding foundOf foundIf floatsIn
-found-where true = refl
-found-where false = refl
-
-module _ (B : Banks) (test : Test) (shape : Shape) (ps : List Piece) (r : Searched) where
-  pub test-anything : test ≡ Anything → r ≡ parts.searched (parts.foundWhere true) parts.noSource parts.noClasses → r ≡ parts.searchedBy B test shape ps
-  unfolding parts.searchedBy matches foundOf floatsIn
-  test-anything e er = rw (er, e)
-
-  pub test-empty : test ≡ Empty → r ≡ parts.searched (parts.foundWhere (eqb (shape .size) 0)) parts.noSource parts.noClasses → r ≡ parts.searchedBy B test shape ps
-  unfolding parts.searchedBy matches
-  test-empty e er = rw (er, e, found-where)
-
-  pub test-one-of : (a b c d : ℕ) → test ≡ SizeOneOf a b c d
-      → r ≡ parts.searched (parts.foundWhere (((eqb (shape .size) a || eqb (shape .size) b) || eqb (shape .size) c) || eqb (shape .size) d)) parts.noSource parts.noClasses
-      → r ≡ parts.searchedBy B test shape ps
-  unfolding parts.searchedBy matches
-  test-one-of a b c d e er = rw (er, e, found-where)
-
-  pub test-at-most : (limit : ℕ) → test ≡ SizeAtMost limit → r ≡ parts.searched (parts.foundWhere (leb (shape .size) limit)) parts.noSource parts.noClasses
-      → r ≡ parts.searchedBy B test shape ps
-  unfolding parts.searchedBy matches
-  test-at-most limit e er = rw (er, e, found-where)
-
-  pub test-homogeneous : (limit : ℕ) → test ≡ Homogeneous limit → (f : Found) → f ≡ foundOf (homogeneous limit shape ps)
-      → r ≡ parts.searched f parts.pieceSource parts.noClasses → r ≡ parts.searchedBy B test shape ps
-  unfolding parts.searchedBy matches
-  test-homogeneous limit e f ef er = rw (er, ef, e)
-
-  pub test-pair : test ≡ FloatPair → (f : Found) → f ≡ foundOf (floatPair (B .«integer_width») (B .«float_width») ps)
-      → r ≡ parts.searched f parts.pieceSource parts.noClasses → r ≡ parts.searchedBy B test shape ps
-  unfolding parts.searchedBy matches
-  test-pair e f ef er = rw (er, ef, e)
-
-  pub test-x87 : test ≡ X87Stack → (f : Found) → f ≡ foundOf (x87Stack shape ps) → r ≡ parts.searched f parts.pieceSource parts.noClasses
-      → r ≡ parts.searchedBy B test shape ps
-  unfolding parts.searchedBy matches
-  test-x87 e f ef er = rw (er, ef, e)
-
-  pub test-lone : test ≡ LoneFloat → (f : Found) → f ≡ foundOf (loneFloat ps) → r ≡ parts.searched f parts.pieceSource parts.noClasses
-      → r ≡ parts.searchedBy B test shape ps
-  unfolding parts.searchedBy matches
-  test-lone e f ef er = rw (er, ef, e)
-
-  pub test-mode : test ≡ FloatingMode → (f : Found) → f ≡ foundOf (floatingMode shape) → r ≡ parts.searched f parts.noSource parts.noClasses
-      → r ≡ parts.searchedBy B test shape ps
-  unfolding parts.searchedBy matches
-  test-mode e f ef er = rw (er, ef, e)
-
-  pub test-complex : test ≡ ComplexFloat → (f : Found) → f ≡ foundOf (complexFloat shape ps) → r ≡ parts.searched f parts.noSource parts.noClasses
-      → r ≡ parts.searchedBy B test shape ps
-  unfolding parts.searchedBy matches
-  test-complex e f ef er = rw (er, ef, e)
-
-  pub test-eightbytes : (limit : ℕ) → test ≡ Eightbytes limit → (k : Classified)
-      → (k .found ≡ foundOf (eight.eightbytes limit shape ps)) × (k .classes ≡ eight.classesOf limit shape ps)
-      → r ≡ parts.searched (k .found) (parts.classSource (shape .size)) (k .classes) → r ≡ parts.searchedBy B test shape ps
-  unfolding parts.searchedBy matches
-  test-eightbytes limit e k ek er = rw (er, ek .0, ek .1, e)
-
 -- ---- rules
 
 module _ (D : Description) (returning : Bool) (r : Rules) where
@@ -191,61 +109,12 @@ module _ (D : Description) (returning : Bool) (r : Rules) where
 
 -- ---- the writing and the answer
 
-pub nothing-written : (out : List ℕ) → out ≡ written [] out
-unfolding written wordsOf
-nothing-written out = sym (put-none out 0 (omega arith))
-
-module _ (source : sources.Source) (cs : List ℕ) (ps : List Piece) (out : List ℕ) where
-  pub write-none : source ≡ sources.the-variants.Empty → out ≡ written (parts.slotsIn source cs ps) out
-  unfolding parts.slotsIn
-  write-none e = rw e (nothing-written out)
-
-  module _ (out′ : List ℕ) where
-    pub write-each : source ≡ sources.the-variants.EachPiece → out′ ≡ written (eachPiece ps) out → out′ ≡ written (parts.slotsIn source cs ps) out
-    unfolding parts.slotsIn
-    write-each e eo = rw (eo, e)
-
-    pub write-classes : (size : ℕ) → source ≡ sources.the-variants.Classes size → out′ ≡ written (eight.slotsOf size cs) out → out′ ≡ written (parts.slotsIn source cs ps) out
-    unfolding parts.slotsIn
-    write-classes size e eo = rw (eo, e)
-
-    pub write-cut : (size width : ℕ) → source ≡ sources.the-variants.Cut size width → out′ ≡ written (cut size width) out → out′ ≡ written (parts.slotsIn source cs ps) out
-    unfolding parts.slotsIn
-    write-cut size width e eo = rw (eo, e)
-
-    pub write-one : (k o n : ℕ) → source ≡ sources.the-variants.One k o n → out′ ≡ putAt out 0 (slotWords (slot k o n)) → out′ ≡ written (parts.slotsIn source cs ps) out
-    unfolding parts.slotsIn written wordsOf
-    write-one k o n e eo = rw (eo, e)
-
--- and of a scalar
-module _ (source : sources.Source) (out : List ℕ) where
-  pub scalar-none : source ≡ sources.the-variants.Empty → out ≡ written (parts.slotsInScalar source) out
-  unfolding parts.slotsInScalar
-  scalar-none e = rw e (nothing-written out)
-
-  pub scalar-each : source ≡ sources.the-variants.EachPiece → out ≡ written (parts.slotsInScalar source) out
-  unfolding parts.slotsInScalar
-  scalar-each e = rw e (nothing-written out)
-
-  pub scalar-classes : (size : ℕ) → source ≡ sources.the-variants.Classes size → out ≡ written (parts.slotsInScalar source) out
-  unfolding parts.slotsInScalar
-  scalar-classes size e = rw e (nothing-written out)
-
-  module _ (out′ : List ℕ) where
-    pub scalar-cut : (size width : ℕ) → source ≡ sources.the-variants.Cut size width → out′ ≡ written (cut size width) out → out′ ≡ written (parts.slotsInScalar source) out
-    unfolding parts.slotsInScalar
-    scalar-cut size width e eo = rw (eo, e)
-
-    pub scalar-one : (k o n : ℕ) → source ≡ sources.the-variants.One k o n → out′ ≡ putAt out 0 (slotWords (slot k o n)) → out′ ≡ written (parts.slotsInScalar source) out
-    unfolding parts.slotsInScalar written wordsOf
-    scalar-one k o n e eo = rw (eo, e)
-
 module _ (d : Decision) (out : List ℕ) (room : ℕ) (er : room ≡ length out / slotSize) where
   pub short-scalar : room < d .count → out ≡ parts.finishedScalarIn d out
   unfolding parts.finishedScalarIn
   short-scalar h = rw (← er, lt-ltb _ _ h)
 
-  pub fit-scalar : d .count ≤ room → (out′ : List ℕ) → out′ ≡ written (parts.slotsInScalar (d .slots)) out → out′ ≡ parts.finishedScalarIn d out
+  pub fit-scalar : d .count ≤ room → (out′ : List ℕ) → out′ ≡ written (slotsInScalar (d .slots)) out → out′ ≡ parts.finishedScalarIn d out
   unfolding parts.finishedScalarIn
   fit-scalar h out′ e = rw (e, ← er, le-ltb _ _ h)
 
@@ -268,9 +137,25 @@ module _ (d : Decided) (ps : List Piece) (out : List ℕ) (room : ℕ) (er : roo
   unfolding parts.finishedIn
   short-buffer h = rw (← er, lt-ltb _ _ h)
 
-  pub fit-buffer : d .decision .count ≤ room → (out′ : List ℕ) → out′ ≡ written (parts.slotsIn (d .decision .slots) (d .classes) ps) out → out′ ≡ parts.finishedIn d ps out
+  pub fit-buffer : d .decision .count ≤ room → (out′ : List ℕ) → out′ ≡ written (slotsIn (d .decision .slots) (d .classes) ps) out → out′ ≡ parts.finishedIn d ps out
   unfolding parts.finishedIn
   fit-buffer h out′ e = rw (e, ← er, le-ltb _ _ h)
 
 pub frees : (d : Decided) (n : Decision) → n ≡ parts.spendsNothing (d .decision .way) (d .decision .slots) (d .decision .count) → parts.decided n (d .classes) ≡ parts.freelyDecided d
 frees d n en = rw en
+
+-- ---- in_memory
+
+or-unaligned : (n align : ℕ) → (n ≡ accepted → ⊥) → _≡_ {A = InMemory} (record { refusal = n; align = 0 }) (orAlign n align)
+or-unaligned zero align h = absurd (h refl)
+or-unaligned (suc n) align h = refl
+
+module _ (c : Call) (shape : Shape) (ws : List ℕ) (n : ℕ) (en : n ≡ refusalOf c (parts.aggregateArg shape) ws) where
+  pub memory-refused : (n ≡ accepted → ⊥) → _≡_ {A = InMemory} (record { refusal = n; align = 0 }) (inMemoryAnswer c shape ws)
+  unfolding inMemoryAnswer
+  memory-refused h = rw (← en) (or-unaligned n _ h)
+
+  pub memory-answered : n ≡ accepted → (a : ℕ) → a ≡ inMemory (described (c .abi)) shape (piecesOf ws)
+      → _≡_ {A = InMemory} (record { refusal = accepted; align = a }) (inMemoryAnswer c shape ws)
+  unfolding inMemoryAnswer
+  memory-answered z a ea = rw (← en, z, ea)

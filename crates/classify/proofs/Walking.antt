@@ -27,12 +27,13 @@ use Rattle.spend.specs.declared.Left.{Left}
 use Rattle.spend.specs.declared.Decision.{Decision}
 use Rattle.spend.specs.declared.Step as steps
 use Rattle.spend.specs.Spending.{travelOf}
+use Rattle.search.specs.declared.Searched.{Searched}
+use Rattle.search.specs.Matches.{matches, sourceOf}
+use Rattle.search.specs.Searched.{classesBy, searchedBy}
 use Rattle.classify.specs.declared.Decided.{Decided}
-use Rattle.classify.specs.declared.Searched.{Searched}
-use Rattle.classify.specs.Pass.{matches}
-use Rattle.classify.specs.Spending.{sourceOf, slotsOf, aggregate}
+use Rattle.classify.specs.Spending.{slotsOf, aggregate}
 use Rattle.classify.specs.Answers.{descriptions}
-use Rattle.classify.specs.Parts.{classesBy, searchedBy, rulesOf, decided, walked}
+use Rattle.classify.specs.Parts.{rulesOf, decided, walked}
 use Rattle.classify.proofs.Ends.{decides-found, decides-step}
 
 -- ---- what a search's counts say of its slots

@@ -16,12 +16,13 @@ use Rattle.spend.specs.declared.Left.{Left}
 use Rattle.spend.specs.declared.Way as ways
 use Rattle.spend.specs.declared.Spent.{Spent}
 use Rattle.spend.specs.Ways as made
+use Rattle.memory.specs.InMemory.{inMemory}
 use Rattle.classify.specs.declared.Arg as args
 use Rattle.classify.specs.declared.Call.{Call}
 use Rattle.classify.specs.declared.Answer.{Answer}
 use Rattle.classify.specs.declared.InMemory.{InMemory}
 use Rattle.classify.specs.Pass.{wayOf, slotsOf}
-use Rattle.classify.specs.Classify.{Passed, leaves, call, variadic, isIntegersOnly, returns, argument, variadicArgument, inMemory}
+use Rattle.classify.specs.Classify.{Passed, leaves, call, variadic, isIntegersOnly, returns, argument, variadicArgument}
 use Rattle.classify.specs.Spending.{returnChoice, argumentChoice, dotsChoice}
 
 abbrev pub descriptions : ℕ

@@ -2,7 +2,7 @@
 -- travels, its slots, and the counts left as the Rust computes them. Subtraction stops at 0, as the Rust's saturating one does. What is passed
 -- over and given is not here: that is spend/specs/Spending.antt, scalars/specs/Spending.antt and Spending.antt beside this file, and a theorem
 -- has the two agree.
-use Prim.Native.Nat.{ℕ, _-_, _%_, max}
+use Prim.Native.Nat.{ℕ, _-_, _%_}
 use mathlib.Core.List.{List, [], _∷_}
 use mathlib.Core.Bool.{Bool, true, false, _&&_, _||_, not, cond}
 use mathlib.Core.Option.{Option}
@@ -21,8 +21,6 @@ use Rattle.slots.specs.Search.{Search, found, nothing, floatsIn}
 use Rattle.describe.specs.declared.Banks.{Banks}
 use Rattle.describe.specs.declared.Scalars.{Scalars}
 use Rattle.describe.specs.declared.Rule.{Rule}
-use Rattle.describe.specs.declared.Test.{Test}
-use Rattle.describe.specs.declared.Test as tests
 use Rattle.describe.specs.declared.Travel.{Travel}
 use Rattle.describe.specs.declared.Travel.the-variants.{Ignore, AsFound, AsIntegers, AsOneInteger, ByReference, InMemory, InMemoryAndSpend}
 use Rattle.describe.specs.declared.Short.{Short}
@@ -31,15 +29,13 @@ use Rattle.describe.specs.declared.ReturnPointer.{ReturnPointer}
 use Rattle.describe.specs.declared.ReturnPointer.the-variants.{FirstArgument, FirstArgumentPopped, Dedicated}
 use Rattle.describe.specs.declared.Variadic.{Variadic}
 use Rattle.describe.specs.declared.Variadic.the-variants.{SameAsFixed, AlwaysMemory, BothBanks, IntegersOnly, UnnamedIntegers}
-use Rattle.describe.specs.declared.StackArgs.{StackArgs}
-use Rattle.describe.specs.declared.StackArgs.the-variants.{RegisterSized, Packed}
 use Rattle.describe.specs.Description.{Description}
 use Rattle.describe.specs.Questions.{isByReference, returnsByReference}
-use Rattle.find.specs.Find.{homogeneous}
 use Rattle.spend.specs.declared.Left.{Left}
 use Rattle.spend.specs.Spending.{wantOf}
 use Rattle.classify.specs.declared.Arg as args
-use Rattle.classify.specs.Pass.{Pass, ignore, direct, pieces, reference, memory, matches}
+use Rattle.search.specs.Matches.{matches}
+use Rattle.classify.specs.Pass.{Pass, ignore, direct, pieces, reference, memory}
 
 -- what a call has left: integers, floats, and the integers-only mark
 abbrev pub leaves : ℕ → ℕ → Bool → Left
@@ -224,39 +220,4 @@ variadicBy AlwaysMemory D left arg ps = inMemoryAlways D left arg ps
 unfoldable pub variadicArgument : Description → Left → args.Arg → List Piece → Passed
 variadicArgument D left arg ps = variadicBy (D .variadic) D left arg ps
 
--- ---- in_memory
-
--- the limit of the first rule for homogeneous aggregates, if there is one
-abbrev pub limitOf : Test → Option ℕ → Option ℕ
-limitOf tests.the-variants.Anything rest = rest
-limitOf tests.the-variants.Empty rest = rest
-limitOf (tests.the-variants.SizeOneOf a b c d) rest = rest
-limitOf (tests.the-variants.SizeAtMost n) rest = rest
-limitOf (tests.the-variants.Homogeneous limit) rest = some limit
-limitOf tests.the-variants.FloatPair rest = rest
-limitOf tests.the-variants.X87Stack rest = rest
-limitOf tests.the-variants.LoneFloat rest = rest
-limitOf tests.the-variants.FloatingMode rest = rest
-limitOf tests.the-variants.ComplexFloat rest = rest
-limitOf (tests.the-variants.Eightbytes n) rest = rest
-
-unfoldable pub homogeneousLimit : List Rule → Option ℕ
-homogeneousLimit [] = none
-homogeneousLimit (rule ∷ rules) = limitOf (rule .when) (homogeneousLimit rules)
-
-abbrev pub isFound : Search → Bool
-isFound (found ss) = true
-isFound nothing = false
-
-abbrev pub isHomogeneousBy : Option ℕ → Shape → List Piece → Bool
-isHomogeneousBy none shape ps = false
-isHomogeneousBy (some limit) shape ps = isFound (homogeneous limit shape ps)
-
-abbrev pub memoryBy : StackArgs → Description → Shape → List Piece → ℕ
-memoryBy RegisterSized D shape ps = shape .align
-memoryBy Packed D shape ps =
-    cond (isHomogeneousBy (homogeneousLimit (D .arguments)) shape ps) (shape .align) (max (shape .align) (D .banks .«integer_width»))
-
--- what a fixed argument that travels as Memory is aligned to in the argument area
-unfoldable pub inMemory : Description → Shape → List Piece → ℕ
-inMemory D shape ps = memoryBy (D .«stack_args») D shape ps
+-- ---- in_memory: memory/specs/InMemory.antt

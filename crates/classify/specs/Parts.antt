@@ -1,32 +1,21 @@
--- What the parts of an operation answer one another: the search, the walk, the writing and the answer. These say how the code goes about it;
+-- What the parts of an operation answer one another: the walk, and the answer. These say how the code goes about it;
 -- what an operation means is in Classify.antt and Spending.antt, and proofs/Agree.antt has this meet that.
-use Prim.Native.Nat.{ℕ, _-_, _/_, max}
-use mathlib.Core.List.{List, [], _∷_}
+use Prim.Native.Nat.{ℕ, _-_, _/_}
+use mathlib.Core.List.{List}
 use mathlib.Core.Bool.{Bool, true, false, cond}
-use mathlib.Core.Option.{Option}
-use mathlib.Core.Option.Option.{none, some}
 use lib.Dec.{ltb}
-use lib.ListN.{length, replicate}
+use lib.ListN.{length}
 use Rattle.shape.specs.declared.Piece.{Piece}
 use Rattle.shape.specs.declared.Scalar.{Scalar}
 use Rattle.shape.specs.declared.Shape.{Shape}
 use Rattle.shape.specs.Words.{piecesOf}
 use Rattle.shape.specs.Numbers as numbers
-use Rattle.slots.specs.declared.Slot.{Slot}
-use Rattle.slots.specs.declared.Found.{Found}
-use Rattle.slots.specs.declared.Found as founds
-use Rattle.slots.specs.Words.{slot, slotSize, written}
-use Rattle.slots.specs.Cut.{cut}
-use Rattle.slots.specs.Search.{foundOf}
-use Rattle.describe.specs.declared.Banks.{Banks}
+use Rattle.slots.specs.Words.{slotSize, written}
 use Rattle.describe.specs.declared.Rule.{Rule}
 use Rattle.describe.specs.declared.Test.{Test}
-use Rattle.describe.specs.declared.Test.the-variants.{Anything, Empty, SizeOneOf, SizeAtMost, Homogeneous, FloatPair, X87Stack, LoneFloat, FloatingMode, ComplexFloat, Eightbytes}
 use Rattle.describe.specs.declared.Variadic.{Variadic}
 use Rattle.describe.specs.declared.Variadic.the-variants.{SameAsFixed, AlwaysMemory, BothBanks, IntegersOnly, UnnamedIntegers}
 use Rattle.describe.specs.Description.{Description}
-use Rattle.find.specs.Find.{eachPiece}
-use Rattle.eightbytes.specs.Eightbytes as eight
 use Rattle.spend.specs.declared.Left.{Left}
 use Rattle.spend.specs.declared.Way.{Way}
 use Rattle.spend.specs.declared.Way as ways
@@ -34,54 +23,15 @@ use Rattle.spend.specs.declared.Source as sources
 use Rattle.spend.specs.declared.Decision.{Decision}
 use Rattle.spend.specs.Ways as made
 use Rattle.scalars.specs.Spending.{scalarArgument, scalarReturn}
+use Rattle.search.specs.Searched.{noClasses, classesBy, noSource}
+use Rattle.writing.specs.Slots.{slotsIn, slotsInScalar}
 use Rattle.classify.specs.declared.Arg as args
 use Rattle.classify.specs.declared.Call.{Call}
 use Rattle.classify.specs.declared.Answer.{Answer}
 use Rattle.classify.specs.declared.Decided.{Decided}
-use Rattle.classify.specs.declared.Searched.{Searched}
-use Rattle.classify.specs.declared.Limit as limits
-use Rattle.classify.specs.Pass.{matches}
-use Rattle.classify.specs.Classify as rust
-use Rattle.classify.specs.Classify.{leaves, homogeneousLimit, isHomogeneousBy}
-use Rattle.classify.specs.Spending.{Chosen, ignored, sourceOf, aggregate}
+use Rattle.classify.specs.Classify.{leaves}
+use Rattle.classify.specs.Spending.{Chosen, ignored, aggregate}
 use Rattle.classify.specs.Answers.{answered, callOf, refused, refusalOf, orAnswer, unlessRefused}
-
--- ---- the search
-
-abbrev pub noClasses : List ℕ
-noClasses = replicate 8 0
-
--- the classes that stand beside what a test finds
-abbrev pub classesBy : Test → Shape → List Piece → List ℕ
-classesBy Anything shape ps = noClasses
-classesBy Empty shape ps = noClasses
-classesBy (SizeOneOf a b c d) shape ps = noClasses
-classesBy (SizeAtMost limit) shape ps = noClasses
-classesBy (Homogeneous limit) shape ps = noClasses
-classesBy FloatPair shape ps = noClasses
-classesBy X87Stack shape ps = noClasses
-classesBy LoneFloat shape ps = noClasses
-classesBy FloatingMode shape ps = noClasses
-classesBy ComplexFloat shape ps = noClasses
-classesBy (Eightbytes limit) shape ps = eight.classesOf limit shape ps
-
-abbrev pub searched : Found → sources.Source → List ℕ → Searched
-searched found source classes = record { found = found; source = source; classes = classes }
-
-unfoldable pub searchedBy : Banks → Test → Shape → List Piece → Searched
-searchedBy B test shape ps = searched (foundOf (matches B test shape ps)) (sourceOf test (shape .size)) (classesBy test shape ps)
-
-abbrev pub foundWhere : Bool → Found
-foundWhere matched = cond matched (founds.the-variants.Slots 0 0) founds.the-variants.Nothing
-
-abbrev pub noSource : sources.Source
-noSource = sources.the-variants.Empty
-
-abbrev pub pieceSource : sources.Source
-pieceSource = sources.the-variants.EachPiece
-
-abbrev pub classSource : ℕ → sources.Source
-classSource size = sources.the-variants.Classes size
 
 -- ---- the walk
 
@@ -150,22 +100,6 @@ decideBy D returning variadic left (args.the-variants.Aggregate shape) ps = aggr
 
 -- ---- the writing and the answer
 
--- the slots of a decision, from where they stand
-unfoldable pub slotsIn : sources.Source → List ℕ → List Piece → List Slot
-slotsIn sources.the-variants.Empty classes ps = []
-slotsIn sources.the-variants.EachPiece classes ps = eachPiece ps
-slotsIn (sources.the-variants.Classes size) classes ps = eight.slotsOf size classes
-slotsIn (sources.the-variants.Cut size width) classes ps = cut size width
-slotsIn (sources.the-variants.One kind offset size) classes ps = slot kind offset size ∷ []
-
--- those of a scalar, which has neither pieces nor eightbytes
-unfoldable pub slotsInScalar : sources.Source → List Slot
-slotsInScalar sources.the-variants.Empty = []
-slotsInScalar sources.the-variants.EachPiece = []
-slotsInScalar (sources.the-variants.Classes size) = []
-slotsInScalar (sources.the-variants.Cut size width) = cut size width
-slotsInScalar (sources.the-variants.One kind offset size) = slot kind offset size ∷ []
-
 -- what is left of a bank
 abbrev pub after : ℕ → ℕ → ℕ → ℕ
 after left passed given = left - passed - given
@@ -198,19 +132,3 @@ performed c d arg ws out = orAnswer (refusalOf c arg ws) c (finished c (d .decis
 
 unfoldable pub performedIn : Call → Decided → args.Arg → List ℕ → List ℕ → List ℕ
 performedIn c d arg ws out = unlessRefused (refusalOf c arg ws) (finishedIn d (piecesOf ws) out) out
-
--- ---- in_memory
-
-abbrev pub limitOption : Option ℕ → limits.Limit
-limitOption none = limits.the-variants.Nothing
-limitOption (some n) = limits.the-variants.Of n
-
-abbrev pub limitBy : Test → limits.Limit
-limitBy test = limitOption (rust.limitOf test none)
-
-unfoldable pub limitOf : List Rule → limits.Limit
-limitOf rules = limitOption (homogeneousLimit rules)
-
-unfoldable pub packedAlign : Description → Shape → List Piece → ℕ
-packedAlign D shape ps =
-    cond (isHomogeneousBy (homogeneousLimit (D .arguments)) shape ps) (shape .align) (max (shape .align) (D .banks .«integer_width»))

@@ -25,7 +25,7 @@ use Rattle.spend.specs.Ways as made
 use Rattle.spend.specs.Spending.{travelOf}
 use Rattle.scalars.specs.Spending.{scalarArgument, scalarReturn}
 use Rattle.classify.specs.declared.Arg as args
-use Rattle.classify.specs.Pass.{matches}
+use Rattle.search.specs.Matches.{matches, sourceOf}
 
 -- what decides a value: the decision, and for an aggregate the test of the rule that made it
 pub record Chosen : Type 0 where
@@ -34,20 +34,6 @@ pub record Chosen : Type 0 where
 
 abbrev pub chosen : Decision → Test → Chosen
 chosen d t = record { decision = d; when = t }
-
--- where the slots that a test found stand
-abbrev pub sourceOf : Test → ℕ → sources.Source
-sourceOf Anything size = sources.the-variants.Empty
-sourceOf Empty size = sources.the-variants.Empty
-sourceOf (SizeOneOf a b c d) size = sources.the-variants.Empty
-sourceOf (SizeAtMost limit) size = sources.the-variants.Empty
-sourceOf (Homogeneous limit) size = sources.the-variants.EachPiece
-sourceOf FloatPair size = sources.the-variants.EachPiece
-sourceOf X87Stack size = sources.the-variants.EachPiece
-sourceOf LoneFloat size = sources.the-variants.EachPiece
-sourceOf FloatingMode size = sources.the-variants.Empty
-sourceOf ComplexFloat size = sources.the-variants.Empty
-sourceOf (Eightbytes limit) size = sources.the-variants.Classes size
 
 abbrev pub slotsOf : Test → ℕ → List Slot → Slots
 slotsOf test size ss = record { count = length ss; floats = floatsIn ss; source = sourceOf test size }

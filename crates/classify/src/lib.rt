@@ -1,15 +1,11 @@
 // One call and its operations: a return value, an argument, an argument after the dots, and the mark of a variadic function (docs/REFERENCE.md, 9).
 // A call is a value, and each operation hands back the next one. Anyone can hand in any numbers: every operation checks for itself.
-use describe::Banks;
 use describe::ReturnPointer;
 use describe::Rules;
-use describe::StackArgs;
-use describe::Test;
 use describe::Variadic;
 use shape::Scalar;
 use shape::Shape;
 use slots::Found;
-use slots::Slot;
 use spend::Decision;
 use spend::Left;
 use spend::Slots;
@@ -21,10 +17,9 @@ ghost use mathlib.Core.Path.{_≡_};
 ghost use mathlib.Core.List.{[]};
 ghost use Prim.Native.Nat.{_-_, _<_};
 ghost use Rattle.shape.specs.Words.{piecesOf};
-ghost use Rattle.slots.specs.Words.{written};
 ghost use Rattle.describe.specs.Row.{packed};
 ghost use Rattle.abis.specs.Abis.{described};
-ghost use Rattle.classify.specs.Classify.{inMemory, isIntegersOnly};
+ghost use Rattle.classify.specs.Classify.{isIntegersOnly};
 ghost use Rattle.classify.specs.Spending as rules;
 ghost use Rattle.classify.specs.Answers.{descriptions, leftOf, callRefusal, refusalOf, freshAnswer, voidAnswer, variadicAnswer, returnsAnswer, returnsWritten, argumentAnswer, argumentWritten, dotsAnswer, dotsWritten, inMemoryAnswer};
 ghost use Rattle.classify.specs.Answers as answers;
@@ -200,7 +195,7 @@ impl Call {
         }
         InMemory {
             refusal: shape::ACCEPTED,
-            align: memory_align(self.abi, shape, words),
+            align: memory::align(self.abi, shape, words),
         }
     }
 
@@ -428,7 +423,7 @@ fn walk(abi: u64, returning: bool, left: Left, shape: Shape, words: &[u64]) -> D
         let later = rules::later_rules(rules);
         rules = later;
         let when = rules::first_test(these);
-        let searched = search(banks, when, shape, words);
+        let searched = search::search(banks, when, shape, words);
         let found = searched.found;
         let Found::Slots { count, floats } = found else {
             continue;
@@ -468,86 +463,6 @@ fn rules_of(abi: u64, returning: bool) -> Rules
     lists::argument_rules(abi)
 }
 
-// What a test finds, with the slots beside it: where they stand, and the classes of eightbytes.
-struct Searched {
-    found: Found,
-    source: Source,
-    classes: [u8; 8],
-}
-
-// Whether a test matches, and the slots that it finds if it looks inside. Nothing is written to a lent buffer here.
-fn search(banks: Banks, test: Test, shape: Shape, words: &[u64]) -> Searched
-    ensures { λ r. ⌜ r ≡ parts.searchedBy banks test shape (piecesOf (now (words .entry))) ⌝ }
-{
-    match test {
-        Test::Anything => without_slots(true),
-        Test::Empty => without_slots(shape.size == 0),
-        Test::SizeOneOf(a, b, c, d) => without_slots(
-            (shape.size == a) | (shape.size == b) | (shape.size == c) | (shape.size == d),
-        ),
-        Test::SizeAtMost(limit) => without_slots(shape.size <= limit),
-        Test::Homogeneous(limit) => each_piece(find::homogeneous(shape, words, limit)),
-        Test::FloatPair => each_piece(find::float_pair(
-            words,
-            banks.integer_width,
-            banks.float_width,
-        )),
-        Test::X87Stack => each_piece(find::x87_stack(shape, words)),
-        Test::LoneFloat => each_piece(find::lone_float(words)),
-        Test::FloatingMode => no_slots(find::floating_mode(shape)),
-        Test::ComplexFloat => no_slots(find::complex_float(shape, words)),
-        Test::Eightbytes(limit) => in_eightbytes(
-            shape.size,
-            eightbytes::eightbytes(shape, words, limit),
-        ),
-    }
-}
-
-// A test of the shape as a whole: it finds no slot.
-fn without_slots(matched: bool) -> Searched
-    ensures { λ r. ⌜ r ≡ parts.searched (parts.foundWhere matched) (parts.noSource) parts.noClasses ⌝ }
-{
-    if matched {
-        return no_slots(Found::Slots {
-            count: 0,
-            floats: 0,
-        });
-    }
-    no_slots(Found::Nothing)
-}
-
-fn no_slots(found: Found) -> Searched
-    ensures { λ r. ⌜ r ≡ parts.searched found (parts.noSource) parts.noClasses ⌝ }
-{
-    Searched {
-        found,
-        source: Source::Empty,
-        classes: [0u8; 8],
-    }
-}
-
-fn each_piece(found: Found) -> Searched
-    ensures { λ r. ⌜ r ≡ parts.searched found (parts.pieceSource) parts.noClasses ⌝ }
-{
-    Searched {
-        found,
-        source: Source::EachPiece,
-        classes: [0u8; 8],
-    }
-}
-
-fn in_eightbytes(size: u64, classified: eightbytes::Classified) -> Searched
-    ensures { λ r. ⌜ r ≡ parts.searched (classified .found) (parts.classSource size) (classified .classes) ⌝ }
-{
-    let found = classified.found;
-    let classes = classified.classes;
-    Searched {
-        found,
-        source: Source::Classes { size },
-        classes,
-    }
-}
-
 // ---- room and writing, and the answer
 
 fn finish_scalar(call: Call, decision: Decision, out: &mut [u64]) -> Answer
@@ -557,25 +472,8 @@ fn finish_scalar(call: Call, decision: Decision, out: &mut [u64]) -> Answer
         return refused(call, shape::NO_ROOM);
     }
     let source = decision.slots;
-    write_scalar(source, out);
+    writing::write_scalar(source, out);
     accept(call, decision)
-}
-
-// The slots of a scalar: it has no pieces and no eightbytes.
-fn write_scalar(source: Source, out: &mut [u64])
-    ensures { λ _. ⌜ now (out .exit) ≡ written (parts.slotsInScalar source) (now (out .entry)) ⌝ }
-{
-    match source {
-        Source::Empty => {}
-        Source::EachPiece => {}
-        Source::Classes { size: _ } => {}
-        Source::Cut { size: whole, width } => {
-            slots::cut_integers(whole, width, out);
-        }
-        Source::One { kind, offset, size } => {
-            slots::put_slot(out, 0, Slot { kind, offset, size });
-        }
-    }
 }
 
 fn finish(call: Call, decided: Decided, words: &[u64], out: &mut [u64]) -> Answer
@@ -585,32 +483,10 @@ fn finish(call: Call, decided: Decided, words: &[u64], out: &mut [u64]) -> Answe
     if decision.count > slots::room(out.len()) as u64 {
         return refused(call, shape::NO_ROOM);
     }
-    write(decided, words, out);
-    accept(call, decision)
-}
-
-// The slots of a decision at the front of the buffer.
-fn write(decided: Decided, words: &[u64], out: &mut [u64])
-    ensures { λ _. ⌜ now (out .exit) ≡ written (parts.slotsIn (decided .decision .slots) (decided .classes) (piecesOf (now (words .entry)))) (now (out .entry)) ⌝ }
-{
-    let decision = decided.decision;
     let source = decision.slots;
     let classes = decided.classes;
-    match source {
-        Source::Empty => {}
-        Source::EachPiece => {
-            find::put_pieces(words, out);
-        }
-        Source::Classes { size } => {
-            eightslots::put_eightbytes(classes, size, out);
-        }
-        Source::Cut { size, width } => {
-            slots::cut_integers(size, width, out);
-        }
-        Source::One { kind, offset, size } => {
-            slots::put_slot(out, 0, Slot { kind, offset, size });
-        }
-    }
+    writing::write(source, classes, words, out);
+    accept(call, decision)
 }
 
 // The registers left are those before less those passed over and given.
@@ -679,78 +555,4 @@ fn minus(a: u64, b: u64) -> u64
     ensures { λ r. ⌜ r ≡ a - b ⌝ }
 {
     if a < b { 0 } else { a - b }
-}
-
-// ---- in_memory
-
-fn memory_align(abi: u64, shape: Shape, words: &[u64]) -> u64
-    ensures { λ r. ⌜ r ≡ inMemory (described abi) shape (piecesOf (now (words .entry))) ⌝ }
-{
-    let others = abis::others(abi);
-    let stack = others.stack_args;
-    match stack {
-        StackArgs::RegisterSized => shape.align,
-        StackArgs::Packed => packed_align(abi, shape, words),
-    }
-}
-
-// In a packed area a homogeneous aggregate keeps its alignment, and any other is on a word boundary at least.
-fn packed_align(abi: u64, shape: Shape, words: &[u64]) -> u64
-    ensures { λ r. ⌜ r ≡ parts.packedAlign (described abi) shape (piecesOf (now (words .entry))) ⌝ }
-{
-    let banks = abis::banks(abi);
-    let limit = homogeneous_limit(abi);
-    let Limit::Of(most) = limit else {
-        return shape::most(shape.align, banks.integer_width);
-    };
-    let found = find::homogeneous(shape, words, most);
-    match found {
-        Found::Slots {
-            count: _,
-            floats: _,
-        } => shape.align,
-        Found::Nothing => shape::most(shape.align, banks.integer_width),
-    }
-}
-
-enum Limit {
-    Of(u64),
-    Nothing,
-}
-
-// The limit of the first rule for homogeneous aggregates among a description's rules for arguments.
-fn homogeneous_limit(abi: u64) -> Limit
-    ensures { λ r. ⌜ r ≡ parts.limitOf (described abi .arguments) ⌝ }
-{
-    let row = abis::row(abi);
-    let mut i = 0;
-    while i < describe::RULES {
-        let rule = rules::argument_rule(row, i);
-        i += 1;
-        let when = rule.when;
-        let limit = limit_of(when);
-        let Limit::Of(most) = limit else {
-            continue;
-        };
-        return Limit::Of(most);
-    }
-    Limit::Nothing
-}
-
-fn limit_of(test: Test) -> Limit
-    ensures { λ r. ⌜ r ≡ parts.limitBy test ⌝ }
-{
-    match test {
-        Test::Anything => Limit::Nothing,
-        Test::Empty => Limit::Nothing,
-        Test::SizeOneOf(_, _, _, _) => Limit::Nothing,
-        Test::SizeAtMost(_) => Limit::Nothing,
-        Test::Homogeneous(limit) => Limit::Of(limit),
-        Test::FloatPair => Limit::Nothing,
-        Test::X87Stack => Limit::Nothing,
-        Test::LoneFloat => Limit::Nothing,
-        Test::FloatingMode => Limit::Nothing,
-        Test::ComplexFloat => Limit::Nothing,
-        Test::Eightbytes(_) => Limit::Nothing,
-    }
 }

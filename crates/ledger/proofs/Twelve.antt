@@ -14,7 +14,7 @@ use Rattle.eightbytes.specs.Class as class
 use Rattle.eightbytes.specs.Eightbytes as eight
 use Rattle.spend.specs.Spending as rules
 use Rattle.scalars.specs.Spending as lone
-use Rattle.classify.specs.Pass.{matches}
+use Rattle.search.specs.Matches.{matches}
 use Rattle.classify.specs.Classify as rust
 use Rattle.classify.specs.Spending as spending
 use Rattle.classify.specs.Answers as answers

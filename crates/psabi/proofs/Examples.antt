@@ -16,7 +16,7 @@ use Rattle.eightbytes.specs.Class as ours
 use Rattle.eightbytes.specs.Eightbytes.{cover, mark, fits, marked, spoiled, mend, settled, classified, slotsFrom, slotsFound, eightbytes}
 use Rattle.abis.specs.Abis.{described, descriptions}
 use Rattle.classify.specs.declared.Arg.the-variants.{Aggregate}
-use Rattle.classify.specs.Pass.{matches}
+use Rattle.search.specs.Matches.{matches}
 use Rattle.classify.specs.Classify as rust
 use Rattle.classify.specs.Classify.{leaves, argument, returns}
 use Rattle.psabi.specs.Psabi as psabi

@@ -20,7 +20,7 @@ use Rattle.find.specs.Find.{foundIf, floatsAt, x87Stack}
 use Rattle.eightbytes.specs.Class as ours
 use Rattle.eightbytes.specs.Eightbytes.{cover, mark, fits, marked, spoiled, mend, settled, classified, slotsFrom, slotsFound, eightbytes}
 use Rattle.abis.specs.Abis.{described, descriptions}
-use Rattle.classify.specs.Pass.{matches}
+use Rattle.search.specs.Matches.{matches}
 use Rattle.classify.specs.Classify as rust
 use Rattle.classify.specs.Classify.{argument, returns}
 use Rattle.psabi.specs.Psabi as psabi

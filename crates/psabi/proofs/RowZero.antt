@@ -28,7 +28,8 @@ use Rattle.describe.specs.Description.{rule, ruleShort}
 use Rattle.abis.specs.Abis.{described, descriptions}
 use Rattle.spend.specs.declared.Left.{Left}
 use Rattle.classify.specs.declared.Arg.the-variants.{Aggregate}
-use Rattle.classify.specs.Pass.{matches, pieces, reference, memory}
+use Rattle.search.specs.Matches.{matches}
+use Rattle.classify.specs.Pass.{pieces, reference, memory}
 use Rattle.classify.specs.Classify.{Passed, leaves, passed, shortOf, inRegisters, travel, lessBoth, orElse, tried, apply, argument, returns}
 use Rattle.psabi.specs.Psabi as psabi
 use Rattle.psabi.specs.Psabi.{Class, NO-CLASS, is, Travels, mergedIn, classesFrom, anyUnaligned, eightbytesIn, cleaned, psabiArgument, psabiResult}

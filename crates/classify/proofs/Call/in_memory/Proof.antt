@@ -1,6 +1,6 @@
 -- `in_memory` refuses what the checks refuse, and else answers the alignment. Assumes nothing.
 use borrow.Author.Needs.{needs}
-use Rattle.classify.proofs.Aligned.{memory-refused, memory-answered}
+use Rattle.classify.proofs.Steps.{memory-refused, memory-answered}
 use Rattle.classify.proofs.Call.in_memory.Statement.{statement}
 use Rattle.classify.proofs.Call.in_memory.Tie as tie
 

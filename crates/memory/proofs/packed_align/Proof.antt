@@ -1,8 +1,8 @@
 -- `packed_align` answers the alignment in a packed area. Assumes nothing.
-use Rattle.classify.proofs.Aligned.{packed-none, packed-homogeneous, packed-other}
+use Rattle.memory.proofs.Aligned.{packed-none, packed-homogeneous, packed-other}
 use borrow.Author.Needs.{needs}
-use Rattle.classify.proofs.packed_align.Statement.{statement}
-use Rattle.classify.proofs.packed_align.Tie as tie
+use Rattle.memory.proofs.packed_align.Statement.{statement}
+use Rattle.memory.proofs.packed_align.Tie as tie
 
 banks-requires : tie.Need-banks-requires
 banks-requires c κs = search needs

@@ -1,8 +1,8 @@
 -- `limit_of` answers the limit of a test for homogeneous aggregates. Assumes nothing.
-use Rattle.classify.proofs.Aligned.{limit-own}
+use Rattle.memory.proofs.Aligned.{limit-own}
 use borrow.Author.Needs.{needs}
-use Rattle.classify.proofs.limit_of.Statement.{statement}
-use Rattle.classify.proofs.limit_of.Tie as tie
+use Rattle.memory.proofs.limit_of.Statement.{statement}
+use Rattle.memory.proofs.limit_of.Tie as tie
 
 enum-told : tie.Need-enum-told
 enum-told c = search needs

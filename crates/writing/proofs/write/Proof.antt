@@ -1,8 +1,8 @@
 -- `write` writes the slots of a decision, from where they stand. Assumes nothing.
-use Rattle.classify.proofs.Steps.{write-none, write-each, write-classes, write-cut, write-one}
+use Rattle.writing.proofs.Writing.{write-none, write-each, write-classes, write-cut, write-one}
 use borrow.Author.Needs.{needs}
-use Rattle.classify.proofs.write.Statement.{statement}
-use Rattle.classify.proofs.write.Tie as tie
+use Rattle.writing.proofs.write.Statement.{statement}
+use Rattle.writing.proofs.write.Tie as tie
 
 enum-told : tie.Need-enum-told
 enum-told c = search needs

@@ -3,15 +3,15 @@ use Prim.Native.Nat.{_≤_, _-_}
 use mathlib.Core.Path.{_≡_, refl}
 use lib.ListN.{drop}
 use Rattle.abis.specs.Abis.{described}
-use Rattle.classify.specs.Parts as parts
-use Rattle.classify.proofs.Aligned.{limit-none, limit-next, limit-here}
+use Rattle.memory.specs.Limits as told
+use Rattle.memory.proofs.Aligned.{limit-none, limit-next, limit-here}
 use borrow.Author.Needs.{needs}
 use native.Mathlib.Omega.{arith}
-use Rattle.classify.proofs.homogeneous_limit.Statement.{statement}
-use Rattle.classify.proofs.homogeneous_limit.Tie as tie
+use Rattle.memory.proofs.homogeneous_limit.Statement.{statement}
+use Rattle.memory.proofs.homogeneous_limit.Tie as tie
 
 abbrev Inv-loop : tie.InvT-loop
-Inv-loop abi row i₀ i = (i ≤ 4) × (parts.limitOf (described abi .arguments) ≡ parts.limitOf (drop i (described abi .arguments)))
+Inv-loop abi row i₀ i = (i ≤ 4) × (told.limitOf (described abi .arguments) ≡ told.limitOf (drop i (described abi .arguments)))
 
 abbrev μ-loop : tie.MeasureT-loop
 μ-loop abi row i₀ i = 4 - i

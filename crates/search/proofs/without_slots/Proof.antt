@@ -1,8 +1,8 @@
 -- `without_slots` answers a search of the shape as a whole. Assumes nothing.
-use Rattle.classify.proofs.Steps.{matched-whole, missed-whole}
+use Rattle.search.proofs.Searching.{matched-whole, missed-whole}
 use borrow.Author.Needs.{needs}
-use Rattle.classify.proofs.without_slots.Statement.{statement}
-use Rattle.classify.proofs.without_slots.Tie as tie
+use Rattle.search.proofs.without_slots.Statement.{statement}
+use Rattle.search.proofs.without_slots.Tie as tie
 
 no-slots-requires : tie.Need-no-slots-requires
 no-slots-requires c κs = search needs

@@ -1,4 +1,4 @@
--- The laws of `in_memory`: the first rule for homogeneous aggregates, and the alignment in a packed area. Assumes nothing.
+-- The laws of `align`: the first rule for homogeneous aggregates, and the alignment in a packed area. Assumes nothing.
 use Prim.Native.Nat.{ℕ, zero, suc, _+_, _≤_, max}
 use mathlib.Core.Path.{_≡_, refl, ap, sym, _∙_}
 use mathlib.Core.List.{List, [], _∷_}
@@ -10,8 +10,6 @@ use native.Mathlib.Numerals.{add-one}
 use lib.ListN.{getD, drop, drop-of-length-le}
 use Rattle.shape.specs.declared.Shape.{Shape}
 use Rattle.shape.specs.declared.Piece.{Piece}
-use Rattle.shape.specs.Numbers.{accepted}
-use Rattle.shape.specs.Words.{piecesOf}
 use Rattle.slots.specs.declared.Found.{Found}
 use Rattle.slots.specs.declared.Found as founds
 use Rattle.slots.specs.Search.{Search, found, nothing, foundOf}
@@ -27,18 +25,14 @@ use Rattle.find.specs.Find.{homogeneous}
 use Rattle.abis.specs.Abis.{described}
 use Rattle.abis.proofs.Rows.{argument-rule}
 use Rattle.abis.proofs.Lists.{arguments-few}
-use Rattle.classify.specs.declared.Arg as args
-use Rattle.classify.specs.declared.Call.{Call}
-use Rattle.classify.specs.declared.InMemory.{InMemory}
-use Rattle.classify.specs.declared.Limit as limits
-use Rattle.classify.specs.Classify.{limitOf, homogeneousLimit, isFound, isHomogeneousBy, inMemory}
-use Rattle.classify.specs.Answers.{refusalOf, orAlign, inMemoryAnswer}
-use Rattle.classify.specs.Parts as parts
+use Rattle.memory.specs.declared.Limit as limits
+use Rattle.memory.specs.InMemory.{limitOf, homogeneousLimit, isFound, isHomogeneousBy, inMemory}
+use Rattle.memory.specs.Limits as told
 
 -- ---- the first rule for homogeneous aggregates
 
 -- a test that has no limit leaves it to the rest, and one that has decides
-passes-on : (test : Test) (rest : Option ℕ) → parts.limitBy test ≡ limits.the-variants.Nothing → limitOf test rest ≡ rest
+passes-on : (test : Test) (rest : Option ℕ) → told.limitBy test ≡ limits.the-variants.Nothing → limitOf test rest ≡ rest
 passes-on Anything rest e = refl
 passes-on Empty rest e = refl
 passes-on (SizeOneOf a b c d) rest e = refl
@@ -51,7 +45,7 @@ passes-on FloatingMode rest e = refl
 passes-on ComplexFloat rest e = refl
 passes-on (Eightbytes n) rest e = refl
 
-stays : (test : Test) (rest : Option ℕ) (n : ℕ) → parts.limitBy test ≡ limits.the-variants.Of n → limitOf test rest ≡ some n
+stays : (test : Test) (rest : Option ℕ) (n : ℕ) → told.limitBy test ≡ limits.the-variants.Of n → limitOf test rest ≡ some n
 stays Anything rest n e = absurd (let z : _≡_ {A = ℕ} 0 1 = cc in omega arith)
 stays Empty rest n e = absurd (let z : _≡_ {A = ℕ} 0 1 = cc in omega arith)
 stays (SizeOneOf a b c d) rest n e = absurd (let z : _≡_ {A = ℕ} 0 1 = cc in omega arith)
@@ -64,7 +58,7 @@ stays FloatingMode rest n e = absurd (let z : _≡_ {A = ℕ} 0 1 = cc in omega 
 stays ComplexFloat rest n e = absurd (let z : _≡_ {A = ℕ} 0 1 = cc in omega arith)
 stays (Eightbytes m) rest n e = absurd (let z : _≡_ {A = ℕ} 0 1 = cc in omega arith)
 
-pub limit-own : (test : Test) (n : ℕ) → test ≡ Homogeneous n → limits.the-variants.Of n ≡ parts.limitBy test
+pub limit-own : (test : Test) (n : ℕ) → test ≡ Homogeneous n → limits.the-variants.Of n ≡ told.limitBy test
 limit-own test n e = rw e
 
 -- the limit from a place of a list on, where past the end stands a rule without one
@@ -76,25 +70,25 @@ from-place (r ∷ rules) zero = refl
 from-place (r ∷ rules) (suc i) = from-place rules i
 
 module _ (abi : ℕ) (row : List ℕ) (er : row ≡ encode (described abi)) (total : limits.Limit) (i : ℕ)
-    (inv : total ≡ parts.limitOf (drop i (described abi .arguments))) where
+    (inv : total ≡ told.limitOf (drop i (described abi .arguments))) where
   pub limit-none : 4 ≤ i → limits.the-variants.Nothing ≡ total
-  unfolding parts.limitOf homogeneousLimit
+  unfolding told.limitOf homogeneousLimit
   limit-none h = rw (inv, drop-of-length-le (described abi .arguments) {i = i} (omega (arith, arguments-few abi)))
 
-  module _ (rule : Rule) (el : rule ≡ argumentRule row i) (limit : limits.Limit) (em : limit ≡ parts.limitBy (rule .when)) where
+  module _ (rule : Rule) (el : rule ≡ argumentRule row i) (limit : limits.Limit) (em : limit ≡ told.limitBy (rule .when)) where
     here : rule ≡ getD (described abi .arguments) i past
     here = el ∙ (ap (λ (r : List ℕ). argumentRule r i) er ∙ argument-rule abi i)
 
-    opened : total ≡ parts.limitOption (limitOf (rule .when) (homogeneousLimit (drop (suc i) (described abi .arguments))))
-    unfolding parts.limitOf
-    opened = inv ∙ rw here (ap parts.limitOption (from-place (described abi .arguments) i))
+    opened : total ≡ told.limitOption (limitOf (rule .when) (homogeneousLimit (drop (suc i) (described abi .arguments))))
+    unfolding told.limitOf
+    opened = inv ∙ rw here (ap told.limitOption (from-place (described abi .arguments) i))
 
-    pub limit-next : limit ≡ limits.the-variants.Nothing → total ≡ parts.limitOf (drop (i + 1) (described abi .arguments))
-    unfolding parts.limitOf
-    limit-next e = opened ∙ rw add-one (ap parts.limitOption (passes-on (rule .when) _ (sym em ∙ e)))
+    pub limit-next : limit ≡ limits.the-variants.Nothing → total ≡ told.limitOf (drop (i + 1) (described abi .arguments))
+    unfolding told.limitOf
+    limit-next e = opened ∙ rw add-one (ap told.limitOption (passes-on (rule .when) _ (sym em ∙ e)))
 
     pub limit-here : (n : ℕ) → limit ≡ limits.the-variants.Of n → limits.the-variants.Of n ≡ total
-    limit-here n e = sym (opened ∙ ap parts.limitOption (stays (rule .when) _ n (sym em ∙ e)))
+    limit-here n e = sym (opened ∙ ap told.limitOption (stays (rule .when) _ n (sym em ∙ e)))
 
 -- ---- the alignment
 
@@ -108,29 +102,29 @@ unfolding foundOf
 is-nothing (found ss) e = absurd (let z : _≡_ {A = ℕ} 0 1 = cc in omega arith)
 is-nothing nothing e = refl
 
-option-of : (o : Option ℕ) (n : ℕ) → parts.limitOption o ≡ limits.the-variants.Of n → o ≡ some n
+option-of : (o : Option ℕ) (n : ℕ) → told.limitOption o ≡ limits.the-variants.Of n → o ≡ some n
 option-of none n e = absurd (let z : _≡_ {A = ℕ} 0 1 = cc in omega arith)
 option-of (some m) n e = let q : m ≡ n = cc in rw q
 
-option-none : (o : Option ℕ) → parts.limitOption o ≡ limits.the-variants.Nothing → o ≡ none
+option-none : (o : Option ℕ) → told.limitOption o ≡ limits.the-variants.Nothing → o ≡ none
 option-none none e = refl
 option-none (some m) e = absurd (let z : _≡_ {A = ℕ} 0 1 = cc in omega arith)
 
-module _ (abi : ℕ) (shape : Shape) (ps : List Piece) (limit : limits.Limit) (el : limit ≡ parts.limitOf (described abi .arguments)) where
+module _ (abi : ℕ) (shape : Shape) (ps : List Piece) (limit : limits.Limit) (el : limit ≡ told.limitOf (described abi .arguments)) where
   module _ (B : Banks) (eb : B ≡ described abi .banks) (r : ℕ) (er : r ≡ max (shape .align) (B .«integer_width»)) where
-    pub packed-none : limit ≡ limits.the-variants.Nothing → r ≡ parts.packedAlign (described abi) shape ps
-    unfolding parts.packedAlign parts.limitOf
+    pub packed-none : limit ≡ limits.the-variants.Nothing → r ≡ told.packedAlign (described abi) shape ps
+    unfolding told.packedAlign told.limitOf
     packed-none e = rw (er, eb, option-none (homogeneousLimit (described abi .arguments)) (sym el ∙ e))
 
     pub packed-other : (n : ℕ) → limit ≡ limits.the-variants.Of n → (f : Found) → f ≡ foundOf (homogeneous n shape ps) → f ≡ founds.the-variants.Nothing
-        → r ≡ parts.packedAlign (described abi) shape ps
-    unfolding parts.packedAlign parts.limitOf
+        → r ≡ told.packedAlign (described abi) shape ps
+    unfolding told.packedAlign told.limitOf
     packed-other n e f ef x =
         rw (er, eb, option-of (homogeneousLimit (described abi .arguments)) n (sym el ∙ e), is-nothing (homogeneous n shape ps) (sym ef ∙ x))
 
   pub packed-homogeneous : (n : ℕ) → limit ≡ limits.the-variants.Of n → (f : Found) → f ≡ foundOf (homogeneous n shape ps) → (k m : ℕ) → f ≡ founds.the-variants.Slots k m
-      → shape .align ≡ parts.packedAlign (described abi) shape ps
-  unfolding parts.packedAlign parts.limitOf
+      → shape .align ≡ told.packedAlign (described abi) shape ps
+  unfolding told.packedAlign told.limitOf
   packed-homogeneous n e f ef k m x =
       rw (option-of (homogeneousLimit (described abi .arguments)) n (sym el ∙ e), is-found (homogeneous n shape ps) k m (sym ef ∙ x))
 
@@ -139,20 +133,6 @@ module _ (abi : ℕ) (shape : Shape) (ps : List Piece) (o : Others) (eo : o ≡ 
   unfolding inMemory
   align-plain e = let q : described abi .«stack_args» ≡ RegisterSized = rw eo at e in rw q
 
-  pub align-packed : o .«stack_args» ≡ Packed → (r : ℕ) → r ≡ parts.packedAlign (described abi) shape ps → r ≡ inMemory (described abi) shape ps
-  unfolding inMemory parts.packedAlign
+  pub align-packed : o .«stack_args» ≡ Packed → (r : ℕ) → r ≡ told.packedAlign (described abi) shape ps → r ≡ inMemory (described abi) shape ps
+  unfolding inMemory told.packedAlign
   align-packed e r er = let q : described abi .«stack_args» ≡ Packed = rw eo at e in rw (er, q)
-
-or-refused : (n align : ℕ) → (n ≡ accepted → ⊥) → _≡_ {A = InMemory} (record { refusal = n; align = 0 }) (orAlign n align)
-or-refused zero align h = absurd (h refl)
-or-refused (suc n) align h = refl
-
-module _ (c : Call) (shape : Shape) (ws : List ℕ) (n : ℕ) (en : n ≡ refusalOf c (args.the-variants.Aggregate shape) ws) where
-  pub memory-refused : (n ≡ accepted → ⊥) → _≡_ {A = InMemory} (record { refusal = n; align = 0 }) (inMemoryAnswer c shape ws)
-  unfolding inMemoryAnswer
-  memory-refused h = rw (← en) (or-refused n _ h)
-
-  pub memory-answered : n ≡ accepted → (a : ℕ) → a ≡ inMemory (described (c .abi)) shape (piecesOf ws)
-      → _≡_ {A = InMemory} (record { refusal = accepted; align = a }) (inMemoryAnswer c shape ws)
-  unfolding inMemoryAnswer
-  memory-answered z a ea = rw (← en, z, ea)

@@ -1,8 +1,8 @@
 -- `search` answers what a test finds and where it stands: each way out is one law of its test. Assumes nothing.
-use Rattle.classify.proofs.Steps.{test-anything, test-empty, test-one-of, test-at-most, test-homogeneous, test-pair, test-x87, test-lone, test-mode, test-complex, test-eightbytes}
+use Rattle.search.proofs.Searching.{test-anything, test-empty, test-one-of, test-at-most, test-homogeneous, test-pair, test-x87, test-lone, test-mode, test-complex, test-eightbytes}
 use borrow.Author.Needs.{needs}
-use Rattle.classify.proofs.search.Statement.{statement}
-use Rattle.classify.proofs.search.Tie as tie
+use Rattle.search.proofs.search.Statement.{statement}
+use Rattle.search.proofs.search.Tie as tie
 
 enum-told : tie.Need-enum-told
 enum-told c = search needs

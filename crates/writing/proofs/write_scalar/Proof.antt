@@ -1,8 +1,8 @@
 -- `write_scalar` writes the slots of a scalar. Assumes nothing.
 use borrow.Author.Needs.{needs}
-use Rattle.classify.proofs.Steps.{scalar-none, scalar-each, scalar-classes, scalar-cut, scalar-one}
-use Rattle.classify.proofs.write_scalar.Statement.{statement}
-use Rattle.classify.proofs.write_scalar.Tie as tie
+use Rattle.writing.proofs.Writing.{scalar-none, scalar-each, scalar-classes, scalar-cut, scalar-one}
+use Rattle.writing.proofs.write_scalar.Statement.{statement}
+use Rattle.writing.proofs.write_scalar.Tie as tie
 
 pub write-scalar-spec : {M : Type 1} → statement M
 write-scalar-spec =

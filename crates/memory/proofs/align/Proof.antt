@@ -1,8 +1,8 @@
--- `memory_align` answers the alignment in the argument area. Assumes nothing.
-use Rattle.classify.proofs.Aligned.{align-plain, align-packed}
+-- `align` answers the alignment in the argument area. Assumes nothing.
+use Rattle.memory.proofs.Aligned.{align-plain, align-packed}
 use borrow.Author.Needs.{needs}
-use Rattle.classify.proofs.memory_align.Statement.{statement}
-use Rattle.classify.proofs.memory_align.Tie as tie
+use Rattle.memory.proofs.align.Statement.{statement}
+use Rattle.memory.proofs.align.Tie as tie
 
 others-requires : tie.Need-others-requires
 others-requires c κs = search needs
@@ -22,7 +22,7 @@ returns c = search (align-plain)
 returns-2 : tie.Need-returns-2
 returns-2 c = search (align-packed)
 
-pub memory-align-spec : {M : Type 1} → statement M
-memory-align-spec =
+pub align-spec : {M : Type 1} → statement M
+align-spec =
     tie.close
     (tie.spec others-requires enum-told enum-told-2 packed-align-requires returns returns-2)

@@ -1,0 +1,51 @@
+-- The alignment of an aggregate in the argument area (REFERENCE 9.7), as the Rust's `in_memory` has it.
+use Prim.Native.Nat.{ℕ, max}
+use mathlib.Core.List.{List, [], _∷_}
+use mathlib.Core.Bool.{Bool, true, false, cond}
+use mathlib.Core.Option.{Option}
+use mathlib.Core.Option.Option.{none, some}
+use Rattle.shape.specs.declared.Piece.{Piece}
+use Rattle.shape.specs.declared.Shape.{Shape}
+use Rattle.slots.specs.Search.{Search, found, nothing}
+use Rattle.describe.specs.declared.Rule.{Rule}
+use Rattle.describe.specs.declared.Test.{Test}
+use Rattle.describe.specs.declared.Test as tests
+use Rattle.describe.specs.declared.StackArgs.{StackArgs}
+use Rattle.describe.specs.declared.StackArgs.the-variants.{RegisterSized, Packed}
+use Rattle.describe.specs.Description.{Description}
+use Rattle.find.specs.Find.{homogeneous}
+
+-- the limit of the first rule for homogeneous aggregates, if there is one
+abbrev pub limitOf : Test → Option ℕ → Option ℕ
+limitOf tests.the-variants.Anything rest = rest
+limitOf tests.the-variants.Empty rest = rest
+limitOf (tests.the-variants.SizeOneOf a b c d) rest = rest
+limitOf (tests.the-variants.SizeAtMost n) rest = rest
+limitOf (tests.the-variants.Homogeneous limit) rest = some limit
+limitOf tests.the-variants.FloatPair rest = rest
+limitOf tests.the-variants.X87Stack rest = rest
+limitOf tests.the-variants.LoneFloat rest = rest
+limitOf tests.the-variants.FloatingMode rest = rest
+limitOf tests.the-variants.ComplexFloat rest = rest
+limitOf (tests.the-variants.Eightbytes n) rest = rest
+
+unfoldable pub homogeneousLimit : List Rule → Option ℕ
+homogeneousLimit [] = none
+homogeneousLimit (rule ∷ rules) = limitOf (rule .when) (homogeneousLimit rules)
+
+abbrev pub isFound : Search → Bool
+isFound (found ss) = true
+isFound nothing = false
+
+abbrev pub isHomogeneousBy : Option ℕ → Shape → List Piece → Bool
+isHomogeneousBy none shape ps = false
+isHomogeneousBy (some limit) shape ps = isFound (homogeneous limit shape ps)
+
+abbrev pub memoryBy : StackArgs → Description → Shape → List Piece → ℕ
+memoryBy RegisterSized D shape ps = shape .align
+memoryBy Packed D shape ps =
+    cond (isHomogeneousBy (homogeneousLimit (D .arguments)) shape ps) (shape .align) (max (shape .align) (D .banks .«integer_width»))
+
+-- what a fixed argument that travels as Memory is aligned to in the argument area
+unfoldable pub inMemory : Description → Shape → List Piece → ℕ
+inMemory D shape ps = memoryBy (D .«stack_args») D shape ps
