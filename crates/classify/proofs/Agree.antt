@@ -38,6 +38,7 @@ use Rattle.spend.specs.declared.Slots.{Slots}
 use Rattle.spend.specs.declared.Decision.{Decision}
 use Rattle.spend.specs.declared.Step as steps
 use Rattle.spend.specs.Ways as made
+use Rattle.spend.specs.Ways.{after, leftAfter}
 use Rattle.spend.specs.Spending as rules
 use Rattle.scalars.specs.Spending as lone
 use Rattle.search.specs.Matches.{matches, sourceOf}
@@ -48,7 +49,7 @@ use Rattle.classify.specs.Classify as rust
 use Rattle.classify.specs.Classify.{Passed, passed, leaves, less, lessBoth, returns, argument, variadicArgument}
 use Rattle.classify.specs.Spending as spending
 use Rattle.classify.specs.Spending.{Chosen, chosen, returnChoice, argumentChoice, dotsChoice}
-use Rattle.classify.specs.Parts.{after, argClasses}
+use Rattle.classify.specs.Parts.{argClasses}
 use Rattle.classify.proofs.Sources.{source-slots, floats-cut}
 
 -- what a decision of the rules comes to, against what the Rust answers
@@ -56,10 +57,7 @@ pub record Agrees (left : Left) (p : Passed) (d : Decision) (ss : List Slot) : T
   pub way : wayOf (p .pass) ≡ d .way
   pub slots : slotsOf (p .pass) ≡ ss
   pub count : length (slotsOf (p .pass)) ≡ d .count
-  pub left-is : p .left
-      ≡ leaves (after (left .integer) (d .spent .«integers_passed») (d .spent .«integers_given»))
-      (after (left .float) (d .spent .«floats_passed») (d .spent .«floats_given»))
-      (left .«integers_only»)
+  pub left-is : p .left ≡ leftAfter left (d .spent)
   pub integers : d .spent .«integers_passed» + d .spent .«integers_given» ≤ left .integer
   pub floats : d .spent .«floats_passed» + d .spent .«floats_given» ≤ left .float
 

@@ -1,6 +1,6 @@
 -- The laws of the parts of an operation: each way out of the code is one line of a definition. A law's premises are the tests and the callees'
 -- promises as the code has them. Assumes nothing.
-use Prim.Native.Nat.{ℕ, zero, suc, _-_, _/_, _≤_, _<_}
+use Prim.Native.Nat.{ℕ, zero, suc, _/_, _≤_, _<_}
 use mathlib.Core.Path.{_≡_, refl}
 use mathlib.Core.List.{List, []}
 use mathlib.Core.Bool.{Bool, true, false, _&&_, _||_, not}
@@ -21,7 +21,9 @@ use Rattle.describe.specs.declared.Variadic.{Variadic}
 use Rattle.describe.specs.Description.{Description}
 use Rattle.describe.specs.Row.{packed}
 use Rattle.abis.specs.Abis.{described}
+use Rattle.spend.specs.declared.Left.{Left}
 use Rattle.spend.specs.declared.Decision.{Decision}
+use Rattle.spend.specs.Ways.{leftAfter}
 use Rattle.writing.specs.Slots.{slotsIn, slotsInScalar}
 use Rattle.memory.specs.InMemory.{inMemory}
 use Rattle.classify.specs.declared.Arg as args
@@ -30,7 +32,7 @@ use Rattle.classify.specs.declared.Answer.{Answer}
 use Rattle.classify.specs.declared.InMemory.{InMemory}
 use Rattle.classify.specs.declared.Decided.{Decided}
 use Rattle.classify.specs.Classify.{leaves, variadic, isIntegersOnly}
-use Rattle.classify.specs.Answers.{descriptions, callOf, callRefusal, argRefusal, refusalOf, refused, done, orAnswer, freshAnswer, variadicAnswer, voidAnswer, orAlign, inMemoryAnswer}
+use Rattle.classify.specs.Answers.{descriptions, leftOf, callOf, answered, callRefusal, argRefusal, refusalOf, refused, done, orAnswer, freshAnswer, variadicAnswer, voidAnswer, orAlign, inMemoryAnswer}
 use Rattle.classify.specs.Parts as parts
 
 -- ---- check
@@ -118,10 +120,9 @@ module _ (d : Decision) (out : List ℕ) (room : ℕ) (er : room ≡ length out 
   unfolding parts.finishedScalarIn
   fit-scalar h out′ e = rw (e, ← er, le-ltb _ _ h)
 
-pub accepts : (c : Call) (d : Decision) (i₁ i₂ f₁ f₂ : ℕ) → i₁ ≡ c .integer - d .spent .«integers_passed» → i₂ ≡ i₁ - d .spent .«integers_given»
-    → f₁ ≡ c .float - d .spent .«floats_passed» → f₂ ≡ f₁ - d .spent .«floats_given»
-    → _≡_ {A = Answer} (record { next = callOf (c .abi) (leaves i₂ f₂ (c .«integers_only»)); outcome = record { refusal = accepted; way = d .way; spent = d .spent; slots = d .count } }) (parts.accepted c d)
-accepts c d i₁ i₂ f₁ f₂ e₁ e₂ e₃ e₄ = rw (e₂, e₁, e₄, e₃)
+pub accepts : (c : Call) (d : Decision) (before : Left) → before ≡ leftOf c → (left : Left) → left ≡ leftAfter before (d .spent)
+    → _≡_ {A = Answer} (answered (callOf (c .abi) left) accepted (d .way) (d .spent) (d .count)) (parts.accepted c d)
+accepts c d before eb left el = rw (el, eb)
 
 module _ (c : Call) (d : Decision) (out : List ℕ) (room : ℕ) (er : room ≡ length out / slotSize) (r : Answer) where
   pub short-answer : room < d .count → r ≡ refused c no-room → r ≡ parts.finished c d out

@@ -1,6 +1,6 @@
 -- What the parts of an operation answer one another: the walk, and the answer. These say how the code goes about it;
 -- what an operation means is in Classify.antt and Spending.antt, and proofs/Agree.antt has this meet that.
-use Prim.Native.Nat.{ℕ, _-_, _/_}
+use Prim.Native.Nat.{ℕ, _/_}
 use mathlib.Core.List.{List}
 use mathlib.Core.Bool.{Bool, true, false, cond}
 use lib.Dec.{ltb}
@@ -31,7 +31,7 @@ use Rattle.classify.specs.declared.Answer.{Answer}
 use Rattle.classify.specs.declared.Decided.{Decided}
 use Rattle.classify.specs.Classify.{leaves}
 use Rattle.classify.specs.Spending.{Chosen, ignored, aggregate}
-use Rattle.classify.specs.Answers.{answered, callOf, refused, refusalOf, orAnswer, unlessRefused}
+use Rattle.classify.specs.Answers.{leftOf, answered, callOf, refused, refusalOf, orAnswer, unlessRefused}
 
 -- ---- the walk
 
@@ -100,21 +100,8 @@ decideBy D returning variadic left (args.the-variants.Aggregate shape) ps = aggr
 
 -- ---- the writing and the answer
 
--- what is left of a bank
-abbrev pub after : ℕ → ℕ → ℕ → ℕ
-after left passed given = left - passed - given
-
 abbrev pub accepted : Call → Decision → Answer
-accepted c d =
-    answered
-    (callOf (c .abi)
-    (leaves (after (c .integer) (d .spent .«integers_passed») (d .spent .«integers_given»))
-    (after (c .float) (d .spent .«floats_passed») (d .spent .«floats_given»))
-    (c .«integers_only»)))
-    numbers.accepted
-    (d .way)
-    (d .spent)
-    (d .count)
+accepted c d = answered (callOf (c .abi) (made.leftAfter (leftOf c) (d .spent))) numbers.accepted (d .way) (d .spent) (d .count)
 
 unfoldable pub finished : Call → Decision → List ℕ → Answer
 finished c d out = cond (ltb (length out / slotSize) (d .count)) (refused c numbers.no-room) (accepted c d)

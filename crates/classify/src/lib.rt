@@ -15,7 +15,7 @@ use spend::Step;
 use spend::Way;
 ghost use mathlib.Core.Path.{_≡_};
 ghost use mathlib.Core.List.{[]};
-ghost use Prim.Native.Nat.{_-_, _<_};
+ghost use Prim.Native.Nat.{_<_};
 ghost use Rattle.shape.specs.Words.{piecesOf};
 ghost use Rattle.describe.specs.Row.{packed};
 ghost use Rattle.abis.specs.Abis.{described};
@@ -489,23 +489,20 @@ fn finish(call: Call, decided: Decided, words: &[u64], out: &mut [u64]) -> Answe
     accept(call, decision)
 }
 
-// The registers left are those before less those passed over and given.
+// The call that is handed back has what is left after what was spent.
 fn accept(call: Call, decision: Decision) -> Answer
     ensures { λ r. ⌜ r ≡ parts.accepted call decision ⌝ }
 {
     let spent = decision.spent;
     let travels = decision.way;
-    let next = Call {
-        abi: call.abi,
-        integer: minus(
-            minus(call.integer, spent.integers_passed),
-            spent.integers_given,
-        ),
-        float: minus(minus(call.float, spent.floats_passed), spent.floats_given),
-        integers_only: call.integers_only,
-    };
+    let left = spend::left_after(left_of(call), spent);
     Answer {
-        next,
+        next: Call {
+            abi: call.abi,
+            integer: left.integer,
+            float: left.float,
+            integers_only: left.integers_only,
+        },
         outcome: Outcome {
             refusal: shape::ACCEPTED,
             way: travels,
@@ -549,10 +546,4 @@ fn left_of(call: Call) -> Left
         float: call.float,
         integers_only: call.integers_only,
     }
-}
-
-fn minus(a: u64, b: u64) -> u64
-    ensures { λ r. ⌜ r ≡ a - b ⌝ }
-{
-    if a < b { 0 } else { a - b }
 }

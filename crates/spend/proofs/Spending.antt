@@ -18,10 +18,11 @@ use Rattle.describe.specs.declared.ReturnPointer.{ReturnPointer}
 use Rattle.describe.specs.declared.ReturnPointer.the-variants.{FirstArgument, FirstArgumentPopped, Dedicated}
 use Rattle.spend.specs.declared.Left.{Left}
 use Rattle.spend.specs.declared.Way as ways
+use Rattle.spend.specs.declared.Spent.{Spent}
 use Rattle.spend.specs.declared.Slots.{Slots}
 use Rattle.spend.specs.declared.Decision.{Decision}
 use Rattle.spend.specs.declared.Step as steps
-use Rattle.spend.specs.Ways.{spends, plain, piecesOf, cutSlots, oneSlot}
+use Rattle.spend.specs.Ways.{spends, plain, piecesOf, cutSlots, oneSlot, leftAfter}
 use Rattle.spend.specs.Spending.{wantOf, reference, memory, byPointer, integerCost, floatCost, drainOf, whenShort, inSlots, byReference, inMemoryAndSpend, travelOf}
 
 -- ---- counts
@@ -136,3 +137,10 @@ module _ (B : Banks) (pointer : ReturnPointer) (returning : Bool) (left : Left) 
       → steps.the-variants.Decided d ≡ travelOf B pointer returning left rule size found
   unfolding travelOf
   travel-spend e want ew d ed = rw (ed, ew, e)
+
+-- ---- what is left
+
+pub left-less : (left : Left) (spent : Spent) (i₁ i₂ f₁ f₂ : ℕ) → i₁ ≡ left .integer - spent .«integers_passed» → i₂ ≡ i₁ - spent .«integers_given»
+    → f₁ ≡ left .float - spent .«floats_passed» → f₂ ≡ f₁ - spent .«floats_given»
+    → _≡_ {A = Left} (record { integer = i₂; float = f₂; «integers_only» = left .«integers_only» }) (leftAfter left spent)
+left-less left spent i₁ i₂ f₁ f₂ e₁ e₂ e₃ e₄ = rw (e₂, e₁, e₄, e₃)

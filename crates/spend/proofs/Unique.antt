@@ -11,6 +11,7 @@ use Rattle.spend.proofs.integers.Reads as integers
 use Rattle.spend.proofs.pieces.Reads as pieces
 use Rattle.spend.proofs.cut_slots.Reads as cut-slots
 use Rattle.spend.proofs.one_slot.Reads as one-slot
+use Rattle.spend.proofs.left_after.Reads as left-after
 
 way-number-decides : (κs : Lfts 0) → OneAnswer (way-number.Post κs)
 way-number-decides κs a r q s t p p′ = p ∙ sym p′
@@ -38,3 +39,6 @@ cut-slots-decides κs a r q s t p p′ = p ∙ sym p′
 
 one-slot-decides : (κs : Lfts 0) → OneAnswer (one-slot.Post κs)
 one-slot-decides κs a r q s t p p′ = p ∙ sym p′
+
+left-after-decides : (κs : Lfts 0) → OneAnswer (left-after.Post κs)
+left-after-decides κs a r q s t p p′ = p ∙ sym p′

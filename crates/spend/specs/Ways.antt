@@ -1,5 +1,5 @@
 -- Ways, their numbers, and the parts that a decision is made of (REFERENCE 9).
-use Prim.Native.Nat.{ℕ}
+use Prim.Native.Nat.{ℕ, _-_}
 use lib.ListN.{length}
 use Rattle.shape.specs.Numbers.{integer}
 use Rattle.slots.specs.Cut.{cut}
@@ -7,6 +7,7 @@ use Rattle.spend.specs.declared.Way.{Way}
 use Rattle.spend.specs.declared.Way.the-variants.{Ignore, Direct, Pieces, Reference, Memory}
 use Rattle.spend.specs.declared.Source.{Source}
 use Rattle.spend.specs.declared.Source.the-variants.{Empty, Cut, One}
+use Rattle.spend.specs.declared.Left.{Left}
 use Rattle.spend.specs.declared.Slots.{Slots}
 use Rattle.spend.specs.declared.Spent.{Spent}
 use Rattle.spend.specs.declared.Decision.{Decision}
@@ -41,3 +42,15 @@ cutSlots size width = record { count = length (cut size width); floats = 0; sour
 -- one slot at the start: its kind, its size, and 1 where it is a float
 abbrev pub oneSlot : ℕ → ℕ → ℕ → Slots
 oneSlot kind size floats = record { count = 1; floats = floats; source = One kind 0 size }
+
+-- what is left of a bank: what was, less what is passed over and given
+abbrev pub after : ℕ → ℕ → ℕ → ℕ
+after left passed given = left - passed - given
+
+abbrev pub leftAfter : Left → Spent → Left
+leftAfter left spent =
+    record {
+      integer = after (left .integer) (spent .«integers_passed») (spent .«integers_given»);
+      float = after (left .float) (spent .«floats_passed») (spent .«floats_given»);
+      «integers_only» = left .«integers_only»;
+    }

@@ -8,7 +8,7 @@ use describe::Short;
 use describe::Travel;
 ghost use mathlib.Core.Path.{_≡_};
 ghost use Prim.Native.Nat.{_-_, min};
-ghost use Rattle.spend.specs.Ways.{wayNumber, spends, plain, piecesOf, cutSlots, oneSlot};
+ghost use Rattle.spend.specs.Ways.{wayNumber, spends, plain, piecesOf, cutSlots, oneSlot, leftAfter};
 ghost use Rattle.spend.specs.Spending.{wantOf, byPointer, travelOf, byReference, inMemoryAndSpend, inSlots, whenShort, integerCost, floatCost, drainOf};
 
 // What a call has left: registers in each bank, and whether floats go in integer registers alone.
@@ -292,6 +292,20 @@ pub fn one_slot(kind: u64, size: u64, floats: u64) -> Slots
             offset: 0,
             size,
         },
+    }
+}
+
+// What a call has left after an operation: what was left before, less what is passed over and given.
+pub fn left_after(left: Left, spent: Spent) -> Left
+    ensures { λ r. ⌜ r ≡ leftAfter left spent ⌝ }
+{
+    Left {
+        integer: minus(
+            minus(left.integer, spent.integers_passed),
+            spent.integers_given,
+        ),
+        float: minus(minus(left.float, spent.floats_passed), spent.floats_given),
+        integers_only: left.integers_only,
     }
 }
 
