@@ -10,8 +10,8 @@ use libc::STDOUT_FILENO;
 use shape::Scalar;
 use shape::Shape;
 use spend::Way;
-use text::append;
 ghost use mathlib.Core.Path.{_≡_};
+ghost use Rattle.io.specs.Counts.{Counts};
 ghost use Rattle.classify.specs.Answers.{variadicAnswer, returnsAnswer, returnsWritten, argumentAnswer, argumentWritten, dotsAnswer, dotsWritten};
 ghost use Rattle.bridge.specs.Lent.{argOf, outcomeIn};
 
@@ -25,37 +25,35 @@ struct Left {
     outcome: Outcome,
 }
 
-// Both calls behind an operation, the seed of the next one, whether the two forms agreed, and which place of the tally it counts in.
+// The call behind an operation, the seed of the next one, whether the two forms agreed, and which place of the tally it counts in. Where they
+// agreed they left one call.
 struct Turn {
-    value: Call,
-    lent: Call,
+    call: Call,
     seed: u64,
     same: bool,
     place: usize,
 }
 
 fn main() {
-    let mut words = [0u64; 32];
-    let mut first = [0u64; 24];
-    let mut second = [0u64; 24];
     let mut tally = [0u64; 16];
-    run(&mut words, &mut first, &mut second, &mut tally);
+    let done = agreed(&mut tally);
+    say(done, &tally);
 }
 
-fn run(words: &mut [u64], first: &mut [u64], second: &mut [u64], tally: &mut [u64]) {
+// How many operations agree before one doesn't.
+fn agreed(tally: &mut [u64]) -> u64 {
     let mut turn = start();
     let mut done = 0;
     while done < OPERATIONS {
-        let next = one(turn, words, first, second);
+        let next = one(turn);
         if !next.same {
-            say(done, b" operations agree, and the next one differs", tally);
-            return;
+            return done;
         }
         count(tally, next.place);
         turn = next;
         done += 1;
     }
-    say(done, b" operations agree, by value and lent", tally);
+    done
 }
 
 // The refusals stand in the tally at their numbers, and the ways behind them.
@@ -81,33 +79,38 @@ fn start() -> Turn {
     let answer = Call::fresh(0);
     let call = answer.next;
     Turn {
-        value: call,
-        lent: call,
+        call,
         seed: SEED,
         same: true,
         place: 0,
     }
 }
 
-// One operation in both forms.
-fn one(turn: Turn, words: &mut [u64], first: &mut [u64], second: &mut [u64]) -> Turn {
+// One operation. The slot buffers hold a number of the history first, so that a word that one form alone writes shows.
+fn one(turn: Turn) -> Turn {
     let drawn = draw(turn.seed);
-    let value = turn.value;
-    let lent = turn.lent;
-    fill(words, drawn);
-    both(value, lent, drawn, words, first, second)
+    let call = turn.call;
+    let mut words = [0u64; 32];
+    let mut first = [drawn.a; 24];
+    let mut second = [drawn.a; 24];
+    fill(&mut words, drawn);
+    let n = among(words_of(drawn.c), &words);
+    let room = among(room_of(drawn.c), &first);
+    both(
+        renewed(call, drawn),
+        drawn,
+        &words[..n],
+        &mut first[..room],
+        &mut second[..room],
+    )
 }
 
-fn both(
-    value: Call,
-    lent: Call,
-    drawn: Drawn,
-    words: &[u64],
-    first: &mut [u64],
-    second: &mut [u64],
-) -> Turn {
-    let answer = pass(value, drawn, words, first);
-    let left = lend(lent, drawn, words, second);
+// An operation in both forms.
+fn both(call: Call, drawn: Drawn, words: &[u64], first: &mut [u64], second: &mut [u64]) -> Turn {
+    let op = drawn.a % 16;
+    let what = what_of(drawn);
+    let answer = pass(op, call, arg_of(what), words, first);
+    let left = lend(op, call, what, words, second);
     compared(answer, left, first, second, drawn.c)
 }
 
@@ -197,32 +200,18 @@ fn size_of(form: u64, b: u64, c: u64) -> u64 {
     if (c >> 6) % 32 < 6 {
         return (c >> 12) % 70;
     }
-    spread((c >> 2) % 6, c % 3)
+    spread((c >> 2) % 6, c)
 }
 
+// 1, 2, 4, 8 or 16; now and then 3, 64 or 65.
 fn scalar_size(k: u64) -> u64 {
-    if k < 12 {
-        return 1;
-    }
-    if k < 24 {
-        return 2;
-    }
-    if k < 36 {
-        return 4;
-    }
-    if k < 48 {
-        return 8;
-    }
     if k < 60 {
-        return 16;
+        return 1 << (k / 12);
     }
     if k < 62 {
         return 3;
     }
-    if k == 62 {
-        return 64;
-    }
-    65
+    k % 64 + 2
 }
 
 fn align_of(c: u64) -> u64 {
@@ -232,7 +221,7 @@ fn align_of(c: u64) -> u64 {
     if (c >> 18) % 64 < 5 {
         return 1;
     }
-    width(c % 3)
+    spread(1, c)
 }
 
 fn flag(k: u64) -> u64 {
@@ -242,42 +231,36 @@ fn flag(k: u64) -> u64 {
     0
 }
 
-// How wide a piece is, and so many times that.
-fn width(k: u64) -> u64 {
-    if k == 0 {
-        return 4;
-    }
-    if k == 1 {
-        return 8;
-    }
-    16
-}
-
-fn spread(n: u64, k: u64) -> u64 {
-    if k == 0 {
-        return n << 2;
-    }
-    if k == 1 {
-        return n << 3;
-    }
-    n << 4
+// So many times the width of a piece, which is 4, 8 or 16.
+fn spread(n: u64, c: u64) -> u64 {
+    n << (2 + c % 3)
 }
 
 // How many words of pieces are read: whole pieces but for now and then.
-fn words_of(c: u64) -> usize {
+fn words_of(c: u64) -> u64 {
     let n = ((c >> 2) % 6) << 2;
     if (c >> 50) % 64 == 0 {
-        return (n | 1) as usize;
+        return n | 1;
     }
-    n as usize
+    n
 }
 
 // How many words the slot buffer has: mostly room for eight slots.
-fn room_of(c: u64) -> usize {
+fn room_of(c: u64) -> u64 {
     if (c >> 40) % 4 == 0 {
-        return ((c >> 44) % 25) as usize;
+        return (c >> 44) % 25;
     }
     24
+}
+
+// So many words, or all where there are fewer.
+fn among(n: u64, words: &[u64]) -> usize
+    ensures { λ r. ⌜ Counts r (now (words .entry)) ⌝ }
+{
+    if n > words.len() as u64 {
+        return words.len();
+    }
+    n as usize
 }
 
 // The pieces, side by side.
@@ -295,9 +278,9 @@ fn word(i: u64, b: u64, c: u64) -> u64 {
         return piece_kind(i / 4, b);
     }
     if i % 4 == 3 {
-        return spread(i / 4, c % 3);
+        return spread(i / 4, c);
     }
-    width(c % 3)
+    spread(1, c)
 }
 
 fn piece_kind(piece: u64, b: u64) -> u64 {
@@ -312,26 +295,7 @@ fn piece_kind(piece: u64, b: u64) -> u64 {
 
 // ---- the value form
 
-// Where the words or the room aren't there, nothing is asked, and the two forms differ.
-fn pass(call: Call, drawn: Drawn, words: &[u64], slots: &mut [u64]) -> Answer {
-    let n = words_of(drawn.c);
-    if n > words.len() {
-        return Call::fresh(30);
-    }
-    let room = room_of(drawn.c);
-    if room > slots.len() {
-        return Call::fresh(30);
-    }
-    answered(
-        drawn.a % 16,
-        renewed(call, drawn),
-        arg_of(what_of(drawn)),
-        &words[..n],
-        &mut slots[..room],
-    )
-}
-
-fn answered(op: u64, call: Call, arg: Arg, words: &[u64], slots: &mut [u64]) -> Answer {
+fn pass(op: u64, call: Call, arg: Arg, words: &[u64], slots: &mut [u64]) -> Answer {
     if op == 0 {
         return call.variadic();
     }
@@ -372,25 +336,7 @@ fn arg_of(what: What) -> Arg {
 
 // ---- the forms over a lent call
 
-fn lend(call: Call, drawn: Drawn, words: &[u64], slots: &mut [u64]) -> Left {
-    let n = words_of(drawn.c);
-    if n > words.len() {
-        return mark(call);
-    }
-    let room = room_of(drawn.c);
-    if room > slots.len() {
-        return mark(call);
-    }
-    lent(
-        drawn.a % 16,
-        renewed(call, drawn),
-        what_of(drawn),
-        &words[..n],
-        &mut slots[..room],
-    )
-}
-
-fn lent(op: u64, call: Call, what: What, words: &[u64], slots: &mut [u64]) -> Left {
+fn lend(op: u64, call: Call, what: What, words: &[u64], slots: &mut [u64]) -> Left {
     if op == 0 {
         return mark(call);
     }
@@ -455,8 +401,7 @@ fn compared(answer: Answer, left: Left, first: &[u64], second: &[u64], seed: u64
     let outcome = answer.outcome;
     let told = left.outcome;
     Turn {
-        value,
-        lent,
+        call: lent,
         seed,
         same: same_calls(value, lent) & same_outcomes(outcome, told) & same_words(first, second),
         place: place_of(told),
@@ -509,41 +454,37 @@ fn same_words(first: &[u64], second: &[u64]) -> bool {
 
 // ---- the line
 
-fn say(done: u64, words: &[u8], tally: &[u64]) {
-    let mut space = [0u8; 512];
-    let out: &mut [u8] = &mut space;
-    let a = put_number(out, 0, done);
-    let b = append(out, a, words);
-    let c = append(out, b, b"; refused with 1 to 7:");
-    let d = put_counts(out, c, tally, 1, 8);
-    let e = append(out, d, b"; ways 0 to 4:");
-    let f = put_counts(out, e, tally, 8, 13);
-    let g = append(out, f, b"\n");
-    flush(out, g);
+fn say(done: u64, tally: &[u64]) {
+    io::print_decimal(STDOUT_FILENO, done);
+    say_how(done);
+    say_counts(b"; refused with 1 to 7:", tally, 1, 8);
+    say_counts(b"; ways 0 to 4:", tally, 8, 13);
+    io::write_all(STDOUT_FILENO, b"\n");
 }
 
-fn put_counts(out: &mut [u8], from: usize, tally: &[u64], first: usize, end: usize) -> usize {
-    let mut at = from;
+fn say_how(done: u64) {
+    if done < OPERATIONS {
+        io::write_all(
+            STDOUT_FILENO,
+            b" operations agree, and the next one differs",
+        );
+        return;
+    }
+    io::write_all(STDOUT_FILENO, b" operations agree, by value and lent");
+}
+
+fn say_counts(words: &[u8], tally: &[u64], first: usize, end: usize) {
+    io::write_all(STDOUT_FILENO, words);
     let mut i = first;
     while i < end {
-        if i >= tally.len() {
-            return at;
-        }
-        at = append(out, at, b" ");
-        at = put_number(out, at, tally[i]);
+        say_count(tally, i);
         i += 1;
     }
-    at
 }
 
-fn flush(out: &[u8], at: usize) {
-    if at <= out.len() {
-        io::write_all(STDOUT_FILENO, &out[..at]);
+fn say_count(tally: &[u64], i: usize) {
+    io::write_all(STDOUT_FILENO, b" ");
+    if i < tally.len() {
+        io::print_decimal(STDOUT_FILENO, tally[i]);
     }
-}
-
-fn put_number(out: &mut [u8], at: usize, n: u64) -> usize {
-    let mut digits = [0u8; 20];
-    let k = io::decimal(n, &mut digits);
-    append(out, at, &digits[..k])
 }
