@@ -5,16 +5,19 @@ use libc::STDOUT_FILENO;
 use shape::Shape;
 use slots::Found;
 use text::append;
-ghost use Prim.Native.Nat.{_+_, _≤_};
-ghost use lib.ListN.{length};
 ghost use Rattle.io.specs.Counts.{Counts};
 
-// Bytes of a record and of its words, and the most pieces that a shape may have here.
-const RECORD: usize = 48;
-
+// Bytes of a word, words of a record, and the most pieces that a shape may have here.
 const WORD: usize = 8;
 
+const RECORD: usize = 6;
+
 const MOST_PIECES: u64 = 64;
+
+// The lines of a shape, and how many of them come before those of the eightbytes.
+const LINES: usize = 20;
+
+const TESTS: usize = 15;
 
 // A proved loop has to end, and nothing says that the input does. So the turns are counted down from a number that no run uses up.
 fn main() {
@@ -26,115 +29,96 @@ fn main() {
 
 // Reads a shape and its pieces and prints its lines; whether another shape may follow.
 fn one_shape() -> bool {
-    let mut head = [0u8; 48];
-    let got = io::read_full(STDIN_FILENO, &mut head);
-    if got < RECORD {
+    let mut bytes = [0u8; 48];
+    let mut head = [0u64; 6];
+    if !read(&mut bytes, &mut head) {
         return false;
     }
-    let flags = word(&head, 4 * WORD);
-    let shape = Shape {
-        size: word(&head, 2 * WORD),
-        align: word(&head, 3 * WORD),
-        complex: flags % 2 == 1,
-        floating: flags / 2 % 2 == 1,
-    };
-    let count = word(&head, 5 * WORD);
+    answer(shape_of(head), head[5])
+}
+
+fn shape_of(head: [u64; 6]) -> Shape {
+    Shape {
+        size: head[2],
+        align: head[3],
+        complex: head[4] % 2 == 1,
+        floating: head[4] / 2 % 2 == 1,
+    }
+}
+
+// Reads so many pieces and prints the shape's lines; whether all came and went.
+fn answer(shape: Shape, count: u64) -> bool {
+    let mut bytes = [0u8; 3072];
+    let mut words = [0u64; 384];
     if count > MOST_PIECES {
         io::write_all(STDOUT_FILENO, b"too many\n");
         return false;
     }
-    answer(shape, count as usize)
+    let n = count as usize * RECORD;
+    let size = n * WORD;
+    with_pieces(shape, &mut bytes[..size], &mut words[..n])
 }
 
-// Reads so many pieces and prints the shape's lines; whether all came and went.
-fn answer(shape: Shape, count: usize) -> bool
-    requires { ⌜ count ≤ 64 ⌝ }
-{
-    let mut bytes = [0u8; 3072];
-    let mut words = [0u64; 256];
-    if !read_pieces(count, &mut bytes, &mut words) {
+fn with_pieces(shape: Shape, bytes: &mut [u8], words: &mut [u64]) -> bool {
+    if !read(bytes, words) {
         return false;
     }
-    print(shape, &words, count * shape::PIECE)
+    let n = close_up(words);
+    print(shape, &words[..n])
 }
 
-// Reads so many pieces; whether all came.
-fn read_pieces(count: usize, bytes: &mut [u8], words: &mut [u64]) -> bool
-    requires { ⌜ (count ≤ 64) × (256 ≤ length (now words)) ⌝ }
-{
-    let n = count * RECORD;
-    if n > bytes.len() {
+// Reads so many bytes into words; whether all came.
+fn read(bytes: &mut [u8], words: &mut [u64]) -> bool {
+    if io::read_full(STDIN_FILENO, bytes) < bytes.len() {
         return false;
     }
-    let got = io::read_full(STDIN_FILENO, &mut bytes[..n]);
-    if got < n {
-        return false;
-    }
-    unpack(bytes, words, count * shape::PIECE);
+    unpack(bytes, words);
     true
 }
 
-// The words of the pieces: those behind the first of each record.
-fn unpack(bytes: &[u8], words: &mut [u64], n: usize)
-    requires { ⌜ (n ≤ 256) × (n ≤ length (now words)) ⌝ }
+// The little-endian words of the bytes.
+fn unpack(bytes: &[u8], words: &mut [u64]) {
+    for i in 0..bytes.len() {
+        shift_in(words, i / WORD, bytes[i]);
+    }
+}
+
+// A byte goes to the top of a word. Eight of them leave nothing of what the word was.
+fn shift_in(words: &mut [u64], at: usize, byte: u8) {
+    if at < words.len() {
+        words[at] = (words[at] >> 8) | ((byte as u64) << 56);
+    }
+}
+
+// The words of the pieces, those behind the first of each record, move to the front; how many there are.
+fn close_up(words: &mut [u64]) -> usize
+    ensures { λ r. ⌜ Counts r (now (words .exit)) ⌝ }
 {
-    let mut i = 0;
-    while i < n {
-        words[i] = word(
-            bytes,
-            i / shape::PIECE * RECORD + (i % shape::PIECE + 1) * WORD,
-        );
-        i += 1;
+    let n = words.len() / RECORD * shape::PIECE;
+    for i in 0..n {
+        words[i] = words[i / shape::PIECE * RECORD + i % shape::PIECE + 1];
     }
+    n
 }
 
-// The little-endian word that starts at a place of the bytes, 0 where none is left there.
-fn word(bytes: &[u8], at: usize) -> u64 {
-    let n = bytes.len();
-    if n < WORD {
-        return 0;
-    }
-    if at > n - WORD {
-        return 0;
-    }
-    half(bytes, at) | (half(bytes, at + 4) << 32)
-}
-
-fn half(bytes: &[u8], at: usize) -> u64
-    requires { ⌜ at + 4 ≤ length (now bytes) ⌝ }
-{
-    wide(bytes[at])
-        | (wide(bytes[at + 1]) << 8)
-        | (wide(bytes[at + 2]) << 16)
-        | (wide(bytes[at + 3]) << 24)
-}
-
-fn wide(b: u8) -> u64 {
-    b as u64
-}
-
-// Prints what every test finds in the pieces of so many words; whether it went.
-fn print(shape: Shape, words: &[u64], n: usize) -> bool {
+// Prints what every test finds in the pieces; whether it went.
+fn print(shape: Shape, pieces: &[u64]) -> bool {
     let mut each = [0u64; 192];
     let mut out = [0u8; 16384];
-    if n > words.len() {
-        return false;
-    }
-    find::put_pieces(&words[..n], &mut each);
-    let k = lines(shape, &words[..n], &each, &mut out);
-    io::write_all(STDOUT_FILENO, &out[..k])
+    find::put_pieces(pieces, &mut each);
+    let n = lines(shape, pieces, &each, &mut out);
+    io::write_all(STDOUT_FILENO, &out[..n])
 }
 
 // What every test finds, as text; how many bytes it has. `each` holds the slots of the pieces.
 fn lines(shape: Shape, pieces: &[u64], each: &[u64], out: &mut [u8]) -> usize
     ensures { λ r. ⌜ Counts r (now (out .exit)) ⌝ }
 {
-    let a = put_limits(out, shape, pieces, each);
-    let b = put_pair(out, a, pieces, each, 8, 16);
-    let c = put_pair(out, b, pieces, each, 8, 8);
-    let d = put_pair(out, c, pieces, each, 4, 8);
-    let e = put_others(out, d, shape, pieces, each);
-    within(put_eightbytes(out, e, shape, pieces), out)
+    let mut at = 0;
+    for test in 0..LINES {
+        at = line(out, at, test, shape, pieces, each);
+    }
+    within(at, out)
 }
 
 // A number of bytes, no more than there are.
@@ -147,113 +131,135 @@ fn within(n: usize, out: &[u8]) -> usize
     n
 }
 
-fn put_limits(out: &mut [u8], shape: Shape, pieces: &[u64], each: &[u64]) -> usize {
-    let mut at = 0;
-    let mut limit = 1;
-    while limit <= 8 {
-        at = append(out, at, b"homogeneous ");
-        at = put_number(out, at, limit);
-        at = put_found(out, at, find::homogeneous(shape, pieces, limit), each);
-        limit += 1;
-    }
-    at
-}
-
-fn put_pair(
+fn line(
     out: &mut [u8],
     at: usize,
-    pieces: &[u64],
-    each: &[u64],
-    integer_width: u64,
-    float_width: u64,
-) -> usize {
-    let a = append(out, at, b"float_pair ");
-    let b = put_number(out, a, integer_width);
-    let c = append(out, b, b" ");
-    let d = put_number(out, c, float_width);
-    put_found(
-        out,
-        d,
-        find::float_pair(pieces, integer_width, float_width),
-        each,
-    )
-}
-
-fn put_others(out: &mut [u8], at: usize, shape: Shape, pieces: &[u64], each: &[u64]) -> usize {
-    let a = put_line(out, at, b"x87_stack", find::x87_stack(shape, pieces), each);
-    let b = put_line(out, a, b"lone_float", find::lone_float(pieces), each);
-    let c = put_line(out, b, b"floating_mode", find::floating_mode(shape), each);
-    put_line(
-        out,
-        c,
-        b"complex_float",
-        find::complex_float(shape, pieces),
-        each,
-    )
-}
-
-fn put_eightbytes(out: &mut [u8], at: usize, shape: Shape, pieces: &[u64]) -> usize {
-    let a = put_eightbytes_within(out, at, shape, pieces, 8);
-    let b = put_eightbytes_within(out, a, shape, pieces, 16);
-    let c = put_eightbytes_within(out, b, shape, pieces, 24);
-    let d = put_eightbytes_within(out, c, shape, pieces, 32);
-    put_eightbytes_within(out, d, shape, pieces, 64)
-}
-
-fn put_eightbytes_within(
-    out: &mut [u8],
-    at: usize,
+    test: usize,
     shape: Shape,
     pieces: &[u64],
-    limit: u64,
+    each: &[u64],
 ) -> usize {
-    let mut each = [0u64; 24];
-    let answer = eightbytes::eightbytes(shape, pieces, limit);
-    let classes = answer.classes;
-    eightslots::put_eightbytes(classes, shape.size, &mut each);
-    let a = append(out, at, b"eightbytes ");
-    let b = put_number(out, a, limit);
-    let found = answer.found;
-    put_found(out, b, found, &each)
+    if test < TESTS {
+        return put_line(out, at, test, found_by(test, shape, pieces), each);
+    }
+    put_eightbytes(out, at, test, shape, pieces)
 }
 
-fn put_line(out: &mut [u8], at: usize, name: &[u8], found: Found, each: &[u64]) -> usize {
-    let to = append(out, at, name);
-    put_found(out, to, found, each)
+// What the test of a line finds.
+fn found_by(test: usize, shape: Shape, pieces: &[u64]) -> Found {
+    if test < 8 {
+        return find::homogeneous(shape, pieces, test as u64 + 1);
+    }
+    if test == 8 {
+        return find::float_pair(pieces, 8, 16);
+    }
+    if test == 9 {
+        return find::float_pair(pieces, 8, 8);
+    }
+    if test == 10 {
+        return find::float_pair(pieces, 4, 8);
+    }
+    if test == 11 {
+        return find::x87_stack(shape, pieces);
+    }
+    if test == 12 {
+        return find::lone_float(pieces);
+    }
+    if test == 13 {
+        return find::floating_mode(shape);
+    }
+    find::complex_float(shape, pieces)
+}
+
+fn put_eightbytes(out: &mut [u8], at: usize, test: usize, shape: Shape, pieces: &[u64]) -> usize {
+    let mut each = [0u64; 24];
+    let answer = eightbytes::eightbytes(shape, pieces, limit(test));
+    let classes = answer.classes;
+    eightslots::put_eightbytes(classes, shape.size, &mut each);
+    let found = answer.found;
+    put_line(out, at, test, found, &each)
+}
+
+// 8, 16, 24, 32 and 64 bytes.
+fn limit(test: usize) -> u64 {
+    if test == 19 {
+        return 64;
+    }
+    (test as u64 % 15 + 1) * 8
+}
+
+fn put_line(out: &mut [u8], at: usize, test: usize, found: Found, each: &[u64]) -> usize {
+    let a = put_text(out, at, test);
+    let b = put_found(out, a, found, each);
+    put_byte(out, b, b'\n')
+}
+
+// The front of a line, and what stands for nothing. Each has sixteen bytes here, filled up with dots.
+fn put_text(out: &mut [u8], at: usize, number: usize) -> usize {
+    let texts = b"homogeneous 1...homogeneous 2...homogeneous 3...homogeneous 4...\
+        homogeneous 5...homogeneous 6...homogeneous 7...homogeneous 8...\
+        float_pair 8 16.float_pair 8 8..float_pair 4 8..x87_stack.......\
+        lone_float......floating_mode...complex_float...eightbytes 8....\
+        eightbytes 16...eightbytes 24...eightbytes 32...eightbytes 64... nothing........";
+    put_up_to_dot(out, at, texts, number % 21 * 16)
+}
+
+// The text from a place on, up to the next dot.
+fn put_up_to_dot(out: &mut [u8], from: usize, text: &[u8], start: usize) -> usize {
+    let mut at = from;
+    for i in start..text.len() {
+        if text[i] == b'.' {
+            return at;
+        }
+        at = put_byte(out, at, text[i]);
+    }
+    at
 }
 
 // The end of a line: nothing, or how many slots and then that many of `each`.
 fn put_found(out: &mut [u8], at: usize, found: Found, each: &[u64]) -> usize {
     match found {
-        Found::Nothing => append(out, at, b" nothing\n"),
+        Found::Nothing => put_text(out, at, LINES),
         Found::Slots { count, floats: _ } => put_slots(out, at, count, each),
     }
 }
 
 fn put_slots(out: &mut [u8], at: usize, count: u64, each: &[u64]) -> usize {
-    let mut to = append(out, at, b" ");
-    to = put_number(out, to, count);
-    let n = shape::least(count, slots::room(each.len()) as u64) as usize * slots::SLOT;
-    let mut from = 0;
-    while n - from >= slots::SLOT {
-        to = put_slot(out, to, each[from], each[from + 1], each[from + 2]);
-        from += slots::SLOT;
+    let to = put_number(out, at, b' ', count);
+    put_words(out, to, count, each)
+}
+
+// The words of so many slots: a space before each slot, and a colon between its words.
+fn put_words(out: &mut [u8], from: usize, count: u64, each: &[u64]) -> usize {
+    let mut at = from;
+    for i in 0..each.len() {
+        if (i / slots::SLOT) as u64 >= count {
+            return at;
+        }
+        at = put_number(out, at, before(i % slots::SLOT), each[i]);
     }
-    append(out, to, b"\n")
+    at
 }
 
-// A space, and the words of a slot with a colon between them.
-fn put_slot(out: &mut [u8], at: usize, kind: u64, offset: u64, size: u64) -> usize {
-    let a = append(out, at, b" ");
-    let b = put_number(out, a, kind);
-    let c = append(out, b, b":");
-    let d = put_number(out, c, offset);
-    let e = append(out, d, b":");
-    put_number(out, e, size)
+fn before(word: usize) -> u8 {
+    if word == 0 {
+        return b' ';
+    }
+    b':'
 }
 
-fn put_number(out: &mut [u8], at: usize, n: u64) -> usize {
-    let mut text = [0u8; 20];
-    let k = io::decimal(n, &mut text);
-    append(out, at, &text[..k])
+// A byte, and a number behind it.
+fn put_number(out: &mut [u8], at: usize, byte: u8, n: u64) -> usize {
+    let mut digits = [0u8; 20];
+    let count = io::decimal(n, &mut digits);
+    let to = put_byte(out, at, byte);
+    append(out, to, &digits[..count])
+}
+
+fn put_byte(out: &mut [u8], at: usize, byte: u8) -> usize {
+    if at < out.len() {
+        out[at] = byte;
+        return at + 1;
+    }
+    at
 }
