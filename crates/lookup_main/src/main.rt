@@ -10,16 +10,21 @@ const UNKNOWN_ARCHITECTURE: u64 = 5;
 
 const UNKNOWN_SYSTEM: u64 = 4;
 
-const TARGETS: u64 = 60;
+const CONVENTIONS: u64 = 15;
 
-// Of these 7 and 512 aren't known.
-const CONVENTIONS: [u64; 15] = [0, 1, 2, 3, 4, 5, 6, 7, 256, 257, 258, 259, 260, 511, 512];
+const NAMES: u64 = 30;
 
-struct Target {
-    architecture: u64,
-    system: u64,
-    msvc: u64,
-}
+// The lines: those of the sixty targets, of each convention and each name on each of them, of each convention's attribute, and of whether its
+// callee pops. These are where the last four of them begin, and where they end: at multiples of the conventions.
+const CONVENTION_LINES: u64 = 60;
+
+const ASKED_LINES: u64 = 960;
+
+const ATTRIBUTE_LINES: u64 = 2760;
+
+const POPS_LINES: u64 = 2775;
+
+const LINES: u64 = 2790;
 
 fn main() {
     let mut space = io::large_buffer();
@@ -30,202 +35,170 @@ fn main() {
 }
 
 // The lines whose codes are all known, or those of which one isn't.
-fn section(out: &mut [u8], at: usize, unknown: bool) -> usize {
-    let at = targets(out, at, unknown);
-    let at = conventions(out, at, unknown);
-    let at = names(out, at, unknown);
-    let at = attributes(out, at, unknown);
-    pops(out, at, unknown)
-}
-
-fn targets(out: &mut [u8], from: usize, unknown: bool) -> usize {
+fn section(out: &mut [u8], from: usize, unknown: bool) -> usize {
     let mut at = from;
-    for number in 0..TARGETS {
-        at = target_line(out, at, unknown, target_at(number));
+    for i in 0..LINES {
+        at = line(out, at, unknown, i);
     }
     at
 }
 
-fn conventions(out: &mut [u8], from: usize, unknown: bool) -> usize {
-    let mut at = from;
-    for number in 0..TARGETS {
-        at = conventions_on(out, at, unknown, target_at(number));
-    }
-    at
-}
-
-fn conventions_on(out: &mut [u8], from: usize, unknown: bool, target: Target) -> usize {
-    let mut at = from;
-    for i in 0..15 {
-        at = convention_line(out, at, unknown, target, CONVENTIONS[i]);
-    }
-    at
-}
-
-// Each attribute's name, then with its first letter in the other case, one byte short and one byte long; a name that is no attribute's
-// alone; and the empty one, behind the last space.
-fn names(out: &mut [u8], at: usize, unknown: bool) -> usize {
-    let names = b"ms_abi Ms_abi ms_ab ms_abix sysv_abi Sysv_abi sysv_ab sysv_abix \
-        no_callee_saved_registers No_callee_saved_registers no_callee_saved_register no_callee_saved_registersx \
-        preserve_none Preserve_none preserve_non preserve_nonex stdcall Stdcall stdcal stdcallx \
-        fastcall Fastcall fastcal fastcallx cdecl Cdecl cdec cdeclx regparm ";
-    asked_for(out, at, unknown, names)
-}
-
-fn asked_for(out: &mut [u8], from: usize, unknown: bool, names: &[u8]) -> usize {
-    let mut at = from;
-    for number in 0..TARGETS {
-        at = asked_on(out, at, unknown, target_at(number), names);
-    }
-    at
-}
-
-fn asked_on(out: &mut [u8], from: usize, unknown: bool, target: Target, names: &[u8]) -> usize {
-    let mut at = from;
-    let mut start = 0;
-    while start <= names.len() {
-        let end = end_of(names, start);
-        at = asked_line(out, at, unknown, target, &names[start..end]);
-        start = end + 1;
-    }
-    at
-}
-
-fn attributes(out: &mut [u8], from: usize, unknown: bool) -> usize {
-    let mut at = from;
-    for i in 0..15 {
-        at = attribute_line(out, at, unknown, CONVENTIONS[i]);
-    }
-    at
-}
-
-fn pops(out: &mut [u8], from: usize, unknown: bool) -> usize {
-    let mut at = from;
-    for i in 0..15 {
-        at = pops_line(out, at, unknown, CONVENTIONS[i]);
-    }
-    at
-}
-
-fn target_line(out: &mut [u8], at: usize, unknown: bool, target: Target) -> usize {
-    if is_known_target(target) == unknown {
+fn line(out: &mut [u8], at: usize, unknown: bool, i: u64) -> usize {
+    if is_known(i) == unknown {
         return at;
     }
-    let answer = lookup::for_target(target.architecture, target.system, target.msvc == 1);
-    let at = begin(out, at, unknown, b"target");
-    let at = put_target(out, at, target);
-    let at = put_answer(out, at, answer);
-    end_line(out, at)
+    let a = put_word(out, at, word(i, unknown));
+    let b = put_numbers(out, a, i);
+    let c = put_named(out, b, i);
+    end_line(out, c)
 }
 
-fn convention_line(
-    out: &mut [u8],
-    at: usize,
-    unknown: bool,
-    target: Target,
-    convention: u64,
-) -> usize {
-    if (is_known_target(target) & is_known_convention(convention)) == unknown {
-        return at;
+// ---- what a line is about
+
+// Whether its codes are all known.
+fn is_known(i: u64) -> bool {
+    if i < CONVENTION_LINES {
+        return is_known_target(i);
     }
-    let answer = lookup::for_convention(
-        target.architecture,
-        target.system,
-        target.msvc == 1,
-        convention,
-    );
-    let at = begin(out, at, unknown, b"convention");
-    let at = put_target(out, at, target);
-    let at = put_answer(out, at, convention);
-    let at = put_answer(out, at, answer);
-    end_line(out, at)
-}
-
-fn asked_line(out: &mut [u8], at: usize, unknown: bool, target: Target, name: &[u8]) -> usize {
-    if is_known_target(target) == unknown {
-        return at;
+    if i < ASKED_LINES {
+        return is_known_target((i - CONVENTION_LINES) / CONVENTIONS)
+            & is_known_convention(convention(i));
     }
-    let answer = lookup::asked(target.architecture, target.system, target.msvc == 1, name);
-    let at = begin(out, at, unknown, b"asked");
-    let at = put_target(out, at, target);
-    let at = put_name(out, at, name);
-    let at = put_answer(out, at, answer);
-    end_line(out, at)
-}
-
-fn attribute_line(out: &mut [u8], at: usize, unknown: bool, convention: u64) -> usize {
-    if is_known_convention(convention) == unknown {
-        return at;
+    if i < ATTRIBUTE_LINES {
+        return is_known_target((i - ASKED_LINES) / NAMES);
     }
-    let at = begin(out, at, unknown, b"attribute");
-    let at = put_answer(out, at, convention);
-    let at = put_attribute(out, at, convention);
-    end_line(out, at)
+    is_known_convention(convention(i))
 }
 
-fn pops_line(out: &mut [u8], at: usize, unknown: bool, convention: u64) -> usize {
-    if is_known_convention(convention) == unknown {
-        return at;
-    }
-    let answer = lookup::callee_pops(convention) as u64;
-    let at = begin(out, at, unknown, b"pops");
-    let at = put_answer(out, at, convention);
-    let at = put_answer(out, at, answer);
-    end_line(out, at)
-}
-
-// The architecture outermost, then the system, then MSVC.
-fn target_at(number: u64) -> Target {
-    Target {
-        architecture: number / 10,
-        system: number / 2 % 5,
-        msvc: number % 2,
-    }
-}
-
-fn is_known_target(target: Target) -> bool {
-    (target.architecture < UNKNOWN_ARCHITECTURE) & (target.system < UNKNOWN_SYSTEM)
+fn is_known_target(target: u64) -> bool {
+    (target / 10 < UNKNOWN_ARCHITECTURE) & (target / 2 % 5 < UNKNOWN_SYSTEM)
 }
 
 fn is_known_convention(convention: u64) -> bool {
     (convention != 7) & (convention != 512)
 }
 
-// Where the name that starts here ends: at the next space, or at the end.
-fn end_of(names: &[u8], start: usize) -> usize
-    requires { ⌜ start ≤ length (now names) ⌝ }
-    ensures { λ r. ⌜ (start ≤ r) × (r ≤ length (now (names .entry))) ⌝ }
-{
-    let mut end = start;
-    while end < names.len() {
-        if names[end] == b' ' {
-            return end;
-        }
-        end += 1;
+// 0 to 7, 256 to 260, 511 and 512. Of these 7 and 512 aren't known.
+fn convention(i: u64) -> u64 {
+    let k = i % CONVENTIONS;
+    if k < 8 {
+        return k;
     }
-    end
+    if k < 13 {
+        return 248 + k;
+    }
+    498 + k
 }
 
-fn begin(out: &mut [u8], at: usize, unknown: bool, word: &[u8]) -> usize {
+// ---- its word
+
+fn word(i: u64, unknown: bool) -> usize {
     if unknown {
-        let at = append(out, at, b"unknown ");
-        return append(out, at, word);
+        return 5 + kind(i) % 5;
     }
-    append(out, at, word)
+    kind(i)
 }
 
-fn put_target(out: &mut [u8], at: usize, target: Target) -> usize {
-    let at = put_answer(out, at, target.architecture);
-    let at = put_answer(out, at, target.system);
-    put_answer(out, at, target.msvc)
+fn kind(i: u64) -> usize {
+    if i < CONVENTION_LINES {
+        return 0;
+    }
+    if i < ASKED_LINES {
+        return 1;
+    }
+    if i < ATTRIBUTE_LINES {
+        return 2;
+    }
+    if i < POPS_LINES {
+        return 3;
+    }
+    4
 }
 
-fn put_name(out: &mut [u8], at: usize, name: &[u8]) -> usize {
-    let at = append(out, at, b" ");
-    if name.len() == 0 {
-        return append(out, at, b"-");
+// Each word has twenty bytes here, filled up with dots.
+fn put_word(out: &mut [u8], at: usize, word: usize) -> usize {
+    let words =
+        b"target..............convention..........asked...............attribute...........pops................\
+        unknown target......unknown convention..unknown asked.......unknown attribute...unknown pops........";
+    put_up_to_dot(out, at, words, word % 10 * 20)
+}
+
+// The text from a place on, up to the next dot.
+fn put_up_to_dot(out: &mut [u8], from: usize, text: &[u8], start: usize) -> usize {
+    let mut at = from;
+    for i in start..text.len() {
+        if text[i] == b'.' {
+            return at;
+        }
+        at = put_byte(out, at, text[i]);
     }
-    append(out, at, name)
+    at
+}
+
+// ---- its numbers
+
+fn put_numbers(out: &mut [u8], from: usize, i: u64) -> usize {
+    let mut at = from;
+    for k in 0..count(i) {
+        at = put_answer(out, at, number(i, k));
+    }
+    at
+}
+
+fn count(i: u64) -> u64 {
+    if i < CONVENTION_LINES {
+        return 4;
+    }
+    if i < ASKED_LINES {
+        return 5;
+    }
+    if i < ATTRIBUTE_LINES {
+        return 3;
+    }
+    if i < POPS_LINES {
+        return 1;
+    }
+    2
+}
+
+fn number(i: u64, k: u64) -> u64 {
+    if i < CONVENTION_LINES {
+        return on_target(i, k);
+    }
+    if i < ASKED_LINES {
+        return on_convention((i - CONVENTION_LINES) / CONVENTIONS, convention(i), k);
+    }
+    if i < ATTRIBUTE_LINES {
+        return on_target((i - ASKED_LINES) / NAMES, k);
+    }
+    if k == 0 {
+        return convention(i);
+    }
+    lookup::callee_pops(convention(i)) as u64
+}
+
+// A target's own numbers, the architecture outermost, then the system, then MSVC; and its description.
+fn on_target(target: u64, k: u64) -> u64 {
+    if k == 0 {
+        return target / 10;
+    }
+    if k == 1 {
+        return target / 2 % 5;
+    }
+    if k == 2 {
+        return target % 2;
+    }
+    lookup::for_target(target / 10, target / 2 % 5, target % 2 == 1)
+}
+
+fn on_convention(target: u64, convention: u64, k: u64) -> u64 {
+    if k < 3 {
+        return on_target(target, k);
+    }
+    if k == 3 {
+        return convention;
+    }
+    lookup::for_convention(target / 10, target / 2 % 5, target % 2 == 1, convention)
 }
 
 // A number behind a space, or the word for none.
@@ -235,27 +208,107 @@ fn put_answer(out: &mut [u8], at: usize, answer: u64) -> usize {
     }
     let mut digits = [0u8; 20];
     let count = io::decimal(answer, &mut digits);
-    let at = append(out, at, b" ");
-    append(out, at, &digits[..count])
+    put_name(out, at, &digits[..count])
+}
+
+// ---- its name
+
+fn put_named(out: &mut [u8], at: usize, i: u64) -> usize {
+    if i < ASKED_LINES {
+        return at;
+    }
+    if i < ATTRIBUTE_LINES {
+        return put_asked(out, at, i - ASKED_LINES);
+    }
+    if i < POPS_LINES {
+        return put_attribute(out, at, convention(i));
+    }
+    at
+}
+
+// Each attribute's name, then with its first letter in the other case, one byte short and one byte long; a name that is no attribute's
+// alone; and the empty one. Each has 28 bytes here, filled up with dots.
+fn put_asked(out: &mut [u8], at: usize, i: u64) -> usize {
+    let names =
+        b"ms_abi......................Ms_abi......................ms_ab.......................ms_abix.....................\
+        sysv_abi....................Sysv_abi....................sysv_ab.....................sysv_abix...................\
+        no_callee_saved_registers...No_callee_saved_registers...no_callee_saved_register....no_callee_saved_registersx..\
+        preserve_none...............Preserve_none...............preserve_non................preserve_nonex..............\
+        stdcall.....................Stdcall.....................stdcal......................stdcallx....................\
+        fastcall....................Fastcall....................fastcal.....................fastcallx...................\
+        cdecl.......................Cdecl.......................cdec........................cdeclx......................\
+        regparm.................................................";
+    put_asked_for(out, at, i, names)
+}
+
+fn put_asked_for(out: &mut [u8], at: usize, i: u64, names: &[u8]) -> usize {
+    let start = (i % NAMES) as usize * 28;
+    if start > names.len() {
+        return at;
+    }
+    let end = end_of(names, start);
+    put_asked_on(out, at, i / NAMES, &names[start..end])
+}
+
+// The name, and which convention it asks for on a target.
+fn put_asked_on(out: &mut [u8], at: usize, target: u64, name: &[u8]) -> usize {
+    let to = put_name(out, at, name);
+    put_answer(out, to, asked(target, name))
+}
+
+fn asked(target: u64, name: &[u8]) -> u64 {
+    lookup::asked(target / 10, target / 2 % 5, target % 2 == 1, name)
+}
+
+// Where the name that starts here ends: at the next dot.
+fn end_of(names: &[u8], start: usize) -> usize
+    requires { ⌜ start ≤ length (now names) ⌝ }
+    ensures { λ r. ⌜ (start ≤ r) × (r ≤ length (now (names .entry))) ⌝ }
+{
+    let mut end = start;
+    while end < names.len() {
+        if names[end] == b'.' {
+            return end;
+        }
+        end += 1;
+    }
+    end
 }
 
 fn put_attribute(out: &mut [u8], at: usize, convention: u64) -> usize {
     let mut name = [0u8; 32];
     let written = lookup::attribute(convention, &mut name);
     if written.length > 32 {
-        return append(out, at, b" none");
+        return put_answer(out, at, lookup::NONE);
     }
     let length = written.length as usize;
     put_name(out, at, &name[..length])
 }
 
+// Text behind a space.
+fn put_name(out: &mut [u8], at: usize, name: &[u8]) -> usize {
+    let to = put_byte(out, at, b' ');
+    if name.len() == 0 {
+        return put_byte(out, to, b'-');
+    }
+    append(out, to, name)
+}
+
+fn put_byte(out: &mut [u8], at: usize, byte: u8) -> usize {
+    if at < out.len() {
+        out[at] = byte;
+        return at + 1;
+    }
+    at
+}
+
 // A line is far shorter than what this leaves free.
 fn end_line(out: &mut [u8], at: usize) -> usize {
-    let at = append(out, at, b"\n");
-    if at < 65000 {
-        return at;
+    let to = put_byte(out, at, b'\n');
+    if to < 65000 {
+        return to;
     }
-    flush(out, at);
+    flush(out, to);
     0
 }
 

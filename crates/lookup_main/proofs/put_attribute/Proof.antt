@@ -1,12 +1,9 @@
--- `put_attribute` is safe: a name of at most 32 bytes is within the array.
+-- `put_attribute` is safe: a name of at most 32 bytes is within the array. Assumes nothing.
 use lib.ListN.{length-take}
 use native.Mathlib.Omega.{arith}
 use borrow.Author.Needs.{needs}
 use Rattle.lookup_main.proofs.put_attribute.Statement.{statement}
 use Rattle.lookup_main.proofs.put_attribute.Tie as tie
-
-slice-aggregate-put-name : tie.Need-slice-aggregate-put-name
-slice-aggregate-put-name c = simp length-take (omega arith)
 
 pub put-attribute-spec : {M : Type 1} → statement M
 put-attribute-spec =
@@ -14,12 +11,11 @@ put-attribute-spec =
     (tie.spec
     (λ c. search needs)
     (λ c κs. search needs)
-    (λ c. search needs)
     (λ c κs. search needs)
     (λ c. search needs)
     (λ c. search needs)
     (λ c. search needs)
-    slice-aggregate-put-name
+    (λ c. simp length-take (omega arith))
     (λ c κs. search needs)
     (λ c. search needs)
     (λ c. search needs))
