@@ -107,10 +107,6 @@ fits-last n p b e h = ltb-true _ _ (go (aligned p) (sym e ∙ not-false b h))
     go true x = x
     go false x = absurd (false≢true x)
 
-pub fits-by : (n : ℕ) (p : Piece) (b : Bool) (e : ℕ) → b ≡ aligned p → e ≡ endOf p → (b && ltb ((e - 1) / 8) n) ≡ fits n p
-unfolding fits
-fits-by n p b e eb ee = rw (eb, ee)
-
 module _ (total : Option (List Class)) (ws : List ℕ) (at n : ℕ) (xs : List ℕ)
     (inv : total ≡ marked (take n (map classOf xs)) (piecesOf (drop at ws))) (w : at ≤ length ws) where
   pub marked-end : length ws - at < 4 → total ≡ some (take n (map classOf xs))

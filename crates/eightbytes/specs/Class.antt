@@ -1,27 +1,7 @@
--- The class of one eightbyte, its code, and what two classes over one eightbyte make (REFERENCE 8).
-use Prim.Native.Nat.{ℕ}
+-- The classes, which stand in the crate classes, and what two over one eightbyte make (REFERENCE 8).
 use mathlib.Core.Bool.{Bool, cond, _||_}
-use mathlib.Core.List.{[], _∷_}
-use lib.Dec.{eqb}
-use lib.ListN.{getD}
-
-pub data Class : Type 0 where
-  None Integer Sse SseUp X87 Memory : Class
-
-unfoldable pub code : Class → ℕ
-code None = 0
-code Integer = 1
-code Sse = 2
-code SseUp = 3
-code X87 = 4
-code Memory = 5
-
--- the class of a code; a number that is no class's code counts as Memory
-unfoldable pub classOf : ℕ → Class
-classOf n = getD (None ∷ Integer ∷ Sse ∷ SseUp ∷ X87 ∷ []) n Memory
-
-unfoldable pub same : Class → Class → Bool
-same a b = eqb (code a) (code b)
+pub use Rattle.classes.specs.Class.{Class, None, Integer, Sse, SseUp, X87, Memory}
+unfoldable pub use Rattle.classes.specs.Class.{code, classOf, same}
 
 -- one of the two is this class
 abbrev pub either : Class → Class → Class → Bool

@@ -1,20 +1,22 @@
 -- The slots of a shape by the classes of its eightbytes, or nothing (REFERENCE 8), step by step as the Rust's `eightbytes` finds them.
-use Prim.Native.Nat.{ℕ, zero, suc, _+_, _-_, _/_, _%_, _<_, min}
-use mathlib.Core.Bool.{Bool, false, cond, not, _&&_, _||_}
+use Prim.Native.Nat.{ℕ, zero, suc, _+_, _-_, _<_, min}
+use mathlib.Core.Bool.{Bool, false, cond, not, _||_}
 use mathlib.Core.List.{List, [], _∷_, _++_, map}
 use mathlib.Core.Option.{Option}
 use mathlib.Core.Option.Option.{none, some}
-use lib.Dec.{leb, ltb, eqb}
+use lib.Dec.{leb, ltb}
 use lib.ListN.{length, getD, set, take, replicate}
 use Rattle.shape.specs.declared.Piece.{Piece}
 use Rattle.shape.specs.declared.Shape.{Shape}
-use Rattle.shape.specs.Numbers.{integer, single, double, x87-extended, quad}
-use Rattle.shape.specs.Questions.{endOf}
+use Rattle.shape.specs.Numbers.{single, double, quad}
 use Rattle.slots.specs.declared.Slot.{Slot}
 use Rattle.slots.specs.Words.{integerSlot, floatSlot}
 use Rattle.slots.specs.Cut.{ceilDiv}
 use Rattle.slots.specs.Search.{Search, found, nothing, oneIf}
-use Rattle.eightbytes.specs.Class.{Class, None, Integer, Sse, SseUp, X87, Memory, code, classOf, same, merge}
+use Rattle.eightbytes.specs.Class.{Class, None, Sse, SseUp, X87, Memory, code, classOf, same, merge}
+pub use Rattle.classes.specs.Class.{kindClass, later, mended}
+pub use Rattle.classes.specs.Reach.{firstOf, lastOf, aligned}
+unfoldable pub use Rattle.classes.specs.Reach.{fits}
 
 -- a limit above eight eightbytes counts as eight
 abbrev pub most-limit : ℕ
@@ -25,25 +27,6 @@ abbrev pub eightbytesIn : ℕ → ℕ
 eightbytesIn size = ceilDiv size 8
 
 -- ---- one piece
-
--- the first and the last eightbyte that it reaches into. Outside the limits its end stops at the largest number of 64 bits, far past any shape
-abbrev pub firstOf : Piece → ℕ
-firstOf p = p .offset / 8
-
-abbrev pub lastOf : Piece → ℕ
-lastOf p = (endOf p - 1) / 8
-
--- above an alignment of 1, its offset is a multiple of that
-abbrev pub aligned : Piece → Bool
-aligned p = leb (p .align) 1 || eqb (p .offset % p .align) 0
-
--- its class, by its kind: every kind but the integer's is a float's
-abbrev pub kindClass : ℕ → Class
-kindClass kind = cond (eqb kind integer) Integer (cond (eqb kind x87-extended) X87 Sse)
-
--- the class of its eightbytes after one of this class: those of an Sse piece are SseUp
-abbrev pub later : Class → Class
-later c = cond (same c Sse) SseUp c
 
 -- a class merged into so many eightbytes, from one on
 unfoldable pub cover : List Class → ℕ → Class → ℕ → List Class
@@ -56,10 +39,6 @@ mark cs p = cover cs (firstOf p) (kindClass (p .kind)) (lastOf p + 1 - firstOf p
 
 -- ---- the classes of a shape
 
--- what a piece has to do: stand where its alignment asks, and reach past none of so many eightbytes
-unfoldable pub fits : ℕ → Piece → Bool
-fits n p = aligned p && ltb (lastOf p) n
-
 -- the classes after some pieces, none where a piece doesn't fit
 unfoldable pub marked : List Class → List Piece → Option (List Class)
 marked cs [] = some cs
@@ -69,10 +48,6 @@ marked cs (p ∷ ps) = cond (fits (length cs) p) (marked (mark cs p) ps) none
 unfoldable pub spoiled : List Class → Bool
 spoiled [] = false
 spoiled (c ∷ cs) = (same c X87 || same c Memory) || spoiled cs
-
--- after the merge, from the first eightbyte up: SseUp with neither Sse nor SseUp below it is Sse
-abbrev pub mended : Class → Class → Class
-mended below c = cond (same c SseUp && not (same below Sse || same below SseUp)) Sse c
 
 unfoldable pub mend : Class → List Class → List Class
 mend below [] = []

@@ -1,5 +1,6 @@
 // The eightbytes of a shape, as the System V convention classifies them: each piece gives its class to the eightbytes that it reaches into,
-// and the classes decide the slots, which the crate eightslots writes. The rules are those of docs/REFERENCE.md, 8.
+// and the classes decide the slots, which the crate eightslots writes. What concerns one piece or one class stands in the crate classes. The
+// rules are those of docs/REFERENCE.md, 8.
 ghost use mathlib.Core.Path.{_≡_};
 ghost use mathlib.Core.List.{map};
 ghost use mathlib.Core.Option.Option.{none};
@@ -8,22 +9,20 @@ ghost use lib.ListN.{take, drop, replicate};
 ghost use Rattle.shape.specs.Words.{piecesOf};
 ghost use Rattle.slots.specs.Search.{foundOf, oneIf};
 ghost use Rattle.eightbytes.specs.Class.{code, classOf, merge as merge·};
-ghost use Rattle.eightbytes.specs.Eightbytes.{eightbytesIn, lastOf, aligned as aligned·, fits as fits·, kindClass, later as later·, mark as mark·};
-ghost use Rattle.eightbytes.specs.Eightbytes.{settled, mended as mended·, slotsFound, codes, eightbytes as eightbytes·, classesOf, Coded};
+ghost use Rattle.eightbytes.specs.Eightbytes.{eightbytesIn, lastOf, mark as mark·, settled, slotsFound, codes, classesOf, Coded};
+ghost use Rattle.eightbytes.specs.Eightbytes.{eightbytes as eightbytes·};
+pub use classes::EIGHTBYTE;
+use classes::NONE;
+pub use classes::SSE;
+pub use classes::SSE_UP;
+use classes::X87;
+use classes::class_of;
+use classes::fits;
+use classes::later;
+use classes::mended;
 use shape::Piece;
 use shape::Shape;
 use slots::Found;
-
-// Classes.
-const NONE: u8 = 0;
-
-const INTEGER: u8 = 1;
-
-pub const SSE: u8 = 2;
-
-pub const SSE_UP: u8 = 3;
-
-const X87: u8 = 4;
 
 // What two classes over one eightbyte make: the row is the class that stands there, the column the one that comes.
 const MERGE: [[u8; 6]; 6] = [
@@ -34,8 +33,6 @@ const MERGE: [[u8; 6]; 6] = [
     [4, 5, 5, 5, 4, 5],
     [5, 5, 5, 5, 5, 5],
 ];
-
-pub const EIGHTBYTE: u64 = 8;
 
 // The bytes of two eightbytes. Most shapes that come in registers have no more, so both the counting and the writing take these first.
 pub const PAIR: u64 = 16;
@@ -82,22 +79,6 @@ fn nothing() -> Classified
     }
 }
 
-// Whether a piece stands where its alignment asks and reaches past none of the eightbytes.
-fn fits(n: usize, p: Piece) -> bool
-    ensures { λ r. ⌜ r ≡ fits· n p ⌝ }
-{
-    aligned(p) & ((p.end() - 1) / EIGHTBYTE < n as u64)
-}
-
-fn aligned(p: Piece) -> bool
-    ensures { λ r. ⌜ r ≡ aligned· p ⌝ }
-{
-    if p.align <= 1 {
-        return true;
-    }
-    p.offset % p.align == 0
-}
-
 // Merges a piece's class into each eightbyte that it reaches into.
 fn mark(classes: [u8; 8], p: Piece) -> [u8; 8]
     requires { ⌜ (Coded classes) × (lastOf p < 8) ⌝ }
@@ -117,29 +98,6 @@ fn mark(classes: [u8; 8], p: Piece) -> [u8; 8]
         at += 1;
     }
     cs
-}
-
-fn class_of(kind: u64) -> u8
-    ensures { λ r. ⌜ r ≡ code (kindClass kind) ⌝ }
-{
-    if kind == shape::INTEGER {
-        return INTEGER;
-    }
-    if kind == shape::X87_EXTENDED {
-        return X87;
-    }
-    SSE
-}
-
-// The class of a piece's next eightbyte: a float wider than one is one value, and not two.
-fn later(class: u8) -> u8
-    requires { ⌜ class < 6 ⌝ }
-    ensures { λ r. ⌜ r ≡ code (later· (classOf class)) ⌝ }
-{
-    if class == SSE {
-        return SSE_UP;
-    }
-    class
 }
 
 // What two classes make. Where nothing stands yet, or the same, the one that comes goes in as it is, and no table is read.
@@ -217,17 +175,6 @@ fn settle_all(classes: [u8; 8], n: usize) -> Classified
         found: Found::Slots { count, floats },
         classes: cs,
     }
-}
-
-// The upper half of a value whose lower half is something else stands on its own.
-fn mended(below: u8, class: u8) -> u8
-    requires { ⌜ (below < 6) × (class < 6) ⌝ }
-    ensures { λ r. ⌜ r ≡ code (mended· (classOf below) (classOf class)) ⌝ }
-{
-    if (class == SSE_UP) & !((below == SSE) | (below == SSE_UP)) {
-        return SSE;
-    }
-    class
 }
 
 fn one_if(b: bool) -> u64

@@ -1,6 +1,6 @@
 -- `joined` answers the class that comes where nothing or the same stands, and otherwise what the table says. Assumes nothing.
 use borrow.Author.Needs.{needs}
-use Rattle.eightbytes.proofs.Class.{merge-none, merge-same}
+use Rattle.eightbytes.proofs.Merging.{merge-none, merge-same}
 use Rattle.eightbytes.proofs.joined.Statement.{statement}
 use Rattle.eightbytes.proofs.joined.Tie as tie
 

@@ -4,7 +4,7 @@ use mathlib.Core.Path.{_≡_, refl, ap, _∙_}
 use mathlib.Core.List.{map}
 use Rattle.eightbytes.specs.Class.{code, classOf}
 use Rattle.eightbytes.specs.Eightbytes.{cover, Coded}
-use Rattle.eightbytes.proofs.Class.{coded-lt}
+use Rattle.eightbytes.proofs.Class.{coded-lt, kept-is}
 use Rattle.eightbytes.proofs.Codes.{coded-set}
 use Rattle.eightbytes.proofs.Marks.{mark-start, cover-end, cover-one, cover-less, cover-turn}
 use borrow.Author.Needs.{needs}
@@ -67,7 +67,8 @@ loop-less c = cover-less _ _ (c .before .before .loop-test .taken)
 loop-again : tie.Need-loop-again Inv-loop μ-loop
 loop-again c =
     let l = c .before .before .before .loop in
-    (coded-set (l .cs) _ _ (l .inv .0) (coded-lt _ (c .before .joined2 .ensures)), coded-lt _ (c .later .ensures), search (cover-turn))
+    let e = kept-is _ _ (c .later .ensures) (l .inv .1) in
+    (coded-set (l .cs) _ _ (l .inv .0) (coded-lt _ (c .before .joined2 .ensures)), coded-lt _ e, cover-turn _ (l .cs) _ _ _ (l .inv .2) _ _ (c .before .before .loop-test .taken) (c .before .joined2 .ensures) e)
 
 returns-2 : tie.Need-returns-2 Inv-loop μ-loop
 returns-2 c =

@@ -7,7 +7,7 @@ use native.Mathlib.Nat.{zero-add}
 use lib.Seq.{drop-set-lt}
 use Rattle.eightbytes.specs.Class.{None, classOf}
 use Rattle.eightbytes.specs.Eightbytes.{spoiled, mend, slotsIn, Coded}
-use Rattle.eightbytes.proofs.Class.{coded-lt}
+use Rattle.eightbytes.proofs.Class.{coded-lt, kept-is}
 use Rattle.eightbytes.proofs.Codes.{coded-set}
 use Rattle.eightbytes.proofs.Rest.{rest}
 use Rattle.eightbytes.proofs.Counts.{ssesIn, spoil-stop, spoil-step, mend-turn, count-turn, float-turn, stop-found, stop-classes, end-found, end-classes}
@@ -39,7 +39,7 @@ array-read-mended : tie.Need-array-read-mended Inv-loop μ-loop
 array-read-mended c = omega arith
 
 mended-requires : tie.Need-mended-requires Inv-loop μ-loop
-mended-requires c κs = (c .before .loop .inv .3, c .before .loop .inv .4 _)
+mended-requires c κs = search needs
 
 nothing-requires : tie.Need-nothing-requires Inv-loop μ-loop
 nothing-requires c κs = search needs
@@ -48,7 +48,7 @@ returns : tie.Need-returns Inv-loop μ-loop
 returns c =
     let l = c .before .before .before .before .loop in
     let a = c .before .before .before .before .before .before .args in
-    let s = spoil-stop (l .cs) (a .n) (l .i) (l .below) (omega arith) (omega arith) _ (c .before .before .mended .ensures) _ (l .inv .7) (omega arith) in
+    let s = spoil-stop (l .cs) (a .n) (l .i) (l .below) (omega arith) (omega arith) _ (kept-is _ _ (c .before .before .mended .ensures) (l .inv .4 _)) _ (l .inv .7) (omega arith) in
     (stop-found (a .n) (a .classes) _ s (c .nothing .ensures .0), stop-classes (a .n) (a .classes) _ s (c .nothing .ensures .1))
 
 array-write-cs : tie.Need-array-write-cs Inv-loop μ-loop
@@ -76,7 +76,7 @@ loop-again : tie.Need-loop-again Inv-loop μ-loop
 loop-again c =
     let l = c .before .before .before .before .before .loop in
     let n = c .before .before .before .before .before .before .before .args .n in
-    let e = c .before .before .before .mended .ensures in
+    let e = kept-is _ _ (c .before .before .before .mended .ensures) (l .inv .4 _) in
     let h : l .i < n = omega arith in
     let k : n ≤ length (l .cs) = omega arith in (
       omega arith,

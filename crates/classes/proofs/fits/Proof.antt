@@ -1,8 +1,8 @@
 -- `fits` asks for both: the alignment, and the last eightbyte. Assumes nothing.
 use borrow.Author.Needs.{needs}
-use Rattle.eightbytes.proofs.Marks.{fits-by}
-use Rattle.eightbytes.proofs.fits.Statement.{statement}
-use Rattle.eightbytes.proofs.fits.Tie as tie
+use Rattle.classes.proofs.Reach.{fits-by}
+use Rattle.classes.proofs.fits.Statement.{statement}
+use Rattle.classes.proofs.fits.Tie as tie
 
 aligned-requires : tie.Need-aligned-requires
 aligned-requires c κs = search needs

@@ -1,8 +1,8 @@
 -- `aligned` answers whether the offset is a multiple of an alignment above 1. Assumes nothing.
 use borrow.Author.Needs.{needs}
 use borrow.Author.Tests.{le-leb, lt-leb}
-use Rattle.eightbytes.proofs.aligned.Statement.{statement}
-use Rattle.eightbytes.proofs.aligned.Tie as tie
+use Rattle.classes.proofs.aligned.Statement.{statement}
+use Rattle.classes.proofs.aligned.Tie as tie
 
 returns : tie.Need-returns
 returns c = rw (le-leb _ _ (c .if1 .taken))

@@ -1,7 +1,7 @@
 -- `later` answers the code of the class after one. Assumes nothing.
-use Rattle.eightbytes.proofs.Class.{later-sse, later-other}
-use Rattle.eightbytes.proofs.later.Statement.{statement}
-use Rattle.eightbytes.proofs.later.Tie as tie
+use Rattle.classes.proofs.Class.{later-sse, later-other}
+use Rattle.classes.proofs.later.Statement.{statement}
+use Rattle.classes.proofs.later.Tie as tie
 
 returns : tie.Need-returns
 returns c = search (later-sse)

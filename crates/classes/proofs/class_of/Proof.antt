@@ -1,7 +1,7 @@
 -- `class_of` answers the code of a kind's class: each way out is one law of the tests that led there. Assumes nothing.
-use Rattle.eightbytes.proofs.Class.{kind-integer, kind-x87, kind-sse}
-use Rattle.eightbytes.proofs.class_of.Statement.{statement}
-use Rattle.eightbytes.proofs.class_of.Tie as tie
+use Rattle.classes.proofs.Class.{kind-integer, kind-x87, kind-sse}
+use Rattle.classes.proofs.class_of.Statement.{statement}
+use Rattle.classes.proofs.class_of.Tie as tie
 
 returns : tie.Need-returns
 returns c = search (kind-integer)

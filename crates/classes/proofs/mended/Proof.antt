@@ -1,7 +1,7 @@
 -- `mended` applies the rule after the merge to one class. Assumes nothing.
-use Rattle.eightbytes.proofs.Class.{mended-alone, mended-other}
-use Rattle.eightbytes.proofs.mended.Statement.{statement}
-use Rattle.eightbytes.proofs.mended.Tie as tie
+use Rattle.classes.proofs.Class.{mended-alone, mended-other}
+use Rattle.classes.proofs.mended.Statement.{statement}
+use Rattle.classes.proofs.mended.Tie as tie
 
 returns : tie.Need-returns
 returns c = search (mended-alone)
