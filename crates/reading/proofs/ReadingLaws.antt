@@ -11,14 +11,14 @@ use lib.Seq.{sets-eq}
 use Rattle.slots.specs.Words.{putAt}
 use Rattle.slots.proofs.Words.{put-fits}
 use Rattle.classify.specs.declared.Arg as args
-use Rattle.reading.specs.declared.Due.{Due}
-use Rattle.reading.specs.declared.Reader.{Reader}
+use Rattle.reader.specs.declared.Due.{Due}
+use Rattle.reader.specs.declared.Reader.{Reader}
+use Rattle.reader.specs.declared.Operation as operations
 use Rattle.reading.specs.declared.records.Record.{Record}
-use Rattle.reading.specs.declared.Operation as operations
 use Rattle.reading.specs.declared.Event as events
 use Rattle.reading.specs.declared.Reading.{Reading}
 use Rattle.reading.specs.Records.{recordSize, recordOf}
-use Rattle.reading.specs.Reading.{came, waiting, dueOf, nothingDue, stoppedReader, stop, ready, operationOf, pieceSize, pieceWords, pieceRead, oneRead, pieceAnswer, piecePut, flagged, scalarOf, aggregateAnswer, valueAnswer, headAnswer, recordAnswer, readAnswer, readPieces, openAfter}
+use Rattle.reading.specs.Reading.{came, waiting, dueOf, nothingDue, stoppedReader, stop, ready, operationOf, pieceSize, pieceWords, pieceRead, oneRead, pieceAnswer, piecePut, flagged, scalarOf, aggregateAnswer, valueAnswer, headAnswer, recordAnswer, readAnswer, readPieces}
 
 -- an operation without pieces
 pub ready-made : (s : Reader) (operation : operations.Operation) (d : Due) (n : Reader) (x : Reading)
@@ -189,27 +189,3 @@ piece-stores ps at a b c d h =
     let e2 : at + 2 ≡ suc (suc at) = omega arith in
     let e3 : at + 3 ≡ suc (suc (suc at)) = omega arith in
     rw (e1, e2, e3) (sets-eq (a ∷ b ∷ c ∷ d ∷ []) ps at h ∙ sym (put-fits ps at (a ∷ b ∷ c ∷ d ∷ []) h))
-
--- ---- whether a call is open
-
-module _ (opened : Bool) (operation : operations.Operation) (refusal : ℕ) where
-  pub fresh-opens : (abi : ℕ) → operation ≡ operations.the-variants.Fresh abi → eqb refusal 0 ≡ openAfter opened operation refusal
-  unfolding openAfter
-  fresh-opens abi e = rw e
-
-  pub mark-keeps : operation ≡ operations.the-variants.Mark → opened ≡ openAfter opened operation refusal
-  unfolding openAfter
-  mark-keeps e = rw e
-
-  module _ (arg : args.Arg) where
-    pub return-keeps : operation ≡ operations.the-variants.Return arg → opened ≡ openAfter opened operation refusal
-    unfolding openAfter
-    return-keeps e = rw e
-
-    pub argument-keeps : operation ≡ operations.the-variants.Argument arg → opened ≡ openAfter opened operation refusal
-    unfolding openAfter
-    argument-keeps e = rw e
-
-    pub dots-keeps : operation ≡ operations.the-variants.AfterDots arg → opened ≡ openAfter opened operation refusal
-    unfolding openAfter
-    dots-keeps e = rw e

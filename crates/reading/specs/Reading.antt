@@ -1,18 +1,19 @@
--- Records to operations (REFERENCE 11): what comes of a record, and what stops a sheet. The reader is the code's own: whether a call is open,
--- whether the sheet has stopped, and the aggregate whose pieces are due.
+-- Records to operations (REFERENCE 11): what comes of a record, and what stops a sheet. The reader is that of the crate reader, whose
+-- definitions are passed on.
 use Prim.Native.Nat.{ℕ, _+_, _-_, _/_, _%_}
 use mathlib.Core.List.{List, [], _∷_}
-use mathlib.Core.Bool.{Bool, true, false, _||_, not, cond}
+use mathlib.Core.Bool.{Bool, _||_, not, cond}
 use lib.Dec.{leb, ltb, eqb}
 use lib.ListN.{length}
-use Rattle.shape.specs.Numbers.{accepted}
 use Rattle.shape.specs.declared.Shape.{Shape}
 use Rattle.slots.specs.Words.{putAt}
 use Rattle.classify.specs.declared.Arg as args
-use Rattle.reading.specs.declared.Due.{Due}
-use Rattle.reading.specs.declared.Reader.{Reader}
+use Rattle.reader.specs.declared.Due.{Due}
+use Rattle.reader.specs.declared.Reader.{Reader}
+use Rattle.reader.specs.declared.Operation as operations
+pub use Rattle.reader.specs.Known.{dueOf, shapeOf, nothingDue, startedReader, stoppedReader, readerAfter}
+unfoldable pub use Rattle.reader.specs.Known.{openAfter}
 use Rattle.reading.specs.declared.records.Record.{Record}
-use Rattle.reading.specs.declared.Operation as operations
 use Rattle.reading.specs.declared.Event as events
 use Rattle.reading.specs.declared.Reading.{Reading}
 use Rattle.reading.specs.Records.{recordSize, recordOf}
@@ -25,22 +26,6 @@ came s event = record { next = s; event = event }
 -- the same reader, but for the aggregate whose pieces are due
 abbrev pub waiting : Reader → Due → Reader
 waiting s due = record { opened = s .opened; stopped = s .stopped; due = due }
-
-abbrev pub dueOf : ℕ → Shape → ℕ → ℕ → Due
-dueOf first shape pieces words = record { first = first; shape = shape; pieces = pieces; words = words }
-
-abbrev pub shapeOf : ℕ → ℕ → Bool → Bool → Shape
-shapeOf size align complex floating = record { size = size; align = align; complex = complex; floating = floating }
-
-abbrev pub nothingDue : Due
-nothingDue = dueOf 0 (shapeOf 0 0 false false) 0 0
-
--- before the first record no call is open and no piece is due
-abbrev pub startedReader : Reader
-startedReader = record { opened = false; stopped = false; due = nothingDue }
-
-abbrev pub stoppedReader : Reader → Reader
-stoppedReader s = record { opened = s .opened; stopped = true; due = s .due }
 
 -- nothing is read behind a stop
 abbrev pub stop : Reader → Reading
@@ -128,17 +113,3 @@ unfoldable pub readPieces : Reader → List ℕ → List ℕ → List ℕ
 readPieces s bs ps =
     cond (s .stopped) ps
     (cond (ltb (length bs) recordSize) ps (cond (ltb 0 (s .due .pieces)) (piecePut s (recordOf bs) ps) ps))
-
--- ---- an operation that was performed
-
--- a fresh call takes the place of the open one, and a refused one closes it; any other operation leaves the call open, refused or not
-unfoldable pub openAfter : Bool → operations.Operation → ℕ → Bool
-openAfter opened (operations.the-variants.Fresh abi) refusal = eqb refusal accepted
-openAfter opened operations.the-variants.Mark refusal = opened
-openAfter opened (operations.the-variants.Return arg) refusal = opened
-openAfter opened (operations.the-variants.Argument arg) refusal = opened
-openAfter opened (operations.the-variants.AfterDots arg) refusal = opened
-
-abbrev pub readerAfter : Reader → operations.Operation → ℕ → Reader
-readerAfter s operation refusal =
-    record { opened = openAfter (s .opened) operation refusal; stopped = s .stopped; due = s .due }

@@ -1,8 +1,12 @@
 // What comes of a record of a sheet (docs/REFERENCE.md, 11): an operation that is ready, a part of one, or a stop. What the reader knows
-// between two records is a small value; the pieces of an aggregate that is being read stand in a lent buffer.
+// between two records is a small value, of the crate reader; the pieces of an aggregate that is being read stand in a lent buffer.
 mod records;
 
 use classify::Arg;
+use reader::Due;
+use reader::Operation;
+use reader::Reader;
+use reader::nothing_due;
 pub use records::RECORD;
 use records::Record;
 use records::record_of;
@@ -39,29 +43,6 @@ const MOST_FLAGS: u64 = 3;
 
 const MOST_PIECES: u64 = 1024;
 
-// What is known between two records: whether a call is open, whether the sheet has stopped, and the aggregate whose pieces are due.
-pub struct Reader {
-    pub opened: bool,
-    pub stopped: bool,
-    pub due: Due,
-}
-
-// An aggregate that is being read: the first word of its operation, its shape, how many pieces are still due, and the words of those read.
-pub struct Due {
-    pub first: u64,
-    pub shape: Shape,
-    pub pieces: u64,
-    pub words: usize,
-}
-
-pub enum Operation {
-    Fresh(u64),
-    Mark,
-    Return(Arg),
-    Argument(Arg),
-    AfterDots(Arg),
-}
-
 // Nothing that could be performed yet, an operation, or the end of all reading.
 pub enum Event {
     More,
@@ -74,61 +55,23 @@ pub struct Reading {
     pub event: Event,
 }
 
-impl Reader {
-    // Before the first record: no call is open and no piece is due.
-    pub fn start() -> Reader
-        ensures { λ r. ⌜ r ≡ spec.startedReader ⌝ }
-    {
-        Reader {
-            opened: false,
-            stopped: false,
-            due: nothing_due(),
-        }
+// Takes the bytes of one record; fewer are a short one. Nothing is read behind a stop. The pieces of an operation that is ready are the
+// words that its reader counts.
+pub fn read(reader: Reader, bytes: &[u8], pieces: &mut [u64]) -> Reading
+    ensures { λ r. ⌜ (r ≡ spec.readAnswer reader (now (bytes .entry)) (length (now (pieces .entry)))) × (now (pieces .exit) ≡ spec.readPieces reader (now (bytes .entry)) (now (pieces .entry))) ⌝ }
+{
+    if reader.stopped {
+        return came(reader, Event::More);
     }
-
-    // Takes the bytes of one record; fewer are a short one. Nothing is read behind a stop. The pieces of an operation that is ready are the
-    // words that its reader counts.
-    pub fn read(self, bytes: &[u8], pieces: &mut [u64]) -> Reading
-        ensures { λ r. ⌜ (r ≡ spec.readAnswer self (now (bytes .entry)) (length (now (pieces .entry)))) × (now (pieces .exit) ≡ spec.readPieces self (now (bytes .entry)) (now (pieces .entry))) ⌝ }
-    {
-        if self.stopped {
-            return came(self, Event::More);
-        }
-        if bytes.len() < RECORD {
-            return no_more(self);
-        }
-        let record = record_of(bytes);
-        let due = self.due;
-        if due.pieces > 0 {
-            return read_piece(self, record, pieces);
-        }
-        read_head(self, record)
+    if bytes.len() < RECORD {
+        return no_more(reader);
     }
-
-    // What is known once an operation was performed. A fresh call takes the place of the open one, and a refused one closes it. Any other
-    // operation leaves the call open, refused or not.
-    pub fn after(self, operation: Operation, refusal: u64) -> Reader
-        ensures { λ r. ⌜ r ≡ spec.readerAfter self operation refusal ⌝ }
-    {
-        let due = self.due;
-        Reader {
-            opened: open_after(self.opened, operation, refusal),
-            stopped: self.stopped,
-            due,
-        }
+    let record = record_of(bytes);
+    let due = reader.due;
+    if due.pieces > 0 {
+        return read_piece(reader, record, pieces);
     }
-
-    // Nothing is read any more.
-    pub fn stop(self) -> Reader
-        ensures { λ r. ⌜ r ≡ spec.stoppedReader self ⌝ }
-    {
-        let due = self.due;
-        Reader {
-            opened: self.opened,
-            stopped: true,
-            due,
-        }
-    }
+    read_head(reader, record)
 }
 
 // The record of a piece that is due; any other record there is a missing piece.
@@ -280,34 +223,6 @@ fn waiting(reader: Reader, due: Due) -> Reader
         opened: reader.opened,
         stopped: reader.stopped,
         due,
-    }
-}
-
-fn nothing_due() -> Due
-    ensures { λ r. ⌜ r ≡ spec.nothingDue ⌝ }
-{
-    Due {
-        first: 0,
-        shape: Shape {
-            size: 0,
-            align: 0,
-            complex: false,
-            floating: false,
-        },
-        pieces: 0,
-        words: 0,
-    }
-}
-
-fn open_after(opened: bool, operation: Operation, refusal: u64) -> bool
-    ensures { λ r. ⌜ r ≡ spec.openAfter opened operation refusal ⌝ }
-{
-    match operation {
-        Operation::Fresh(_) => refusal == shape::ACCEPTED,
-        Operation::Mark => opened,
-        Operation::Return(_) => opened,
-        Operation::Argument(_) => opened,
-        Operation::AfterDots(_) => opened,
     }
 }
 

@@ -8,8 +8,8 @@ use Rattle.classify.specs.declared.Arg.{Arg}
 use Rattle.classify.specs.declared.Call.{Call}
 use Rattle.classify.specs.declared.Answer.{Answer}
 use Rattle.classify.specs.Answers.{freshAnswer, variadicAnswer, returnsAnswer, returnsWritten, argumentAnswer, argumentWritten, dotsAnswer, dotsWritten}
-use Rattle.reading.specs.declared.Reader.{Reader}
-use Rattle.reading.specs.declared.Operation as operations
+use Rattle.reader.specs.declared.Reader.{Reader}
+use Rattle.reader.specs.declared.Operation as operations
 use Rattle.reading.specs.Reading.{readerAfter}
 use Rattle.sheet.specs.declared.State.{State}
 use Rattle.sheet.specs.declared.performing.Performed.{Performed}

@@ -17,7 +17,7 @@ use Rattle.classify.specs.Pass.{wayOf, slotsOf}
 use Rattle.classify.specs.Classify.{Passed}
 use Rattle.classify.specs.Answers.{descriptions, callOf, refusalOf, callRefusal, answered, refused, done, orAnswer, inRoom, answerTo, freshAnswer, variadicAnswer, returnsAnswer, argumentAnswer, dotsAnswer}
 use Rattle.classify.proofs.Eight.{eight}
-use Rattle.reading.specs.declared.Operation as operations
+use Rattle.reader.specs.declared.Operation as operations
 use Rattle.sheet.specs.declared.State.{State}
 use Rattle.sheet.specs.Performing.{wordsRead, answerOf, performed}
 

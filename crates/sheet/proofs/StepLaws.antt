@@ -11,8 +11,8 @@ use Rattle.slots.specs.Words.{putAt}
 use Rattle.slots.proofs.Words.{put-none, put-fits}
 use Rattle.text.specs.Text.{appendEnd, appended}
 use Rattle.classify.specs.declared.Arg.{Arg}
-use Rattle.reading.specs.declared.Reader.{Reader}
-use Rattle.reading.specs.declared.Operation as operations
+use Rattle.reader.specs.declared.Reader.{Reader}
+use Rattle.reader.specs.declared.Operation as operations
 use Rattle.reading.specs.declared.Event as events
 use Rattle.reading.specs.declared.Reading.{Reading}
 use Rattle.reading.specs.Reading.{came, stoppedReader, readAnswer, readPieces}

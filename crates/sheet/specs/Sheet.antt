@@ -9,8 +9,8 @@ use Rattle.slots.specs.Words.{putAt}
 use Rattle.text.specs.Text.{bytes}
 use Rattle.classify.specs.Answers.{callOf}
 use Rattle.classify.specs.Classify.{leaves}
-use Rattle.reading.specs.declared.Reader.{Reader}
-use Rattle.reading.specs.declared.Operation as operations
+use Rattle.reader.specs.declared.Reader.{Reader}
+use Rattle.reader.specs.declared.Operation as operations
 use Rattle.reading.specs.declared.Event as events
 use Rattle.reading.specs.declared.Reading.{Reading}
 use Rattle.reading.specs.Records.{recordSize}

@@ -7,10 +7,11 @@ use classify::Call;
 use lines::What;
 use lines::has_room;
 use performing::perform;
+use reader::Operation;
+use reader::Reader;
 use reading::Event;
-use reading::Operation;
 use reading::RECORD;
-use reading::Reader;
+use reading::read;
 ghost use mathlib.Core.Path.{_≡_};
 ghost use Prim.Native.Nat.{_+_, _≤_};
 ghost use mathlib.Core.Bool.{_&&_};
@@ -77,7 +78,7 @@ impl State {
         }
         let call = self.call;
         let before = self.reader;
-        let reading = before.read(bytes, pieces);
+        let reading = read(before, bytes, pieces);
         let reader = reading.next;
         let event = reading.event;
         let next = State { call, reader };

@@ -5,7 +5,7 @@ ghost use Rattle.sheet.specs.Performing as spec;
 use crate::State;
 use classify::Answer;
 use classify::Call;
-use reading::Operation;
+use reader::Operation;
 
 pub struct Performed {
     pub next: State,

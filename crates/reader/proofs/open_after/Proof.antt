@@ -1,8 +1,8 @@
 -- `open_after` closes the call where a fresh one is refused. Assumes nothing.
-use Rattle.reading.proofs.ReadingLaws.{fresh-opens, mark-keeps, return-keeps, argument-keeps, dots-keeps}
+use Rattle.reader.proofs.OpenLaws.{fresh-opens, mark-keeps, return-keeps, argument-keeps, dots-keeps}
 use borrow.Author.Needs.{needs}
-use Rattle.reading.proofs.open_after.Statement.{statement}
-use Rattle.reading.proofs.open_after.Tie as tie
+use Rattle.reader.proofs.open_after.Statement.{statement}
+use Rattle.reader.proofs.open_after.Tie as tie
 
 enum-told : tie.Need-enum-told
 enum-told c = search needs

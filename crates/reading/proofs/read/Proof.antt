@@ -1,8 +1,8 @@
 -- `read` reads nothing behind a stop, and else a piece or another record. Assumes nothing.
 use Rattle.reading.proofs.ReadingLaws.{read-stopped, stopped-kept, read-short, short-kept, read-due, due-put, read-first, first-kept}
 use borrow.Author.Needs.{needs}
-use Rattle.reading.proofs.Reader.read.Statement.{statement}
-use Rattle.reading.proofs.Reader.read.Tie as tie
+use Rattle.reading.proofs.read.Statement.{statement}
+use Rattle.reading.proofs.read.Tie as tie
 
 came-requires : tie.Need-came-requires
 came-requires c κs = search needs

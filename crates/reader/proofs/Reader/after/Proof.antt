@@ -1,7 +1,7 @@
 -- `after` tells whether a call is open now. Assumes nothing.
 use borrow.Author.Needs.{needs}
-use Rattle.reading.proofs.Reader.after.Statement.{statement}
-use Rattle.reading.proofs.Reader.after.Tie as tie
+use Rattle.reader.proofs.Reader.after.Statement.{statement}
+use Rattle.reader.proofs.Reader.after.Tie as tie
 
 open-after-requires : tie.Need-open-after-requires
 open-after-requires c κs = search needs

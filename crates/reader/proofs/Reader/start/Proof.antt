@@ -1,7 +1,7 @@
 -- `start` has no call open and nothing due. Assumes nothing.
 use borrow.Author.Needs.{needs}
-use Rattle.reading.proofs.Reader.start.Statement.{statement}
-use Rattle.reading.proofs.Reader.start.Tie as tie
+use Rattle.reader.proofs.Reader.start.Statement.{statement}
+use Rattle.reader.proofs.Reader.start.Tie as tie
 
 nothing-due-requires : tie.Need-nothing-due-requires
 nothing-due-requires c κs = search needs
