@@ -12,7 +12,7 @@ use borrow.Author.Tests.{ltb-false}
 use Rattle.shape.specs.declared.Shape.{Shape}
 use Rattle.shape.specs.Numbers.{accepted}
 use Rattle.shape.specs.Words.{piecesOf}
-use Rattle.shape.proofs.Accepted.{refuse-none, else-none}
+use Rattle.checks.proofs.Accepted.{refuse-none, else-none}
 use Rattle.slots.specs.declared.Slot.{Slot}
 use Rattle.slots.specs.Words.{slotSize, written}
 use Rattle.abis.specs.Abis.{described, descriptions}

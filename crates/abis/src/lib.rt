@@ -133,7 +133,7 @@ fn question_refusal(d: u64, size: u64) -> u64
     if DESCRIPTIONS <= d {
         return shape::BAD_ABI;
     }
-    if shape::MOST_SIZE < size {
+    if checks::MOST_SIZE < size {
         return shape::BAD_SIZE;
     }
     shape::ACCEPTED

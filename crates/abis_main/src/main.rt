@@ -146,7 +146,7 @@ fn decides(rule: [u64; 8]) -> bool {
 
 fn questions(out: &mut [u8], from: usize, d: u64) -> usize {
     let mut at = from;
-    for size in 0..=shape::MOST_SIZE {
+    for size in 0..=checks::MOST_SIZE {
         at = question_line(out, at, d, size);
     }
     at

@@ -16,7 +16,7 @@ use Rattle.shape.specs.declared.Shape.{Shape}
 use Rattle.shape.specs.Numbers.{integer, single, accepted, most-size}
 use Rattle.shape.specs.Questions.{isFloat, isAllOf}
 use Rattle.shape.specs.Words.{piecesOf}
-use Rattle.shape.proofs.Accepted.{refuse-none, else-none, fits}
+use Rattle.checks.proofs.Accepted.{refuse-none, else-none, fits}
 use Rattle.slots.specs.declared.Slot.{Slot}
 use Rattle.slots.specs.Search.{Search, found, nothing, floatsIn}
 use Rattle.slots.specs.Cut.{ceilDiv, cut}

@@ -13,8 +13,8 @@ use Rattle.shape.specs.declared.Piece.{Piece}
 use Rattle.shape.specs.Numbers.{accepted, integer}
 use Rattle.shape.specs.Questions.{isFloat}
 use Rattle.shape.specs.Words.{piecesOf}
-use Rattle.shape.specs.Check.{orElse}
-use Rattle.shape.proofs.Accepted.{refuse-none, else-none}
+use Rattle.checks.specs.Check.{orElse}
+use Rattle.checks.proofs.Accepted.{refuse-none, else-none}
 use Rattle.slots.specs.Words.{slotSize, written}
 use Rattle.slots.proofs.Words.{written-short}
 use Rattle.describe.specs.declared.Banks.{Banks}

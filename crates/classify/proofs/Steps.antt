@@ -12,8 +12,8 @@ use Rattle.shape.specs.declared.Shape.{Shape}
 use Rattle.shape.specs.declared.Piece.{Piece}
 use Rattle.shape.specs.Numbers.{accepted, bad-abi, bad-call, no-room}
 use Rattle.shape.specs.Words.{piecesOf}
-use Rattle.shape.specs.Check.{scalarRefusal, shapeRefusal}
-use Rattle.shape.proofs.Check.{else-first}
+use Rattle.checks.specs.Check.{scalarRefusal, shapeRefusal}
+use Rattle.checks.proofs.Check.{else-first}
 use Rattle.slots.specs.Words.{slotSize, written}
 use Rattle.describe.specs.declared.Banks.{Banks}
 use Rattle.describe.specs.declared.Rules.{Rules}

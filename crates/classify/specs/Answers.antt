@@ -8,7 +8,7 @@ use lib.ListN.{length}
 use Rattle.shape.specs.declared.Shape.{Shape}
 use Rattle.shape.specs.Numbers.{accepted, bad-abi, bad-call, no-room}
 use Rattle.shape.specs.Words.{piecesOf}
-use Rattle.shape.specs.Check.{refuse, orElse, scalarRefusal, shapeRefusal}
+use Rattle.checks.specs.Check.{refuse, orElse, scalarRefusal, shapeRefusal}
 use Rattle.slots.specs.Words.{slotSize, written}
 use Rattle.describe.specs.Description.{Description}
 use Rattle.abis.specs.Abis.{described, description-count}

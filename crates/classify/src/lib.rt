@@ -264,7 +264,7 @@ fn check_scalar(call: Call, s: Scalar) -> u64
     if refusal != shape::ACCEPTED {
         return refusal;
     }
-    shape::check_scalar(s)
+    checks::check_scalar(s)
 }
 
 fn check_aggregate(call: Call, shape: Shape, words: &[u64]) -> u64
@@ -274,7 +274,7 @@ fn check_aggregate(call: Call, shape: Shape, words: &[u64]) -> u64
     if refusal != shape::ACCEPTED {
         return refusal;
     }
-    shape::check_shape(shape, words)
+    checks::check_shape(shape, words)
 }
 
 // A description that isn't there, a count above its bank's start, or a mark that the description doesn't use.

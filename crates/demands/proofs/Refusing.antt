@@ -14,7 +14,7 @@ use Rattle.shape.specs.declared.Shape.{Shape}
 use Rattle.shape.specs.Numbers.{quad, accepted, bad-abi, bad-call, bad-list, bad-kind, bad-size, bad-align, no-room, most-size, most-offset, most-align, most-pieces}
 use Rattle.shape.specs.Words.{piecesOf}
 use Rattle.abis.specs.Abis.{described}
-use Rattle.shape.specs.Check.{refuse, orElse, scalarRefusal, pieceRefusal, piecesRefusal, listRefusal, shapeRefusal}
+use Rattle.checks.specs.Check.{refuse, orElse, scalarRefusal, pieceRefusal, piecesRefusal, listRefusal, shapeRefusal}
 use Rattle.slots.specs.Words.{slotSize, written}
 use Rattle.slots.proofs.Words.{written-short}
 use Rattle.spend.specs.declared.Spent.{Spent}

@@ -10,7 +10,7 @@ use lib.Dec.{T, leb, ltb}
 use lib.ListN.{length}
 use Rattle.shape.specs.Numbers.{accepted, no-room}
 use Rattle.shape.specs.Words.{piecesOf}
-use Rattle.shape.proofs.Accepted.{refuse-none}
+use Rattle.checks.proofs.Accepted.{refuse-none}
 use Rattle.slots.specs.declared.Slot.{Slot}
 use Rattle.slots.specs.Words.{slotSize}
 use Rattle.describe.specs.declared.Variadic.the-variants.{UnnamedIntegers}

@@ -1,7 +1,7 @@
 -- The table of twelve calls, as one statement that antt computes: every entry's answer, with the words of the buffer, is the one listed.
 use mathlib.Core.Path.{_≡_, refl}
 use mathlib.Core.List.{map}
-use Rattle.shape.specs.Check.{scalarRefusal, pieceRefusal, piecesRefusal, listRefusal, shapeRefusal}
+use Rattle.checks.specs.Check.{scalarRefusal, pieceRefusal, piecesRefusal, listRefusal, shapeRefusal}
 use Rattle.shape.specs.Questions.{allOf, isAllOf}
 use Rattle.shape.specs.Words.{piecesOf}
 use Rattle.slots.specs.Cut.{upTo, cut}

@@ -13,7 +13,7 @@ use lib.ListN.{length, take}
 use Rattle.shape.specs.declared.Shape.{Shape}
 use Rattle.shape.specs.Numbers.{no-room}
 use Rattle.shape.specs.Words.{piecesOf}
-use Rattle.shape.proofs.Accepted.{refuse-none, else-none}
+use Rattle.checks.proofs.Accepted.{refuse-none, else-none}
 use Rattle.slots.specs.declared.Slot.{Slot}
 use Rattle.slots.specs.Words.{slotSize, wordsOf, written}
 use Rattle.slots.proofs.Words.{put-fits, length-words}

@@ -12,10 +12,10 @@ use lib.ListN.{length, drop}
 use Rattle.shape.specs.declared.Piece.{Piece}
 use Rattle.shape.specs.Numbers.{accepted, bad-size, bad-align, most-offset, most-word}
 use Rattle.shape.specs.Words.{piecesOf, pieceAt}
-use Rattle.shape.specs.Check.{orElse, listRefusal, piecesRefusal}
+use Rattle.checks.specs.Check.{orElse, listRefusal, piecesRefusal}
 use Rattle.shape.specs.Questions.{isFloat, endOf}
 use Rattle.shape.proofs.Words.{pieces-step, pieces-end, length-pieces}
-use Rattle.shape.proofs.Accepted.{within-first, whole-list}
+use Rattle.checks.proofs.Accepted.{within-first, whole-list}
 use Rattle.records.specs.declared.Recorded.{Recorded}
 use Rattle.records.specs.Record.{roundUp, alignOf, maxOf, largestAlign, furthestEnd, isFloating, recorded, refuseRecord, recordOf, orRecord, recordAnswer}
 

@@ -12,10 +12,10 @@ use Rattle.shape.specs.declared.Piece.{Piece}
 use Rattle.shape.specs.declared.Scalar.{Scalar}
 use Rattle.shape.specs.Numbers.{accepted, bad-list, no-room, most-pieces}
 use Rattle.shape.specs.Words.{piece, scalarsOf, scalarAt}
-use Rattle.shape.specs.Check.{scalarRefusal}
+use Rattle.checks.specs.Check.{scalarRefusal}
 use Rattle.shape.proofs.Words.{scalars-step, scalars-end, length-scalars}
-use Rattle.shape.proofs.Check.{else-first}
-use Rattle.shape.proofs.Accepted.{refuse-none, else-none, Fits, fits}
+use Rattle.checks.proofs.Check.{else-first}
+use Rattle.checks.proofs.Accepted.{refuse-none, else-none, Fits, fits}
 use Rattle.slots.specs.Words.{putAt}
 use Rattle.slots.proofs.Words.{put-fits, put-short, put-split, put-none}
 use Rattle.records.specs.declared.Placed.{Placed}

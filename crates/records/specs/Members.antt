@@ -8,7 +8,7 @@ use Rattle.shape.specs.declared.Piece.{Piece}
 use Rattle.shape.specs.declared.Scalar.{Scalar}
 use Rattle.shape.specs.Numbers.{accepted, bad-list, no-room, most-pieces}
 use Rattle.shape.specs.Words.{piece, scalarsOf}
-use Rattle.shape.specs.Check.{refuse, orElse, scalarRefusal}
+use Rattle.checks.specs.Check.{refuse, orElse, scalarRefusal}
 use Rattle.slots.specs.Words.{putAt}
 use Rattle.records.specs.declared.Placed.{Placed}
 use Rattle.records.specs.Record.{roundUp}

@@ -6,7 +6,7 @@ use lib.Dec.{ltb, eqb}
 use Rattle.shape.specs.declared.Piece.{Piece}
 use Rattle.shape.specs.Numbers.{accepted, bad-size, bad-align, most-offset}
 use Rattle.shape.specs.Words.{piecesOf}
-use Rattle.shape.specs.Check.{orElse, listRefusal, piecesRefusal}
+use Rattle.checks.specs.Check.{orElse, listRefusal, piecesRefusal}
 use Rattle.shape.specs.Questions.{isFloat, endOf}
 use Rattle.records.specs.declared.Recorded.{Recorded}
 

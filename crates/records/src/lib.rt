@@ -7,7 +7,7 @@ ghost use mathlib.Core.Bool.{false};
 ghost use Prim.Native.Nat.{_+_, _≤_, _<_};
 ghost use Rattle.shape.specs.Numbers.{accepted, most-size, most-offset, most-word};
 ghost use Rattle.shape.specs.Words.{piecesOf};
-ghost use Rattle.shape.specs.Check.{piecesRefusal};
+ghost use Rattle.checks.specs.Check.{piecesRefusal};
 ghost use Rattle.slots.specs.Words.{putAt};
 ghost use Rattle.records.specs.Members.{pieceWords, membersRefusal, piecesAnswer, piecesWritten};
 ghost use Rattle.records.specs.Record.{roundUp, largestAlign, furthestEnd, recorded, recordAnswer};
@@ -96,11 +96,11 @@ fn made(size: u64, align: u64, floating: bool) -> Recorded
 pub fn record(words: &[u64]) -> Recorded
     ensures { λ r. ⌜ r ≡ recordAnswer (now (words .entry)) ⌝ }
 {
-    let list = shape::check_list(words);
+    let list = checks::check_list(words);
     if list != shape::ACCEPTED {
         return refused(list);
     }
-    let refusal = shape::check_pieces(words);
+    let refusal = checks::check_pieces(words);
     if refusal != shape::ACCEPTED {
         return refused(refusal);
     }
@@ -112,7 +112,7 @@ pub fn record(words: &[u64]) -> Recorded
         return refused(shape::BAD_ALIGN);
     }
     let size = round_up(furthest_end(words), align);
-    if size > shape::MOST_OFFSET {
+    if size > checks::MOST_OFFSET {
         return refused(shape::BAD_SIZE);
     }
     if words.len() / shape::PIECE != 1 {
@@ -168,12 +168,12 @@ fn check_members(members: &[u64]) -> u64
     if n % shape::SCALAR != 0 {
         return shape::BAD_LIST;
     }
-    if n / shape::SCALAR > shape::MOST_PIECES {
+    if n / shape::SCALAR > checks::MOST_PIECES {
         return shape::BAD_LIST;
     }
     let mut at = 0;
     while members.len() - at >= shape::SCALAR {
-        let refusal = shape::check_scalar(shape::scalar_at(members, at));
+        let refusal = checks::check_scalar(shape::scalar_at(members, at));
         if refusal != shape::ACCEPTED {
             return refusal;
         }

@@ -2,11 +2,6 @@
 use mathlib.Core.Path.{sym, _∙_}
 use contract.Lifetimes.{Lfts}
 use Rattle.shape.proofs.OneAnswer.{OneAnswer}
-use Rattle.shape.proofs.check_shape.Reads as check-shape
-use Rattle.shape.proofs.check_list.Reads as check-list
-use Rattle.shape.proofs.check_pieces.Reads as check-pieces
-use Rattle.shape.proofs.check_piece.Reads as check-piece
-use Rattle.shape.proofs.check_scalar.Reads as check-scalar
 use Rattle.shape.proofs.is_all_of.Reads as is-all-of
 use Rattle.shape.proofs.piece_at.Reads as piece-at
 use Rattle.shape.proofs.scalar_at.Reads as scalar-at
@@ -17,21 +12,6 @@ use Rattle.shape.proofs.Piece.is_float.Reads as piece-is-float
 use Rattle.shape.proofs.Piece.end.Reads as piece-end
 use Rattle.shape.proofs.least.Reads as least
 use Rattle.shape.proofs.most.Reads as most
-
-check-shape-decides : (κs : Lfts 1) → OneAnswer (check-shape.Post κs)
-check-shape-decides κs a r q s t p p′ = p ∙ sym p′
-
-check-list-decides : (κs : Lfts 1) → OneAnswer (check-list.Post κs)
-check-list-decides κs a r q s t p p′ = p ∙ sym p′
-
-check-pieces-decides : (κs : Lfts 1) → OneAnswer (check-pieces.Post κs)
-check-pieces-decides κs a r q s t p p′ = p ∙ sym p′
-
-check-piece-decides : (κs : Lfts 0) → OneAnswer (check-piece.Post κs)
-check-piece-decides κs a r q s t p p′ = p ∙ sym p′
-
-check-scalar-decides : (κs : Lfts 0) → OneAnswer (check-scalar.Post κs)
-check-scalar-decides κs a r q s t p p′ = p ∙ sym p′
 
 is-all-of-decides : (κs : Lfts 1) → OneAnswer (is-all-of.Post κs)
 is-all-of-decides κs a r q s t p p′ = p ∙ sym p′

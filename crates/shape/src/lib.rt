@@ -1,9 +1,8 @@
-// What a classifier is asked about, and whether it may be asked: kinds, scalars, pieces and shapes, the limits, and the refusals in their
-// order. Pieces come in as words, four to a piece: kind, size, alignment, offset. The rules are those of docs/REFERENCE.md, 1 to 4.1.
+// What a classifier is asked about: kinds, scalars, pieces and shapes, and the refusals. Pieces come in as words, four to a piece: kind, size,
+// alignment, offset. Whether it may be asked, the crate checks says. The rules are those of docs/REFERENCE.md, 1, 2 and 4.1.
 ghost use mathlib.Core.Path.{_≡_};
 ghost use Prim.Native.Nat.{min, max};
 ghost use Rattle.shape.specs.Words.{piecesOf, pieceAt, scalarAt};
-ghost use Rattle.shape.specs.Check.{scalarRefusal, pieceRefusal, piecesRefusal, listRefusal, shapeRefusal};
 ghost use Rattle.shape.specs.Questions.{integerOf, floatOf, isFloat, endOf, isAllOf};
 
 // Kinds: an integer, or a float in one of four formats.
@@ -33,15 +32,6 @@ pub const BAD_SIZE: u64 = 5;
 pub const BAD_ALIGN: u64 = 6;
 
 pub const NO_ROOM: u64 = 7;
-
-// The largest values that are accepted.
-pub const MOST_SIZE: u64 = 64;
-
-pub const MOST_OFFSET: u64 = 16777216;
-
-pub const MOST_ALIGN: u64 = 4096;
-
-pub const MOST_PIECES: usize = 1024;
 
 // The largest number of 64 bits.
 const MOST_WORD: u64 = 18446744073709551615;
@@ -117,84 +107,6 @@ pub struct Shape {
     pub align: u64,
     pub complex: bool,
     pub floating: bool,
-}
-
-// The refusal of a shape and its pieces: the list, the shape's size, its alignment, then the pieces from the first.
-pub fn check_shape(shape: Shape, words: &[u64]) -> u64
-    ensures { λ r. ⌜ r ≡ shapeRefusal shape (now (words .entry)) ⌝ }
-{
-    let list = check_list(words);
-    if list != ACCEPTED {
-        return list;
-    }
-    if shape.size > MOST_OFFSET {
-        return BAD_SIZE;
-    }
-    if shape.align > MOST_ALIGN {
-        return BAD_ALIGN;
-    }
-    check_pieces(words)
-}
-
-// The refusal of some words as a list: they don't make whole pieces, or too many.
-pub fn check_list(words: &[u64]) -> u64
-    ensures { λ r. ⌜ r ≡ listRefusal (now (words .entry)) ⌝ }
-{
-    let n = words.len();
-    if (n % PIECE != 0) | (n / PIECE > MOST_PIECES) {
-        return BAD_LIST;
-    }
-    ACCEPTED
-}
-
-// The first refusal among the pieces of some words.
-pub fn check_pieces(words: &[u64]) -> u64
-    ensures { λ r. ⌜ r ≡ piecesRefusal (piecesOf (now (words .entry))) ⌝ }
-{
-    let mut at = 0;
-    while words.len() - at >= PIECE {
-        let refusal = check_piece(piece_at(words, at));
-        if refusal != ACCEPTED {
-            return refusal;
-        }
-        at += PIECE;
-    }
-    ACCEPTED
-}
-
-// The refusal of one piece, by kind, size, offset, alignment.
-pub fn check_piece(p: Piece) -> u64
-    ensures { λ r. ⌜ r ≡ pieceRefusal p ⌝ }
-{
-    if p.kind > QUAD {
-        return BAD_KIND;
-    }
-    if p.size > MOST_SIZE {
-        return BAD_SIZE;
-    }
-    if p.offset > MOST_OFFSET {
-        return BAD_SIZE;
-    }
-    if p.align > MOST_ALIGN {
-        return BAD_ALIGN;
-    }
-    ACCEPTED
-}
-
-// The refusal of one scalar, by kind, size, alignment.
-pub fn check_scalar(s: Scalar) -> u64
-    ensures { λ r. ⌜ r ≡ scalarRefusal s ⌝ }
-{
-    if s.kind > QUAD {
-        return BAD_KIND;
-    }
-    if s.size > MOST_SIZE {
-        return BAD_SIZE;
-    }
-    if s.align > MOST_ALIGN {
-        return BAD_ALIGN;
-    }
-    ACCEPTED
 }
 
 // Whether some words hold a piece and every piece is of this kind.

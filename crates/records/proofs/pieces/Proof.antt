@@ -5,7 +5,7 @@ use lib.ListN.{length, drop}
 use Rattle.shape.specs.Numbers.{accepted, most-pieces}
 use Rattle.shape.specs.Words.{scalarsOf}
 use Rattle.shape.proofs.Words.{length-scalars}
-use Rattle.shape.proofs.Accepted.{Fits}
+use Rattle.checks.proofs.Accepted.{Fits}
 use Rattle.slots.specs.Words.{putAt}
 use Rattle.records.specs.Members.{scalarsRefusal, placed, piecesWords, piecesWritten}
 use Rattle.records.proofs.Making.{round-bound}

@@ -7,13 +7,13 @@ use native.Mathlib.Omega.{arith}
 use borrow.Author.Tests.{lt-ltb, le-ltb, ltb-true, ltb-false, eqb-true, eqb-false}
 use lib.Dec.{eqb, ltb}
 use lib.ListN.{length, drop}
 use Rattle.shape.specs.declared.Piece.{Piece}
 use Rattle.shape.specs.declared.Scalar.{Scalar}
 use Rattle.shape.specs.declared.Shape.{Shape}
 use Rattle.shape.specs.Numbers.{quad, accepted, bad-list, bad-kind, bad-size, bad-align, most-size, most-offset, most-align, most-pieces}
 use Rattle.shape.specs.Words.{piecesOf, pieceAt}
-use Rattle.shape.specs.Check.{orElse, scalarRefusal, pieceRefusal, piecesRefusal, listRefusal, shapeRefusal}
+use Rattle.checks.specs.Check.{orElse, scalarRefusal, pieceRefusal, piecesRefusal, listRefusal, shapeRefusal}
 use Rattle.shape.proofs.Words.{pieces-step, pieces-end, length-pieces}
 
 -- the first of two answers decides where it is a refusal
 pub else-first : (n rest : ℕ) → (n ≡ accepted → ⊥) → n ≡ orElse n rest

@@ -2,13 +2,13 @@
 use Prim.Native.Nat.{_≤_, _-_}
 use mathlib.Core.Path.{_≡_, refl}
 use lib.ListN.{length, drop}
 use Rattle.shape.specs.Words.{piecesOf}
-use Rattle.shape.specs.Check.{piecesRefusal}
-use Rattle.shape.proofs.Check.{pieces-accepted, refused-here, refused-later}
+use Rattle.checks.specs.Check.{piecesRefusal}
+use Rattle.checks.proofs.Check.{pieces-accepted, refused-here, refused-later}
 use borrow.Author.Needs.{needs}
 use native.Mathlib.Omega.{arith}
-use Rattle.shape.proofs.check_pieces.Statement.{statement}
-use Rattle.shape.proofs.check_pieces.Tie as tie
+use Rattle.checks.proofs.check_pieces.Statement.{statement}
+use Rattle.checks.proofs.check_pieces.Tie as tie
 
 abbrev Inv-loop : tie.InvT-loop
 Inv-loop words at₀ at = (at ≤ length words) × (piecesRefusal (piecesOf words) ≡ piecesRefusal (piecesOf (drop at words)))

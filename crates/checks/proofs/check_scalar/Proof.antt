@@ -1,7 +1,7 @@
 -- `check_scalar` answers the first refusal of a scalar: each way out is one law of the tests that led there. Assumes nothing.
-use Rattle.shape.proofs.Check.{scalar-laws}
-use Rattle.shape.proofs.check_scalar.Statement.{statement}
-use Rattle.shape.proofs.check_scalar.Tie as tie
+use Rattle.checks.proofs.Check.{scalar-laws}
+use Rattle.checks.proofs.check_scalar.Statement.{statement}
+use Rattle.checks.proofs.check_scalar.Tie as tie
 
 returns : tie.Need-returns
 returns c = search scalar-laws

@@ -7,13 +7,13 @@ use native.Mathlib.Omega.{arith}
 use borrow.Author.Tests.{ltb-false}
 use lib.Dec.{ltb}
 use lib.ListN.{length, drop}
 use Rattle.shape.specs.declared.Piece.{Piece}
 use Rattle.shape.specs.declared.Scalar.{Scalar}
 use Rattle.shape.specs.declared.Shape.{Shape}
 use Rattle.shape.specs.Numbers.{quad, accepted, most-size, most-offset, most-align, most-pieces}
 use Rattle.shape.specs.Words.{piecesOf, pieceAt}
-use Rattle.shape.specs.Check.{refuse, orElse, scalarRefusal, pieceRefusal, piecesRefusal, listRefusal, shapeRefusal}
+use Rattle.checks.specs.Check.{refuse, orElse, scalarRefusal, pieceRefusal, piecesRefusal, listRefusal, shapeRefusal}
 use Rattle.shape.proofs.Words.{pieces-step, length-pieces}
 
 pub refuse-none : (b : Bool) (n rest : ℕ) → refuse b (suc n) rest ≡ accepted → (b ≡ false) × (rest ≡ accepted)
 refuse-none true n rest e = absurd (omega arith)

@@ -1,8 +1,8 @@
 -- `check_shape` answers the first refusal of a shape: each way out is one law of the tests that led there. Assumes nothing.
-use Rattle.shape.proofs.Check.{shape-list, shape-size, shape-align, shape-pieces}
+use Rattle.checks.proofs.Check.{shape-list, shape-size, shape-align, shape-pieces}
 use borrow.Author.Needs.{needs}
-use Rattle.shape.proofs.check_shape.Statement.{statement}
-use Rattle.shape.proofs.check_shape.Tie as tie
+use Rattle.checks.proofs.check_shape.Statement.{statement}
+use Rattle.checks.proofs.check_shape.Tie as tie
 
 check-list-requires : tie.Need-check-list-requires
 check-list-requires c κs = search needs

@@ -1,0 +1,3 @@
+pub mod Check
+pub mod Accepted
+mod Unique
