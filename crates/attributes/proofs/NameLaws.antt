@@ -1,4 +1,4 @@
--- Names as bytes: comparing them byte by byte, and the name of regparm. Assumes nothing.
+-- Names as bytes: comparing them byte by byte. Assumes nothing.
 use Prim.Native.Nat.{ℕ, suc, _+_, _≤_, _<_}
 use mathlib.Core.Path.{_≡_, refl, ap, sym, _∙_}
 use mathlib.Core.List.{List, [], _∷_}
@@ -7,10 +7,9 @@ use native.Mathlib.Omega.{arith}
 use native.Mathlib.Numerals.{add-one}
 use borrow.Author.Tests.{eqb-true, eq-eqb, ne-eqb}
 use lib.Dec.{eqb}
-use lib.ListN.{length, drop, getD, List·getD-eq-default}
+use lib.ListN.{length, drop, getD}
 use lib.Seq.{drop-cons, drop-length}
-use Rattle.text.specs.Text.{bytes}
-use Rattle.attributes.specs.Attributes.{sameBytes, regparmNames}
+use Rattle.attributes.specs.Attributes.{sameBytes}
 
 -- lists of other lengths differ
 pub same-lengths : (as' bs : List ℕ) → (length as' ≡ length bs → ⊥) → false ≡ sameBytes as' bs
@@ -61,7 +60,3 @@ pub same-refl : (as' : List ℕ) → sameBytes as' as' ≡ true
 unfolding sameBytes
 same-refl [] = refl
 same-refl (a ∷ as') = rw (eq-eqb a a refl) (same-refl as')
-
--- every number of registers above two has the name of three
-pub three-or-more : (n : ℕ) → 3 ≤ n → getD regparmNames n (bytes "regparm(3)") ≡ bytes "regparm(3)"
-three-or-more n h = List·getD-eq-default regparmNames (bytes "regparm(3)") h

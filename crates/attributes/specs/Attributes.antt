@@ -1,15 +1,12 @@
--- Which convention an attribute's name asks for, which name asks for a convention, and whose callee pops (REFERENCE 6.4).
+-- Which convention an attribute's name asks for, and whose callee pops (REFERENCE 6.4).
 use Prim.Native.Nat.{ℕ}
 use Prim.Native.String.{String}
 use mathlib.Core.List.{List, [], _∷_}
 use mathlib.Core.Bool.{Bool, true, false, cond, _&&_}
 use mathlib.Core.Option.{Option, none, some}
 use lib.Dec.{eqb}
-use lib.ListN.{getD}
-use Rattle.shape.specs.Numbers.{accepted}
-use Rattle.text.specs.Text.{bytes, written, putAnswer, putWritten}
-use Rattle.text.specs.declared.Written.{Written}
-use Rattle.codes.specs.Codes.{isWindows, isElf, noneNumber}
+use Rattle.text.specs.Text.{bytes}
+use Rattle.codes.specs.Codes.{isWindows, isElf}
 use Rattle.codes.specs.declared.Architecture.{Architecture}
 use Rattle.codes.specs.declared.Architecture.the-variants.{X86, «X86_64», Aarch64, Riscv64, Other}
 use Rattle.codes.specs.declared.System.{System}
@@ -46,30 +43,6 @@ asked X86 system name = askedOnX86 name
 asked Aarch64 system name = none
 asked Riscv64 system name = none
 asked Other system name = none
-
--- by the number of registers; there is no attribute for more than three
-abbrev pub regparmNames : List (List ℕ)
-regparmNames = bytes "regparm(0)" ∷ bytes "regparm(1)" ∷ bytes "regparm(2)" ∷ []
-
-abbrev pub attribute : Convention → Option (List ℕ)
-attribute Target = none
-attribute Ms = some (bytes "ms_abi")
-attribute Sysv = some (bytes "sysv_abi")
-attribute Stdcall = some (bytes "stdcall")
-attribute Fastcall = some (bytes "fastcall")
-attribute (Regparm n) = some (getD regparmNames n (bytes "regparm(3)"))
-attribute NoCalleeSaved = some (bytes "no_callee_saved_registers")
-attribute PreserveNone = some (bytes "preserve_none")
-
--- no name: none; a name: what writing it answers
-unfoldable pub nameAnswer : Option (List ℕ) → ℕ → Written
-nameAnswer none room = written accepted noneNumber
-nameAnswer (some name) room = putAnswer name room
-
--- no name leaves every byte as it was
-unfoldable pub nameWritten : Option (List ℕ) → List ℕ → List ℕ
-nameWritten none out = out
-nameWritten (some name) out = putWritten name out
 
 abbrev pub calleePops : Convention → Bool
 calleePops Target = false

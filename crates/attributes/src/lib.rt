@@ -1,12 +1,8 @@
-// Attributes by name: which convention one asks for, and which one asks for a convention (REFERENCE 6.4).
+// Attributes by name: which convention one asks for (REFERENCE 6.4). The crate spellings has the name that asks for a convention.
 ghost use mathlib.Core.Path.{_≡_};
-ghost use lib.ListN.{length, getD};
-ghost use Rattle.text.specs.Text.{bytes};
 ghost use Rattle.codes.specs.Codes.{codeOf};
-ghost use Rattle.attributes.specs.Attributes.{askedOnX86, askedOnX86-64, sameBytes, regparmNames, nameAnswer, nameWritten};
-ghost use Rattle.attributes.specs.Attributes.{asked as askedOf, attribute as attributeOf};
+ghost use Rattle.attributes.specs.Attributes.{askedOnX86, askedOnX86-64, sameBytes, asked as askedOf};
 use codes::Architecture;
-use codes::Convention;
 use codes::FASTCALL;
 use codes::MS;
 use codes::NO_CALLEE_SAVED;
@@ -18,8 +14,6 @@ use codes::System;
 use codes::TARGET;
 use codes::is_elf;
 use codes::is_windows;
-use text::Written;
-use text::put;
 
 // The code of the convention that a name asks for.
 pub fn asked(architecture: Architecture, system: System, name: &[u8]) -> u64
@@ -83,35 +77,4 @@ fn same(name: &[u8], text: &[u8]) -> bool
         i += 1;
     }
     true
-}
-
-// The name that asks for a convention, written to the front of `out`.
-pub fn write_attribute(convention: Convention, out: &mut [u8]) -> Written
-    ensures { λ r. ⌜ (r ≡ nameAnswer (attributeOf convention) (length (now (out .entry)))) × (now (out .exit) ≡ nameWritten (attributeOf convention) (now (out .entry))) ⌝ }
-{
-    match convention {
-        Convention::Target => Written {
-            refusal: shape::ACCEPTED,
-            length: NONE,
-        },
-        Convention::Ms => put(b"ms_abi", out),
-        Convention::Sysv => put(b"sysv_abi", out),
-        Convention::Stdcall => put(b"stdcall", out),
-        Convention::Fastcall => put(b"fastcall", out),
-        Convention::Regparm(n) => put(&regparm_name(n), out),
-        Convention::NoCalleeSaved => put(b"no_callee_saved_registers", out),
-        Convention::PreserveNone => put(b"preserve_none", out),
-    }
-}
-
-// No attribute names more than three registers, so a greater number has the name of three.
-fn regparm_name(n: u64) -> [u8; 10]
-    ensures { λ r. ⌜ r ≡ getD regparmNames n (bytes "regparm(3)") ⌝ }
-{
-    match n {
-        0 => *b"regparm(0)",
-        1 => *b"regparm(1)",
-        2 => *b"regparm(2)",
-        _ => *b"regparm(3)",
-    }
 }

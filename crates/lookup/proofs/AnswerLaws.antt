@@ -8,7 +8,8 @@ use Rattle.text.specs.Text.{written}
 use Rattle.text.specs.declared.Written.{Written}
 use Rattle.codes.specs.Codes.{isTarget, isConvention, architectureOf, systemOf, conventionOf, noneNumber, codeOf}
 use Rattle.lookup.specs.Rows.{forTarget, forConvention}
-use Rattle.attributes.specs.Attributes.{asked, attribute, nameAnswer, nameWritten}
+use Rattle.attributes.specs.Attributes.{asked}
+use Rattle.spellings.specs.Spellings.{attribute, nameAnswer, nameWritten}
 use Rattle.lookup.specs.Lookup.{numberOf, targetAnswer, conventionAnswer, askedAnswer, attributeAnswer, attributeWritten}
 use Rattle.codes.specs.declared.Architecture.{Architecture}
 use Rattle.codes.specs.declared.System.{System}

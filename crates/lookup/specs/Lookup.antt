@@ -6,7 +6,8 @@ use mathlib.Core.Option.{Option, none, some}
 use Rattle.text.specs.declared.Written.{Written}
 use Rattle.codes.specs.Codes.{isTarget, isConvention, architectureOf, systemOf, conventionOf, noneNumber, codeOf}
 use Rattle.lookup.specs.Rows.{forTarget, forConvention}
-use Rattle.attributes.specs.Attributes.{asked, attribute, calleePops, nameAnswer, nameWritten}
+use Rattle.attributes.specs.Attributes.{asked, calleePops}
+use Rattle.spellings.specs.Spellings.{attribute, nameAnswer, nameWritten}
 
 abbrev pub numberOf : Option ℕ → ℕ
 numberOf none = noneNumber

@@ -2,7 +2,6 @@
 // and conventions come as codes; a code that isn't known answers none, also where the lookup would not read it.
 mod rows;
 
-use attributes::write_attribute;
 use codes::FASTCALL;
 pub use codes::NONE;
 use codes::STDCALL;
@@ -13,6 +12,7 @@ use codes::is_target;
 use codes::system_of;
 use rows::convention_row;
 use rows::target_row;
+use spellings::write_attribute;
 use text::Written;
 ghost use mathlib.Core.Path.{_≡_};
 ghost use lib.ListN.{length};

@@ -2,9 +2,9 @@
 use Prim.Native.Nat.{_≤_}
 use mathlib.Core.Path.{sym}
 use native.Mathlib.Omega.{arith}
-use Rattle.attributes.proofs.NameLaws.{three-or-more}
-use Rattle.attributes.proofs.regparm_name.Statement.{statement}
-use Rattle.attributes.proofs.regparm_name.Tie as tie
+use Rattle.spellings.proofs.SpellingLaws.{three-or-more}
+use Rattle.spellings.proofs.regparm_name.Statement.{statement}
+use Rattle.spellings.proofs.regparm_name.Tie as tie
 
 returns : tie.Need-returns
 returns c = rw (c .before .before .match .keys1)

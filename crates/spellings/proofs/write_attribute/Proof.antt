@@ -1,9 +1,9 @@
 -- `write_attribute` meets its contract: each arm writes the name that the definition has for its convention.
 use mathlib.Core.Path.{refl}
-use Rattle.attributes.specs.Attributes.{nameAnswer, nameWritten}
+use Rattle.spellings.specs.Spellings.{nameAnswer, nameWritten}
 use borrow.Author.Needs.{needs}
-use Rattle.attributes.proofs.write_attribute.Statement.{statement}
-use Rattle.attributes.proofs.write_attribute.Tie as tie
+use Rattle.spellings.proofs.write_attribute.Statement.{statement}
+use Rattle.spellings.proofs.write_attribute.Tie as tie
 
 returns : tie.Need-returns
 unfolding nameAnswer nameWritten
