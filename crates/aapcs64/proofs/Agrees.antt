@@ -10,6 +10,7 @@ use native.Mathlib.Decide.{decLe}
 use lib.Dec.{leb}
 use lib.ListN.{length}
 use borrow.Author.Tests.{leb-true, le-leb, lt-leb, lt-ltb, le-ltb}
+use Rattle.shape.specs.declared.Arg.the-variants.{Aggregate}
 use Rattle.shape.specs.declared.Piece.{Piece}
 use Rattle.shape.specs.declared.Shape.{Shape}
 use Rattle.slots.specs.declared.Slot.{Slot}
@@ -17,7 +18,6 @@ use Rattle.slots.specs.Search.{floatsIn}
 use Rattle.slots.specs.Cut.{upTo, partOf, cut}
 use Rattle.slots.proofs.Cut.{length-cut}
 use Rattle.abis.specs.Abis.{described, descriptions}
-use Rattle.classify.specs.declared.Arg.the-variants.{Aggregate}
 use Rattle.classify.specs.Pass.{reference}
 use Rattle.classify.specs.Classify.{passed, leaves, call, argument, returns}
 use Rattle.aapcs64.specs.Aapcs64.{Composite, addressable, count, doublewords, memberParts, wordParts, x, registers, stack, copy, copyOnStack, state, passing, parameter, stageC, stageA, isHfa, result}

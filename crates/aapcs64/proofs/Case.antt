@@ -5,10 +5,10 @@ use mathlib.Core.List.{List}
 use mathlib.Core.Bool.{true, false, _&&_}
 use mathlib.Core.Option.Option.{some}
 use lib.Dec.{leb}
+use Rattle.shape.specs.declared.Arg.the-variants.{Aggregate}
 use Rattle.shape.specs.declared.Piece.{Piece}
 use Rattle.shape.specs.declared.Shape.{Shape}
 use Rattle.abis.specs.Abis.{described}
-use Rattle.classify.specs.declared.Arg.the-variants.{Aggregate}
 use Rattle.classify.specs.Classify.{Passed, leaves, argument, returns}
 use Rattle.aapcs64.specs.Aapcs64.{state, Passing, parameter, Returning, result}
 use Rattle.aapcs64.specs.Told.{composite, mostNatural, toldPassed, toldReturned}

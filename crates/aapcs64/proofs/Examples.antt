@@ -4,6 +4,7 @@ use Prim.Native.Nat.{ℕ, _-_}
 use mathlib.Core.Path.{_≡_, refl}
 use mathlib.Core.List.{[], _∷_}
 use mathlib.Core.Bool.{true, false}
+use Rattle.shape.specs.declared.Arg.the-variants as args
 use Rattle.shape.specs.declared.Scalar.{Scalar}
 use Rattle.shape.specs.Numbers.{integer, single, double}
 use Rattle.shape.specs.Words.{piece, scalar}
@@ -14,7 +15,6 @@ use Rattle.find.specs.Find.{foundIf, floatsAt, allSame, isHomogeneous, homogene
 use Rattle.abis.specs.Abis.{described, descriptions}
 use Rattle.spend.specs.declared.Left.{Left}
 use Rattle.spend.specs.Spending.{wantOf}
-use Rattle.classify.specs.declared.Arg.the-variants as args
 use Rattle.search.specs.Matches.{matches}
 use Rattle.classify.specs.Pass.{direct, pieces, reference, memory}
 use Rattle.classify.specs.Classify.{Passed, passed, leaves, shortOf, inRegisters, travel, apply, afterScalar, argument, returns}

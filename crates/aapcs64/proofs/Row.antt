@@ -9,6 +9,7 @@ use mathlib.Core.Option.Option.{some}
 use lib.Dec.{leb}
 use lib.ListN.{length}
 use borrow.Author.Tests.{ne-eqb, le-leb, lt-leb}
+use Rattle.shape.specs.declared.Arg.the-variants.{Aggregate}
 use Rattle.shape.specs.declared.Piece.{Piece}
 use Rattle.shape.specs.declared.Shape.{Shape}
 use Rattle.slots.specs.declared.Slot.{Slot}
@@ -16,7 +17,6 @@ use Rattle.slots.specs.Search.{found, nothing, floatsIn}
 use Rattle.slots.specs.Cut.{cut}
 use Rattle.find.specs.Find.{foundIf, homogeneous}
 use Rattle.abis.specs.Abis.{described, descriptions}
-use Rattle.classify.specs.declared.Arg.the-variants.{Aggregate}
 use Rattle.search.specs.Matches.{matches}
 use Rattle.classify.specs.Pass.{pieces, reference, memory}
 use Rattle.classify.specs.Classify.{Passed, passed, leaves, drainedTo, shortOf, inRegisters, travel, orElse, apply, argument, returns}

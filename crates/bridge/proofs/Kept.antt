@@ -11,11 +11,11 @@ use denote.Triple.Clauses.{AtExit}
 use borrow.Fn.World.{ArgsD}
 use lib.Dec.{ltb}
 use lib.ListN.{length}
+use Rattle.shape.specs.declared.Arg.{Arg}
 use Rattle.shape.specs.Numbers.{accepted, no-room}
 use Rattle.slots.specs.Words.{slotSize, written}
 use Rattle.slots.proofs.Words.{written-short}
 use Rattle.spend.specs.declared.Spent.{Spent}
-use Rattle.classify.specs.declared.Arg.{Arg}
 use Rattle.classify.specs.declared.Call.{Call}
 use Rattle.classify.specs.declared.Answer.{Answer}
 use Rattle.classify.specs.Pass.{wayOf, slotsOf}

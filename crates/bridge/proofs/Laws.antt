@@ -5,9 +5,9 @@ use mathlib.Core.List.{List}
 use lib.Dec.{eqb}
 use borrow.Author.Tests.{eq-eqb, ne-eqb}
 use Prim.Native.Nat.{ℕ}
+use Rattle.shape.specs.declared.Arg as args
+use Rattle.shape.specs.declared.Arg.the-variants.{Void, Scalar, Aggregate}
 use Rattle.spend.specs.Ways.{wayNumber}
-use Rattle.classify.specs.declared.Arg as args
-use Rattle.classify.specs.declared.Arg.the-variants.{Void, Scalar, Aggregate}
 use Rattle.classify.specs.declared.Call.{Call}
 use Rattle.classify.specs.declared.Answer.{Answer}
 use Rattle.bridge.specs.declared.What.{What}

@@ -2,9 +2,9 @@
 use Prim.Native.Nat.{ℕ}
 use mathlib.Core.Bool.{not, cond}
 use lib.Dec.{eqb}
+use Rattle.shape.specs.declared.Arg.{Arg}
+use Rattle.shape.specs.declared.Arg.the-variants.{Void, Scalar, Aggregate}
 use Rattle.spend.specs.Ways.{wayNumber}
-use Rattle.classify.specs.declared.Arg.{Arg}
-use Rattle.classify.specs.declared.Arg.the-variants.{Void, Scalar, Aggregate}
 use Rattle.classify.specs.declared.Outcome as classified
 use Rattle.classify.specs.declared.Answer.{Answer}
 use Rattle.bridge.specs.declared.What.{What}

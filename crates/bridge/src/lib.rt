@@ -1,7 +1,7 @@
 // The bridge's forms of a call's operations (docs/REFERENCE.md, 14): the call is lent and updated where it stands, and what is asked and what
 // is answered are numbers. Each form over a lent call is a thin one over a value form, which does all the work.
-use classify::Arg;
 use classify::Call;
+use shape::Arg;
 use shape::Scalar;
 use shape::Shape;
 ghost use mathlib.Core.Path.{_≡_};

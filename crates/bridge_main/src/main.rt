@@ -4,9 +4,9 @@
 use bridge::Outcome;
 use bridge::What;
 use classify::Answer;
-use classify::Arg;
 use classify::Call;
 use libc::STDOUT_FILENO;
+use shape::Arg;
 use shape::Scalar;
 use shape::Shape;
 use spend::Way;

@@ -11,6 +11,7 @@ use native.Mathlib.Omega.{arith}
 use borrow.Author.Tests.{leb-true}
 use lib.Dec.{eqb, leb, ltb}
 use lib.ListN.{length}
+use Rattle.shape.specs.declared.Arg as args
 use Rattle.shape.specs.declared.Piece.{Piece}
 use Rattle.shape.specs.declared.Scalar.{Scalar}
 use Rattle.shape.specs.declared.Shape.{Shape}
@@ -43,7 +44,6 @@ use Rattle.spend.specs.Spending as rules
 use Rattle.scalars.specs.Spending as lone
 use Rattle.search.specs.Matches.{matches, sourceOf}
 use Rattle.writing.specs.Slots.{slotsIn}
-use Rattle.classify.specs.declared.Arg as args
 use Rattle.classify.specs.Pass.{Pass, ignore, direct, pieces, reference, memory, wayOf, slotsOf}
 use Rattle.classify.specs.Classify as rust
 use Rattle.classify.specs.Classify.{Passed, passed, leaves, less, lessBoth, returns, argument, variadicArgument}

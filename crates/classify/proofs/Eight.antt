@@ -10,6 +10,7 @@ use native.Mathlib.Nat.{div-lt-iff-lt-mul}
 use borrow.Author.Tests.{leb-true, ltb-false, eqb-true}
 use lib.Dec.{T, eqb, leb, ltb, leb→le}
 use lib.ListN.{length}
+use Rattle.shape.specs.declared.Arg as args
 use Rattle.shape.specs.declared.Piece.{Piece}
 use Rattle.shape.specs.declared.Scalar.{Scalar}
 use Rattle.shape.specs.declared.Shape.{Shape}
@@ -43,7 +44,6 @@ use Rattle.eightbytes.proofs.Found.{at-most}
 use Rattle.spend.specs.declared.Left.{Left}
 use Rattle.spend.specs.Spending.{wantOf}
 use Rattle.search.specs.Matches.{matches}
-use Rattle.classify.specs.declared.Arg as args
 use Rattle.classify.specs.declared.Call.{Call}
 use Rattle.classify.specs.Pass.{pieces, slotsOf}
 use Rattle.classify.specs.Classify.{Passed, passed, leaves, lessBoth, isIntegersOnly, scalar, integerCostOf, floatCostOf, shortOf, inRegisters, travelBy, travel, orElse, tried, apply, returnedScalar, returns, argument, inMemoryAlways, variadicBy, variadicArgument}

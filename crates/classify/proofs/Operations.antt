@@ -7,6 +7,7 @@ use native.Mathlib.Omega.{arith}
 use borrow.Author.Tests.{leb-false, ltb-true, le-ltb}
 use lib.Dec.{eqb, leb, ltb}
 use lib.ListN.{length}
+use Rattle.shape.specs.declared.Arg as args
 use Rattle.shape.specs.declared.Scalar.{Scalar}
 use Rattle.shape.specs.declared.Shape.{Shape}
 use Rattle.shape.specs.declared.Piece.{Piece}
@@ -36,7 +37,6 @@ use Rattle.scalars.specs.Spending.{skipOf, integerArgument, inRegisters, scalar
 use Rattle.search.specs.Searched.{noSource, noClasses}
 use Rattle.writing.specs.Slots.{slotsIn, slotsInScalar}
 use Rattle.writing.proofs.Writing.{nothing-written}
-use Rattle.classify.specs.declared.Arg as args
 use Rattle.classify.specs.declared.Call.{Call}
 use Rattle.classify.specs.declared.Answer.{Answer}
 use Rattle.classify.specs.declared.Decided.{Decided}

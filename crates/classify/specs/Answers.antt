@@ -5,6 +5,7 @@ use mathlib.Core.List.{List}
 use mathlib.Core.Bool.{Bool, false, _&&_, _||_, not, cond}
 use lib.Dec.{leb, ltb}
 use lib.ListN.{length}
+use Rattle.shape.specs.declared.Arg as args
 use Rattle.shape.specs.declared.Shape.{Shape}
 use Rattle.shape.specs.Numbers.{accepted, bad-abi, bad-call, no-room}
 use Rattle.shape.specs.Words.{piecesOf}
@@ -17,7 +18,6 @@ use Rattle.spend.specs.declared.Way as ways
 use Rattle.spend.specs.declared.Spent.{Spent}
 use Rattle.spend.specs.Ways as made
 use Rattle.memory.specs.InMemory.{inMemory}
-use Rattle.classify.specs.declared.Arg as args
 use Rattle.classify.specs.declared.Call.{Call}
 use Rattle.classify.specs.declared.Answer.{Answer}
 use Rattle.classify.specs.declared.InMemory.{InMemory}

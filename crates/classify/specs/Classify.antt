@@ -9,6 +9,7 @@ use mathlib.Core.Option.{Option}
 use mathlib.Core.Option.Option.{none, some}
 use lib.Dec.{eqb, leb, ltb}
 use lib.ListN.{length}
+use Rattle.shape.specs.declared.Arg as args
 use Rattle.shape.specs.declared.Piece.{Piece}
 use Rattle.shape.specs.declared.Scalar.{Scalar}
 use Rattle.shape.specs.declared.Shape.{Shape}
@@ -33,7 +34,6 @@ use Rattle.describe.specs.Description.{Description}
 use Rattle.describe.specs.Questions.{isByReference, returnsByReference}
 use Rattle.spend.specs.declared.Left.{Left}
 use Rattle.spend.specs.Spending.{wantOf}
-use Rattle.classify.specs.declared.Arg as args
 use Rattle.search.specs.Matches.{matches}
 use Rattle.classify.specs.Pass.{Pass, ignore, direct, pieces, reference, memory}
 

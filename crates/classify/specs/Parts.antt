@@ -5,6 +5,7 @@ use mathlib.Core.List.{List}
 use mathlib.Core.Bool.{Bool, true, false, cond}
 use lib.Dec.{ltb}
 use lib.ListN.{length}
+use Rattle.shape.specs.declared.Arg as args
 use Rattle.shape.specs.declared.Piece.{Piece}
 use Rattle.shape.specs.declared.Scalar.{Scalar}
 use Rattle.shape.specs.declared.Shape.{Shape}
@@ -25,7 +26,6 @@ use Rattle.spend.specs.Ways as made
 use Rattle.scalars.specs.Spending.{scalarArgument, scalarReturn}
 use Rattle.search.specs.Searched.{noClasses, classesBy, noSource}
 use Rattle.writing.specs.Slots.{slotsIn, slotsInScalar}
-use Rattle.classify.specs.declared.Arg as args
 use Rattle.classify.specs.declared.Call.{Call}
 use Rattle.classify.specs.declared.Answer.{Answer}
 use Rattle.classify.specs.declared.Decided.{Decided}

@@ -5,6 +5,7 @@ use mathlib.Core.List.{List, [], _∷_}
 use mathlib.Core.Bool.{Bool, true, false, _&&_, not, cond}
 use lib.Dec.{ltb}
 use lib.ListN.{length}
+use Rattle.shape.specs.declared.Arg as args
 use Rattle.shape.specs.declared.Piece.{Piece}
 use Rattle.shape.specs.declared.Shape.{Shape}
 use Rattle.slots.specs.declared.Slot.{Slot}
@@ -24,7 +25,6 @@ use Rattle.spend.specs.declared.Step as steps
 use Rattle.spend.specs.Ways as made
 use Rattle.spend.specs.Spending.{travelOf}
 use Rattle.scalars.specs.Spending.{scalarArgument, scalarReturn}
-use Rattle.classify.specs.declared.Arg as args
 use Rattle.search.specs.Matches.{matches, sourceOf}
 
 -- what decides a value: the decision, and for an aggregate the test of the rule that made it

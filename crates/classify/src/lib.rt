@@ -3,6 +3,7 @@
 use describe::ReturnPointer;
 use describe::Rules;
 use describe::Variadic;
+use shape::Arg;
 use shape::Scalar;
 use shape::Shape;
 use slots::Found;
@@ -32,13 +33,6 @@ pub struct Call {
     pub integer: u64,
     pub float: u64,
     pub integers_only: bool,
-}
-
-// What is asked about. The pieces of an aggregate stand beside it, as words.
-pub enum Arg {
-    Void,
-    Scalar(Scalar),
-    Aggregate(Shape),
 }
 
 // How the value travels, what it passes over and is given, and how many slots were written; or the refusal, with every other number 0.

@@ -4,11 +4,11 @@ use mathlib.Core.Path.{_≡_}
 use mathlib.Core.List.{List}
 use borrow.Author.Tests.{le-ltb}
 use lib.ListN.{length}
+use Rattle.shape.specs.declared.Arg.{Arg}
 use Rattle.shape.specs.Numbers.{accepted}
 use Rattle.shape.specs.Words.{piecesOf}
 use Rattle.slots.specs.Words.{slotSize}
 use Rattle.abis.specs.Abis.{described}
-use Rattle.classify.specs.declared.Arg.{Arg}
 use Rattle.classify.specs.declared.Call.{Call}
 use Rattle.classify.specs.Pass.{slotsOf, wayOf}
 use Rattle.classify.specs.Classify.{Passed, returns, argument, variadicArgument}

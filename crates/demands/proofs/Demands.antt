@@ -14,14 +14,14 @@ use denote.Ref.{now}
 use denote.Triple.Clauses.{AtExit}
 use borrow.Fn.World.{ArgsD}
 use lib.ListN.{length, take}
+use Rattle.shape.specs.declared.Arg.{Arg}
+use Rattle.shape.specs.declared.Arg.the-variants.{Aggregate}
 use Rattle.shape.specs.declared.Shape.{Shape}
 use Rattle.shape.specs.Numbers.{accepted}
 use Rattle.shape.specs.Words.{piecesOf}
 use Rattle.slots.specs.declared.Slot.{Slot}
 use Rattle.slots.specs.Words.{slotSize}
 use Rattle.abis.specs.Abis.{described}
-use Rattle.classify.specs.declared.Arg.{Arg}
-use Rattle.classify.specs.declared.Arg.the-variants.{Aggregate}
 use Rattle.classify.specs.declared.Call.{Call}
 use Rattle.classify.specs.declared.Answer.{Answer}
 use Rattle.classify.specs.Pass.{slotsOf}

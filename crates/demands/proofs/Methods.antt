@@ -6,12 +6,12 @@ use mathlib.Core.List.{List}
 use mathlib.Core.Option.Option.{some}
 use contract.Lifetimes.{Lfts}
 use denote.Ref.{RefT, now}
+use Rattle.shape.specs.declared.Arg.the-variants.{Aggregate}
 use Rattle.shape.specs.declared.Shape.{Shape}
 use Rattle.shape.specs.Numbers.{accepted}
 use Rattle.shape.specs.Words.{piecesOf}
 use Rattle.slots.specs.declared.Slot.{Slot}
 use Rattle.abis.specs.Abis.{described}
-use Rattle.classify.specs.declared.Arg.the-variants.{Aggregate}
 use Rattle.classify.specs.declared.Call.{Call}
 use Rattle.classify.specs.declared.Answer.{Answer}
 use Rattle.classify.specs.Answers.{leftOf}

@@ -8,6 +8,7 @@ use native.Mathlib.Omega.{arith}
 use borrow.Author.Tests.{ltb-true}
 use lib.Dec.{leb, ltb}
 use lib.ListN.{length}
+use Rattle.shape.specs.declared.Arg as args
 use Rattle.shape.specs.declared.Piece.{Piece}
 use Rattle.shape.specs.declared.Scalar.{Scalar}
 use Rattle.shape.specs.declared.Shape.{Shape}
@@ -18,7 +19,6 @@ use Rattle.checks.specs.Check.{refuse, orElse, scalarRefusal, pieceRefusal, pie
 use Rattle.slots.specs.Words.{slotSize, written}
 use Rattle.slots.proofs.Words.{written-short}
 use Rattle.spend.specs.declared.Spent.{Spent}
-use Rattle.classify.specs.declared.Arg as args
 use Rattle.classify.specs.declared.Call.{Call}
 use Rattle.classify.specs.Pass.{wayOf, slotsOf}
 use Rattle.classify.specs.Classify.{Passed}

@@ -8,6 +8,7 @@ use native.Mathlib.Omega.{arith}
 use borrow.Author.Tests.{leb-false, ltb-false, lt-leb, le-ltb}
 use lib.Dec.{T, leb, ltb}
 use lib.ListN.{length}
+use Rattle.shape.specs.declared.Arg as args
 use Rattle.shape.specs.Numbers.{accepted, no-room}
 use Rattle.shape.specs.Words.{piecesOf}
 use Rattle.checks.proofs.Accepted.{refuse-none}
@@ -16,7 +17,6 @@ use Rattle.slots.specs.Words.{slotSize}
 use Rattle.describe.specs.declared.Variadic.the-variants.{UnnamedIntegers}
 use Rattle.abis.specs.Abis.{described}
 use Rattle.spend.specs.declared.Decision.{Decision}
-use Rattle.classify.specs.declared.Arg as args
 use Rattle.classify.specs.declared.Call.{Call}
 use Rattle.classify.specs.declared.Answer.{Answer}
 use Rattle.classify.specs.Pass.{wayOf, slotsOf}

@@ -7,9 +7,9 @@ use mathlib.Core.Bool.{Bool, true, cond}
 use mathlib.Core.Option.Option.{some}
 use lib.Dec.{ltb}
 use lib.ListN.{length, take, getD, getElem?}
+use Rattle.shape.specs.declared.Arg as args
 use Rattle.shape.specs.Numbers.{accepted}
 use Rattle.abis.specs.Abis.{described}
-use Rattle.classify.specs.declared.Arg as args
 use Rattle.classify.specs.declared.Call.{Call}
 use Rattle.classify.specs.declared.Answer.{Answer}
 use Rattle.classify.specs.Classify.{isIntegersOnly}

@@ -6,6 +6,7 @@ use mathlib.Core.Bool.{false}
 use mathlib.Core.Option.{Option}
 use mathlib.Core.Option.Option.{none, some}
 use lib.ListN.{length, replicate}
+use Rattle.shape.specs.declared.Arg as args
 use Rattle.shape.specs.Numbers.{accepted, integer, single, double, x87-extended}
 use Rattle.shape.specs.Words.{scalar}
 use Rattle.slots.specs.declared.Slot.{Slot}
@@ -14,7 +15,6 @@ use Rattle.spend.specs.declared.Way.{Way}
 use Rattle.spend.specs.declared.Way.the-variants.{Direct, Pieces, Reference, Memory}
 use Rattle.spend.specs.declared.Spent.{Spent}
 use Rattle.spend.specs.Ways.{spends}
-use Rattle.classify.specs.declared.Arg as args
 use Rattle.classify.specs.declared.Call.{Call}
 use Rattle.classify.specs.declared.Answer.{Answer}
 use Rattle.classify.specs.Classify.{leaves}

@@ -2,9 +2,9 @@
 use Prim.Native.Nat.{ℕ}
 use mathlib.Core.Path.{_≡_}
 use mathlib.Core.List.{List}
+use Rattle.shape.specs.declared.Arg as args
 use Rattle.describe.specs.Codes.{flag}
 use Rattle.spend.specs.Ways.{wayNumber}
-use Rattle.classify.specs.declared.Arg as args
 use Rattle.classify.specs.declared.Call.{Call}
 use Rattle.classify.specs.declared.Answer as value
 use Rattle.numbers.specs.declared.Answer.{Answer}

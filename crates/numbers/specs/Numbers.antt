@@ -2,10 +2,10 @@
 use Prim.Native.Nat.{ℕ}
 use mathlib.Core.Bool.{Bool, not}
 use lib.Dec.{eqb}
+use Rattle.shape.specs.declared.Arg as args
 use Rattle.shape.specs.declared.Shape.{Shape}
 use Rattle.describe.specs.Codes.{flag}
 use Rattle.spend.specs.Ways.{wayNumber}
-use Rattle.classify.specs.declared.Arg as args
 use Rattle.classify.specs.declared.Call.{Call}
 use Rattle.classify.specs.declared.Answer as value
 use Rattle.numbers.specs.declared.Answer.{Answer}

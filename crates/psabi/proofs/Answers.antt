@@ -10,6 +10,8 @@ use borrow.Author.Tests.{ltb-false}
 use lib.Dec.{ltb, leb}
 use lib.Seq.{take-append-seam}
 use lib.ListN.{length, take}
+use Rattle.shape.specs.declared.Arg.{Arg}
+use Rattle.shape.specs.declared.Arg.the-variants.{Aggregate}
 use Rattle.shape.specs.declared.Shape.{Shape}
 use Rattle.shape.specs.Numbers.{no-room}
 use Rattle.shape.specs.Words.{piecesOf}
@@ -19,8 +21,6 @@ use Rattle.slots.specs.Words.{slotSize, wordsOf, written}
 use Rattle.slots.proofs.Words.{put-fits, length-words}
 use Rattle.abis.specs.Abis.{described, descriptions}
 use Rattle.spend.specs.declared.Spent.{Spent}
-use Rattle.classify.specs.declared.Arg.{Arg}
-use Rattle.classify.specs.declared.Arg.the-variants.{Aggregate}
 use Rattle.classify.specs.declared.Call.{Call}
 use Rattle.classify.specs.declared.Answer.{Answer}
 use Rattle.classify.specs.Pass.{Pass, ignore, direct, pieces, reference, memory, wayOf, slotsOf}

@@ -6,9 +6,9 @@ use mathlib.Core.List.{List, [], _∷_, map}
 use mathlib.Core.Option.{Option}
 use mathlib.Core.Option.Option.{none, some}
 use native.Mathlib.Omega.{arith}
+use Rattle.shape.specs.declared.Arg.the-variants.{Aggregate}
 use Rattle.abis.specs.Abis.{described, descriptions}
 use Rattle.spend.specs.declared.Left.{Left}
-use Rattle.classify.specs.declared.Arg.the-variants.{Aggregate}
 use Rattle.classify.specs.Pass.{Pass, ignore, direct, pieces, reference, memory}
 use Rattle.classify.specs.Classify.{Passed, leaves, argument, returns}
 use Rattle.psabi.specs.Psabi.{Free, free, Travels}

@@ -6,6 +6,7 @@ use mathlib.Core.List.{List, [], _∷_, map}
 use mathlib.Core.Option.{Option}
 use mathlib.Core.Option.Option.{none, some}
 use lib.ListN.{getD, replicate, List·getD-map}
+use Rattle.shape.specs.declared.Arg.the-variants.{Aggregate}
 use Rattle.shape.specs.declared.Piece.{Piece}
 use Rattle.shape.specs.declared.Shape.{Shape}
 use Rattle.shape.specs.Questions.{allOf, isAllOf}
@@ -15,7 +16,6 @@ use Rattle.find.specs.Find.{foundIf, floatsAt, x87Stack}
 use Rattle.eightbytes.specs.Class as ours
 use Rattle.eightbytes.specs.Eightbytes.{cover, mark, fits, marked, spoiled, mend, settled, classified, slotsFrom, slotsFound, eightbytes}
 use Rattle.abis.specs.Abis.{described, descriptions}
-use Rattle.classify.specs.declared.Arg.the-variants.{Aggregate}
 use Rattle.search.specs.Matches.{matches}
 use Rattle.classify.specs.Classify as rust
 use Rattle.classify.specs.Classify.{leaves, argument, returns}

@@ -11,6 +11,7 @@ use native.Mathlib.Decide.{decLe}
 use borrow.Author.Tests.{ne-eqb, lt-ltb, le-ltb}
 use lib.Dec.{leb}
 use lib.ListN.{length, replicate, length-replicate}
+use Rattle.shape.specs.declared.Arg.the-variants.{Aggregate}
 use Rattle.shape.specs.declared.Piece.{Piece}
 use Rattle.shape.specs.declared.Shape.{Shape}
 use Rattle.shape.specs.Words.{piece}
@@ -27,7 +28,6 @@ use Rattle.describe.specs.declared.Short.the-variants.{Memory}
 use Rattle.describe.specs.Description.{rule, ruleShort}
 use Rattle.abis.specs.Abis.{described, descriptions}
 use Rattle.spend.specs.declared.Left.{Left}
-use Rattle.classify.specs.declared.Arg.the-variants.{Aggregate}
 use Rattle.search.specs.Matches.{matches}
 use Rattle.classify.specs.Pass.{pieces, reference, memory}
 use Rattle.classify.specs.Classify.{Passed, leaves, passed, shortOf, inRegisters, travel, lessBoth, orElse, tried, apply, argument, returns}

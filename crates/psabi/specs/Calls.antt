@@ -2,11 +2,11 @@
 -- and by row 0.
 use mathlib.Core.List.{List, [], _∷_}
 use mathlib.Core.Option.{Option}
+use Rattle.shape.specs.declared.Arg.the-variants.{Aggregate}
 use Rattle.shape.specs.declared.Piece.{Piece}
 use Rattle.shape.specs.declared.Shape.{Shape}
 use Rattle.abis.specs.Abis.{described}
 use Rattle.spend.specs.declared.Left.{Left}
-use Rattle.classify.specs.declared.Arg.the-variants.{Aggregate}
 use Rattle.classify.specs.Classify.{Passed, call, argument, returns}
 use Rattle.psabi.specs.Psabi.{Free, free, argumentGenerals, argumentVectors, Travels, inRegisters, onStack, byAddress, psabiArgument, psabiResult}
 use Rattle.psabi.specs.Domain.{Domain}

@@ -3,7 +3,7 @@ use Prim.Native.Nat.{ℕ}
 use mathlib.Core.Path.{_≡_}
 use mathlib.Core.Bool.{Bool}
 use lib.Dec.{eqb}
-use Rattle.classify.specs.declared.Arg as args
+use Rattle.shape.specs.declared.Arg as args
 use Rattle.reader.specs.declared.Operation as operations
 use Rattle.reader.specs.Known.{openAfter}
 

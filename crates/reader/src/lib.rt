@@ -1,6 +1,6 @@
 // What the reader of a sheet knows between two records (docs/REFERENCE.md, 11): at the start, once an operation was performed, and behind a
 // stop. The crate reading has what comes of a record.
-use classify::Arg;
+use shape::Arg;
 use shape::Shape;
 ghost use mathlib.Core.Path.{_≡_};
 ghost use Rattle.reader.specs.Known as spec;

@@ -8,9 +8,9 @@ use borrow.Author.Tests.{lt-leb, le-leb, lt-ltb, le-ltb, eq-eqb, ne-eqb, leb-tru
 use lib.Dec.{leb, ltb, eqb}
 use lib.ListN.{length, set}
 use lib.Seq.{sets-eq}
+use Rattle.shape.specs.declared.Arg as args
 use Rattle.slots.specs.Words.{putAt}
 use Rattle.slots.proofs.Words.{put-fits}
-use Rattle.classify.specs.declared.Arg as args
 use Rattle.reader.specs.declared.Due.{Due}
 use Rattle.reader.specs.declared.Reader.{Reader}
 use Rattle.reader.specs.declared.Operation as operations

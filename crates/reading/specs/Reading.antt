@@ -5,9 +5,9 @@ use mathlib.Core.List.{List, [], _∷_}
 use mathlib.Core.Bool.{Bool, _||_, not, cond}
 use lib.Dec.{leb, ltb, eqb}
 use lib.ListN.{length}
+use Rattle.shape.specs.declared.Arg as args
 use Rattle.shape.specs.declared.Shape.{Shape}
 use Rattle.slots.specs.Words.{putAt}
-use Rattle.classify.specs.declared.Arg as args
 use Rattle.reader.specs.declared.Due.{Due}
 use Rattle.reader.specs.declared.Reader.{Reader}
 use Rattle.reader.specs.declared.Operation as operations

@@ -2,7 +2,6 @@
 // between two records is a small value, of the crate reader; the pieces of an aggregate that is being read stand in a lent buffer.
 mod records;
 
-use classify::Arg;
 use reader::Due;
 use reader::Operation;
 use reader::Reader;
@@ -10,6 +9,7 @@ use reader::nothing_due;
 pub use records::RECORD;
 use records::Record;
 use records::record_of;
+use shape::Arg;
 use shape::Scalar;
 use shape::Shape;
 ghost use mathlib.Core.Path.{_≡_};

@@ -109,6 +109,13 @@ pub struct Shape {
     pub floating: bool,
 }
 
+// What a call is asked about: a return value or an argument. The pieces of an aggregate stand beside it, as words.
+pub enum Arg {
+    Void,
+    Scalar(Scalar),
+    Aggregate(Shape),
+}
+
 // Whether some words hold a piece and every piece is of this kind.
 pub fn is_all_of(words: &[u64], kind: u64) -> bool
     ensures { λ r. ⌜ r ≡ isAllOf kind (piecesOf (now (words .entry))) ⌝ }

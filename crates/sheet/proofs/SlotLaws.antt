@@ -7,10 +7,10 @@ use native.Mathlib.Omega.{arith}
 use borrow.Author.Tests.{ltb-false}
 use lib.Dec.{leb, ltb}
 use lib.ListN.{length}
+use Rattle.shape.specs.declared.Arg.{Arg}
 use Rattle.shape.specs.Numbers.{accepted, bad-abi, no-room}
 use Rattle.slots.specs.Words.{slotSize}
 use Rattle.spend.specs.declared.Spent.{Spent}
-use Rattle.classify.specs.declared.Arg.{Arg}
 use Rattle.classify.specs.declared.Call.{Call}
 use Rattle.classify.specs.declared.Answer.{Answer}
 use Rattle.classify.specs.Pass.{wayOf, slotsOf}

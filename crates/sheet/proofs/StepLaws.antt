@@ -7,10 +7,10 @@ use native.Mathlib.Omega.{arith}
 use borrow.Author.Tests.{le-leb, leb-true, not-true, not-false}
 use lib.Dec.{leb, eqb}
 use lib.ListN.{length}
+use Rattle.shape.specs.declared.Arg.{Arg}
 use Rattle.slots.specs.Words.{putAt}
 use Rattle.slots.proofs.Words.{put-none, put-fits}
 use Rattle.text.specs.Text.{appendEnd, appended}
-use Rattle.classify.specs.declared.Arg.{Arg}
 use Rattle.reader.specs.declared.Reader.{Reader}
 use Rattle.reader.specs.declared.Operation as operations
 use Rattle.reading.specs.declared.Event as events

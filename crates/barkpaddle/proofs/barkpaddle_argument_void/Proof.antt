@@ -1,9 +1,9 @@
 -- `barkpaddle_argument_void` hands on what the operation answers and writes. Assumes nothing.
 use borrow.Author.Needs.{needs}
 use mathlib.Core.Path.{refl}
+use Rattle.shape.specs.declared.Arg as args
 use Rattle.classify.specs.Answers.{argumentAnswer, argumentWritten}
 use Rattle.numbers.proofs.Handed.{handed, written}
-use Rattle.classify.specs.declared.Arg as args
 use Rattle.classify.proofs.Operations.{argument-void}
 use Rattle.barkpaddle.proofs.barkpaddle_argument_void.Statement.{statement}
 use Rattle.barkpaddle.proofs.barkpaddle_argument_void.Tie as tie

@@ -1,7 +1,7 @@
 -- `barkpaddle_return_aggregate` hands on what the operation answers and writes. Assumes nothing.
 use borrow.Author.Needs.{needs}
 use mathlib.Core.Path.{ap}
-use Rattle.classify.specs.declared.Arg as args
+use Rattle.shape.specs.declared.Arg as args
 use Rattle.classify.specs.Answers.{returnsAnswer, returnsWritten}
 use Rattle.numbers.proofs.Handed.{handed, written}
 use Rattle.barkpaddle_returns.proofs.barkpaddle_return_aggregate.Statement.{statement}

@@ -1,9 +1,9 @@
 -- `barkpaddle_return_void` hands on what the operation answers and writes. Assumes nothing.
 use borrow.Author.Needs.{needs}
 use mathlib.Core.Path.{refl}
+use Rattle.shape.specs.declared.Arg as args
 use Rattle.classify.specs.Answers.{returnsAnswer, returnsWritten}
 use Rattle.numbers.proofs.Handed.{handed, written}
-use Rattle.classify.specs.declared.Arg as args
 use Rattle.classify.proofs.Operations.{returns-void}
 use Rattle.barkpaddle_returns.proofs.barkpaddle_return_void.Statement.{statement}
 use Rattle.barkpaddle_returns.proofs.barkpaddle_return_void.Tie as tie
