@@ -1,15 +1,15 @@
 -- The argument that a question stands for, one law for each form, and an answer in numbers. Assumes nothing.
 use mathlib.Core.Path.{_≡_}
-use mathlib.Core.Bool.{not}
 use mathlib.Core.List.{List}
-use lib.Dec.{eqb}
 use borrow.Author.Tests.{eq-eqb, ne-eqb}
 use Prim.Native.Nat.{ℕ}
 use Rattle.shape.specs.declared.Arg as args
 use Rattle.shape.specs.declared.Arg.the-variants.{Void, Scalar, Aggregate}
+use Rattle.shape.specs.declared.Shape.{Shape}
 use Rattle.spend.specs.Ways.{wayNumber}
 use Rattle.classify.specs.declared.Call.{Call}
 use Rattle.classify.specs.declared.Answer.{Answer}
+use Rattle.numbers.specs.Numbers.{shapeFrom}
 use Rattle.bridge.specs.declared.What.{What}
 use Rattle.bridge.specs.declared.Answered.{Answered}
 use Rattle.bridge.specs.Lent.{argOf, lent}
@@ -25,10 +25,9 @@ module _ (w : What) where
     of-scalar h = rw (ne-eqb (w .form) 0 h0, eq-eqb (w .form) 1 h)
 
     module _ (h1 : (w .form ≡ 1) → ⊥) where
-      pub of-aggregate : w .form ≡ 2
-          → Aggregate (record { size = w .size; align = w .align; complex = not (eqb (w .complex) 0); floating = not (eqb (w .floating) 0) }) ≡ argOf w
+      pub of-aggregate : w .form ≡ 2 → (s : Shape) → s ≡ shapeFrom (w .size) (w .align) (w .complex) (w .floating) → Aggregate s ≡ argOf w
       unfolding argOf
-      of-aggregate h = rw (ne-eqb (w .form) 0 h0, ne-eqb (w .form) 1 h1, eq-eqb (w .form) 2 h)
+      of-aggregate h s es = rw (es, ne-eqb (w .form) 0 h0, ne-eqb (w .form) 1 h1, eq-eqb (w .form) 2 h)
 
       pub of-unknown : ((w .form ≡ 2) → ⊥) → Scalar (record { kind = 5; size = 0; align = 0 }) ≡ argOf w
       unfolding argOf

@@ -1,12 +1,12 @@
 -- What a bridge asks and is told, as numbers (REFERENCE 14): the numbers of a question stand for an argument, and an outcome for its numbers.
 use Prim.Native.Nat.{ℕ}
-use mathlib.Core.Bool.{not, cond}
+use mathlib.Core.Bool.{cond}
 use lib.Dec.{eqb}
 use Rattle.shape.specs.declared.Arg.{Arg}
-use Rattle.shape.specs.declared.Arg.the-variants.{Void, Scalar, Aggregate}
 use Rattle.spend.specs.Ways.{wayNumber}
 use Rattle.classify.specs.declared.Outcome as classified
 use Rattle.classify.specs.declared.Answer.{Answer}
+use Rattle.numbers.specs.Numbers as numbers
 use Rattle.bridge.specs.declared.What.{What}
 use Rattle.bridge.specs.declared.Outcome.{Outcome}
 use Rattle.bridge.specs.declared.Answered.{Answered}
@@ -28,11 +28,10 @@ no-kind = 5
 -- the argument that a question stands for; a form that isn't known stands for a scalar of no kind
 unfoldable pub argOf : What → Arg
 argOf w =
-    cond (eqb (w .form) void) Void
-    (cond (eqb (w .form) scalar) (Scalar (record { kind = w .kind; size = w .size; align = w .align }))
-    (cond (eqb (w .form) aggregate)
-    (Aggregate (record { size = w .size; align = w .align; complex = not (eqb (w .complex) 0); floating = not (eqb (w .floating) 0) }))
-    (Scalar (record { kind = no-kind; size = 0; align = 0 }))))
+    cond (eqb (w .form) void) numbers.void
+    (cond (eqb (w .form) scalar) (numbers.scalar (w .kind) (w .size) (w .align))
+    (cond (eqb (w .form) aggregate) (numbers.aggregate (w .size) (w .align) (w .complex) (w .floating))
+    (numbers.scalar no-kind 0 0)))
 
 -- an outcome in numbers
 abbrev pub outcomeIn : classified.Outcome → Outcome

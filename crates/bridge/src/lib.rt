@@ -3,7 +3,6 @@
 use classify::Call;
 use shape::Arg;
 use shape::Scalar;
-use shape::Shape;
 ghost use mathlib.Core.Path.{_≡_};
 ghost use Rattle.classify.specs.Answers.{variadicAnswer, returnsAnswer, returnsWritten, argumentAnswer, argumentWritten, dotsAnswer, dotsWritten};
 ghost use Rattle.bridge.specs.Lent.{argOf, outcomeIn, lent};
@@ -145,12 +144,12 @@ fn arg_of(what: What) -> Arg
         });
     }
     if what.form == AGGREGATE {
-        return Arg::Aggregate(Shape {
-            size: what.size,
-            align: what.align,
-            complex: what.complex != 0,
-            floating: what.floating != 0,
-        });
+        return Arg::Aggregate(numbers::shape_from(
+            what.size,
+            what.align,
+            what.complex,
+            what.floating,
+        ));
     }
     Arg::Scalar(Scalar {
         kind: NO_KIND,
