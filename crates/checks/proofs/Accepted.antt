@@ -1,19 +1,18 @@
--- What "not refused" gives its users: the limits that an accepted scalar, piece, list and shape keep. Assumes nothing.
-use Prim.Native.Nat.{ℕ, zero, suc, _+_, _/_, _%_, _≤_}
-use mathlib.Core.Path.{_≡_, refl, sym, _∙_}
-use mathlib.Core.List.{List, [], _∷_}
+-- What "not refused" gives its users: the limits that an accepted scalar, piece and list keep. Assumes nothing.
+use Prim.Native.Nat.{ℕ, zero, suc, _/_, _%_, _≤_}
+use mathlib.Core.Path.{_≡_, refl}
+use mathlib.Core.List.{List, _∷_}
 use mathlib.Core.Bool.{Bool, true, false}
 use native.Mathlib.Omega.{arith}
 use borrow.Author.Tests.{ltb-false}
 use lib.Dec.{ltb}
-use lib.ListN.{length, drop}
+use lib.ListN.{length}
 use Rattle.shape.specs.declared.Piece.{Piece}
 use Rattle.shape.specs.declared.Scalar.{Scalar}
-use Rattle.shape.specs.declared.Shape.{Shape}
 use Rattle.shape.specs.Numbers.{quad, accepted, most-size, most-offset, most-align, most-pieces}
-use Rattle.shape.specs.Words.{piecesOf, pieceAt}
-use Rattle.checks.specs.Check.{refuse, orElse, scalarRefusal, pieceRefusal, piecesRefusal, listRefusal, shapeRefusal}
-use Rattle.shape.proofs.Words.{pieces-step, length-pieces}
+use Rattle.shape.specs.Words.{piecesOf}
+use Rattle.checks.specs.Check.{refuse, orElse, scalarRefusal, pieceRefusal, piecesRefusal, listRefusal}
+use Rattle.shape.proofs.Words.{length-pieces}
 
 pub refuse-none : (b : Bool) (n rest : ℕ) → refuse b (suc n) rest ≡ accepted → (b ≡ false) × (rest ≡ accepted)
 refuse-none true n rest e = absurd (omega arith)
@@ -58,18 +57,6 @@ pub within-first : (p : Piece) (ps : List Piece) → piecesRefusal (p ∷ ps) �
 unfolding piecesRefusal
 within-first p ps e = let x = else-none _ _ e in (within p (x .0), x .1)
 
--- at a place of accepted words with a whole piece left: the piece is within the limits, and the rest is accepted
-module _ (ws : List ℕ) (at : ℕ) (ok : piecesRefusal (piecesOf (drop at ws)) ≡ accepted) (h : at + 4 ≤ length ws) where
-  parted : (pieceRefusal (pieceAt ws at) ≡ accepted) × (piecesRefusal (piecesOf (drop (at + 4) ws)) ≡ accepted)
-  unfolding piecesRefusal
-  parted = else-none _ _ (rw (pieces-step ws at h) at ok)
-
-  pub within-here : Within (pieceAt ws at)
-  within-here = within _ (parted .0)
-
-  pub ok-later : piecesRefusal (piecesOf (drop (at + 4) ws)) ≡ accepted
-  ok-later = parted .1
-
 -- an accepted list: whole pieces, not too many
 pub record Whole (ws : List ℕ) : Type 0 where
   pub whole : length ws % 4 ≡ 0
@@ -83,18 +70,3 @@ whole-list ws e =
     let z : length ws % 4 ≤ 0 = ltb-false _ _ (w .0) in
     let m : length (piecesOf ws) ≤ most-pieces = ltb-false _ _ (n .0) in
     record { whole = omega arith; few = omega (arith, length-pieces ws) }
-
--- an accepted shape: an accepted list, a size and an alignment within the limits, and accepted pieces
-pub record Accepted (shape : Shape) (ws : List ℕ) : Type 0 where
-  pub list : Whole ws
-  pub size≤ : shape .size ≤ most-offset
-  pub align≤ : shape .align ≤ most-align
-  pub pieces : piecesRefusal (piecesOf ws) ≡ accepted
-
-pub accepted-shape : (shape : Shape) (ws : List ℕ) → shapeRefusal shape ws ≡ accepted → Accepted shape ws
-unfolding shapeRefusal
-accepted-shape shape ws e =
-    let l = else-none _ _ e in
-    let z = refuse-none (ltb most-offset (shape .size)) 4 _ (l .1) in
-    let a = refuse-none (ltb most-align (shape .align)) 5 _ (z .1) in
-    record { list = whole-list ws (l .0); size≤ = ltb-false _ _ (z .0); align≤ = ltb-false _ _ (a .0); pieces = a .1 }

@@ -12,13 +12,12 @@ use Rattle.slots.specs.declared.Slot.{Slot}
 use Rattle.slots.specs.Search.{Search, found, nothing, floatsIn}
 use Rattle.describe.specs.declared.Rule.{Rule}
 use Rattle.describe.specs.declared.Test.{Test}
-use Rattle.describe.specs.declared.Test.the-variants.{Anything, Empty, SizeOneOf, SizeAtMost, Homogeneous, FloatPair, X87Stack, LoneFloat, FloatingMode, ComplexFloat, Eightbytes}
+use Rattle.describe.specs.declared.Test.the-variants.{Anything}
 use Rattle.describe.specs.declared.Variadic.{Variadic}
 use Rattle.describe.specs.declared.Variadic.the-variants.{SameAsFixed, AlwaysMemory, BothBanks, IntegersOnly, UnnamedIntegers}
 use Rattle.describe.specs.Description.{Description}
 use Rattle.spend.specs.declared.Left.{Left}
 use Rattle.spend.specs.declared.Way as ways
-use Rattle.spend.specs.declared.Source as sources
 use Rattle.spend.specs.declared.Slots.{Slots}
 use Rattle.spend.specs.declared.Decision.{Decision}
 use Rattle.spend.specs.declared.Step as steps

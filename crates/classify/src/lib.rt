@@ -1,6 +1,5 @@
 // One call and its operations: a return value, an argument, an argument after the dots, and the mark of a variadic function (docs/REFERENCE.md, 9).
 // A call is a value, and each operation hands back the next one. Anyone can hand in any numbers: every operation checks for itself.
-use describe::ReturnPointer;
 use describe::Rules;
 use describe::Variadic;
 use shape::Arg;

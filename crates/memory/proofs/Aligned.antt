@@ -2,7 +2,7 @@
 use Prim.Native.Nat.{ℕ, zero, suc, _+_, _≤_, max}
 use mathlib.Core.Path.{_≡_, refl, ap, sym, _∙_}
 use mathlib.Core.List.{List, [], _∷_}
-use mathlib.Core.Bool.{Bool, true, false, cond}
+use mathlib.Core.Bool.{true, false}
 use mathlib.Core.Option.{Option}
 use mathlib.Core.Option.Option.{none, some}
 use native.Mathlib.Omega.{arith}
@@ -26,7 +26,7 @@ use Rattle.abis.specs.Abis.{described}
 use Rattle.abis.proofs.Rows.{argument-rule}
 use Rattle.abis.proofs.Lists.{arguments-few}
 use Rattle.memory.specs.declared.Limit as limits
-use Rattle.memory.specs.InMemory.{limitOf, homogeneousLimit, isFound, isHomogeneousBy, inMemory}
+use Rattle.memory.specs.InMemory.{limitOf, homogeneousLimit, isFound, packedAlign, inMemory}
 use Rattle.memory.specs.Limits as told
 
 -- ---- the first rule for homogeneous aggregates
@@ -112,19 +112,19 @@ option-none (some m) e = absurd (let z : _≡_ {A = ℕ} 0 1 = cc in omega arith
 
 module _ (abi : ℕ) (shape : Shape) (ps : List Piece) (limit : limits.Limit) (el : limit ≡ told.limitOf (described abi .arguments)) where
   module _ (B : Banks) (eb : B ≡ described abi .banks) (r : ℕ) (er : r ≡ max (shape .align) (B .«integer_width»)) where
-    pub packed-none : limit ≡ limits.the-variants.Nothing → r ≡ told.packedAlign (described abi) shape ps
-    unfolding told.packedAlign told.limitOf
+    pub packed-none : limit ≡ limits.the-variants.Nothing → r ≡ packedAlign (described abi) shape ps
+    unfolding packedAlign told.limitOf
     packed-none e = rw (er, eb, option-none (homogeneousLimit (described abi .arguments)) (sym el ∙ e))
 
     pub packed-other : (n : ℕ) → limit ≡ limits.the-variants.Of n → (f : Found) → f ≡ foundOf (homogeneous n shape ps) → f ≡ founds.the-variants.Nothing
-        → r ≡ told.packedAlign (described abi) shape ps
-    unfolding told.packedAlign told.limitOf
+        → r ≡ packedAlign (described abi) shape ps
+    unfolding packedAlign told.limitOf
     packed-other n e f ef x =
         rw (er, eb, option-of (homogeneousLimit (described abi .arguments)) n (sym el ∙ e), is-nothing (homogeneous n shape ps) (sym ef ∙ x))
 
   pub packed-homogeneous : (n : ℕ) → limit ≡ limits.the-variants.Of n → (f : Found) → f ≡ foundOf (homogeneous n shape ps) → (k m : ℕ) → f ≡ founds.the-variants.Slots k m
-      → shape .align ≡ told.packedAlign (described abi) shape ps
-  unfolding told.packedAlign told.limitOf
+      → shape .align ≡ packedAlign (described abi) shape ps
+  unfolding packedAlign told.limitOf
   packed-homogeneous n e f ef k m x =
       rw (option-of (homogeneousLimit (described abi .arguments)) n (sym el ∙ e), is-found (homogeneous n shape ps) k m (sym ef ∙ x))
 
@@ -133,6 +133,6 @@ module _ (abi : ℕ) (shape : Shape) (ps : List Piece) (o : Others) (eo : o ≡ 
   unfolding inMemory
   align-plain e = let q : described abi .«stack_args» ≡ RegisterSized = rw eo at e in rw q
 
-  pub align-packed : o .«stack_args» ≡ Packed → (r : ℕ) → r ≡ told.packedAlign (described abi) shape ps → r ≡ inMemory (described abi) shape ps
-  unfolding inMemory told.packedAlign
+  pub align-packed : o .«stack_args» ≡ Packed → (r : ℕ) → r ≡ packedAlign (described abi) shape ps → r ≡ inMemory (described abi) shape ps
+  unfolding inMemory
   align-packed e r er = let q : described abi .«stack_args» ≡ Packed = rw eo at e in rw (er, q)

@@ -41,10 +41,14 @@ abbrev pub isHomogeneousBy : Option ℕ → Shape → List Piece → Bool
 isHomogeneousBy none shape ps = false
 isHomogeneousBy (some limit) shape ps = isFound (homogeneous limit shape ps)
 
+-- in a packed area: a word boundary at least, unless the aggregate is homogeneous
+unfoldable pub packedAlign : Description → Shape → List Piece → ℕ
+packedAlign D shape ps =
+    cond (isHomogeneousBy (homogeneousLimit (D .arguments)) shape ps) (shape .align) (max (shape .align) (D .banks .«integer_width»))
+
 abbrev pub memoryBy : StackArgs → Description → Shape → List Piece → ℕ
 memoryBy RegisterSized D shape ps = shape .align
-memoryBy Packed D shape ps =
-    cond (isHomogeneousBy (homogeneousLimit (D .arguments)) shape ps) (shape .align) (max (shape .align) (D .banks .«integer_width»))
+memoryBy Packed D shape ps = packedAlign D shape ps
 
 -- what a fixed argument that travels as Memory is aligned to in the argument area
 unfoldable pub inMemory : Description → Shape → List Piece → ℕ

@@ -6,7 +6,7 @@ use slots::Found;
 ghost use mathlib.Core.Path.{_≡_};
 ghost use Rattle.shape.specs.Words.{piecesOf};
 ghost use Rattle.abis.specs.Abis.{described};
-ghost use Rattle.memory.specs.InMemory.{inMemory};
+ghost use Rattle.memory.specs.InMemory.{packedAlign, inMemory};
 ghost use Rattle.memory.specs.Limits as told;
 
 // What a fixed argument that travels as Memory is aligned to in the argument area.
@@ -23,7 +23,7 @@ pub fn align(abi: u64, shape: Shape, words: &[u64]) -> u64
 
 // In a packed area a homogeneous aggregate keeps its alignment, and any other is on a word boundary at least.
 fn packed_align(abi: u64, shape: Shape, words: &[u64]) -> u64
-    ensures { λ r. ⌜ r ≡ told.packedAlign (described abi) shape (piecesOf (now (words .entry))) ⌝ }
+    ensures { λ r. ⌜ r ≡ packedAlign (described abi) shape (piecesOf (now (words .entry))) ⌝ }
 {
     let banks = abis::banks(abi);
     let limit = homogeneous_limit(abi);

@@ -2,7 +2,7 @@
 -- definitions are passed on.
 use Prim.Native.Nat.{ℕ, _+_, _-_, _/_, _%_}
 use mathlib.Core.List.{List, [], _∷_}
-use mathlib.Core.Bool.{Bool, _||_, not, cond}
+use mathlib.Core.Bool.{_||_, not, cond}
 use lib.Dec.{leb, ltb, eqb}
 use lib.ListN.{length}
 use Rattle.shape.specs.declared.Arg as args

@@ -1,8 +1,8 @@
 -- The laws of rounding, of the largest of a measure, and of the record that pieces make. Assumes nothing.
 use Prim.Native.Nat.{ℕ, zero, suc, _+_, _-_, _*_, _/_, _%_, _≤_, _<_, max}
-use mathlib.Core.Path.{_≡_, refl, ap, sym, _∙_}
+use mathlib.Core.Path.{_≡_, refl, sym, _∙_}
 use mathlib.Core.List.{List, [], _∷_}
-use mathlib.Core.Bool.{Bool, true, false, _&&_}
+use mathlib.Core.Bool.{Bool, false, _&&_}
 use native.Mathlib.Omega.{arith}
 use native.Mathlib.Nat.{div-add-mod', div-mul-le-self, mod-lt, suc-mul}
 use borrow.Author.Tests.{lt-ltb, le-ltb, eq-eqb, ne-eqb}
@@ -13,11 +13,11 @@ use Rattle.shape.specs.declared.Piece.{Piece}
 use Rattle.shape.specs.Numbers.{accepted, bad-size, bad-align, most-offset, most-word}
 use Rattle.shape.specs.Words.{piecesOf, pieceAt}
 use Rattle.checks.specs.Check.{orElse, listRefusal, piecesRefusal}
-use Rattle.shape.specs.Questions.{isFloat, endOf}
+use Rattle.shape.specs.Questions.{isFloat}
 use Rattle.shape.proofs.Words.{pieces-step, pieces-end, length-pieces}
 use Rattle.checks.proofs.Accepted.{within-first, whole-list}
 use Rattle.records.specs.declared.Recorded.{Recorded}
-use Rattle.records.specs.Record.{roundUp, alignOf, maxOf, largestAlign, furthestEnd, isFloating, recorded, refuseRecord, recordOf, orRecord, recordAnswer}
+use Rattle.records.specs.Record.{roundUp, maxOf, largestAlign, furthestEnd, isFloating, recorded, refuseRecord, recordOf, orRecord, recordAnswer}
 
 -- ---- rounding
 

@@ -2,7 +2,6 @@
 use mathlib.Core.Path.{sym}
 use lib.Seq.{length-take-le}
 use native.Mathlib.Omega.{arith}
-use borrow.Author.Needs.{needs}
 use Rattle.bridge_main.proofs.among.Statement.{statement}
 use Rattle.bridge_main.proofs.among.Tie as tie
 
