@@ -1,10 +1,10 @@
 /*
  * Calls every entry of barkpaddle.h on good and on refused input, and checks each number of each answer and every word of each lent buffer.
  *
- * What is expected comes from the table of twelve calls and the rules of docs/REFERENCE.md, and from the lines that the original prints for
- * the same calls (oracle/tests/all/calls.rs), never from the library. lines.c beside this file holds it against the original's own answers.
- * An operation over a lent call is expected to do what the one by value does: each operation here is performed both ways, and a random
- * history, too.
+ * What is expected comes from the table of twelve calls (docs/REFERENCE.md, 9.8) and the other rules there, and from the lines that the
+ * original prints for the same calls (oracle/tests/all/calls.rs), never from the library. lines.c beside this file holds it against the
+ * original's own answers. An operation over a lent call is expected to do what the one by value does: each operation here is performed
+ * both ways, and a random history, too.
  *
  * Prints how many checks passed. What fails is said with its place, and the exit status is 1.
  */
@@ -352,7 +352,8 @@ static call call_of(uint64_t abi, uint64_t integer, uint64_t float_, uint64_t in
     return c;
 }
 
-/* The table of twelve calls. Left, passed over and given are in the order of a sheet's line. */
+/* The table of twelve calls (REFERENCE 9.8). Left, passed over and given are in the order of a sheet's line; the aggregates of calls 10 and
+ * 12 have other pieces than there. */
 static void twelve(void)
 {
     static const uint64_t n1[] = {5, 7, 0, 1, 0, 1}, s1[] = {0, 0, 8, 2, 8, 0};

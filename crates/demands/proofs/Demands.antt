@@ -167,7 +167,7 @@ pub every-register-once-lent : (d : ℕ) → d < 30 → (first : Answer) → Sta
     → (past ≡ map lent (history d (map lending.operationOf ops))) × ((n : ℕ) → Ledger d (take n (history d (map lending.operationOf ops))))
 every-register-once-lent = lending.ledger-lent
 
--- ---- The table of twelve calls
+-- ---- The table of twelve calls (REFERENCE 9.8)
 
 pub twelve-calls : map answerTo twelve ≡ map expected twelve
 twelve-calls = calls.twelve-calls

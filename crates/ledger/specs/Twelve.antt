@@ -1,4 +1,4 @@
--- The table of twelve calls (REFERENCE 9): what is asked of a call on a description, and the whole answer, in the table's order and numbers.
+-- The table of twelve calls (REFERENCE 9.8): what is asked of a call on a description, and the whole answer, in the table's order and numbers.
 -- A call that names several cases has an entry for each.
 use Prim.Native.Nat.{ℕ, _-_}
 use mathlib.Core.List.{List, [], _∷_, _++_}

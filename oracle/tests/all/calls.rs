@@ -1,4 +1,5 @@
-//! The table of calls (REFERENCE 10), each led to from a fresh call, and cases beside it.
+//! The table of twelve calls (REFERENCE 9.8), each led to from a fresh call, and cases beside it.
+//! The aggregates of calls 10 and 12 have other pieces than there.
 
 use crate::common;
 
