@@ -50,13 +50,15 @@ pub in-numbers : (a : Answer) (n : ℕ) → n ≡ wayNumber (a .outcome .way)
     (lent a)
 in-numbers a n h = rw h
 
--- An operation on a call and what is asked, from what the method behind it answers and writes.
-module _ (k : Call) (w : What) (v : args.Arg) (ev : v ≡ argOf w) (words out : List ℕ) where
-  pub told-of : (f : Call → args.Arg → List ℕ → List ℕ → Answer) (a : Answer) → a ≡ f k v words out → (r : Answered) → r ≡ lent a → r ≡ lent (f k (argOf w) words out)
-  told-of f a ea r er = rw (er, ea, ev)
+-- An operation on a call and what is asked, from what the method behind it answers and writes. The premises stand in the order in which a search
+-- finds them.
+pub told-of : (f : Call → args.Arg → List ℕ → List ℕ → Answer) (r : Answered) (a : Answer) → r ≡ lent a
+    → (k : Call) (w : What) (v : args.Arg) (words out : List ℕ) → a ≡ f k v words out → v ≡ argOf w → r ≡ lent (f k (argOf w) words out)
+told-of f r a er k w v words out ea ev = rw (er, ea, ev)
 
-  pub written-of : (f : Call → args.Arg → List ℕ → List ℕ → List ℕ) (after : List ℕ) → after ≡ f k v words out → after ≡ f k (argOf w) words out
-  written-of f after e = rw (e, ev)
+pub written-of : (f : Call → args.Arg → List ℕ → List ℕ → List ℕ) (after : List ℕ) (k : Call) (w : What) (v : args.Arg) (words out : List ℕ)
+    → after ≡ f k v words out → v ≡ argOf w → after ≡ f k (argOf w) words out
+written-of f after k w v words out e ev = rw (e, ev)
 
-pub marked-of : (k : Call) (f : Call → Answer) (a : Answer) → a ≡ f k → (r : Answered) → r ≡ lent a → r ≡ lent (f k)
-marked-of k f a ea r er = rw (er, ea)
+pub marked-of : (f : Call → Answer) (r : Answered) (a : Answer) → r ≡ lent a → (k : Call) → a ≡ f k → r ≡ lent (f k)
+marked-of f r a er k ea = rw (er, ea)

@@ -27,14 +27,15 @@ module _ (a : value.Answer) (way : ℕ) (ew : way ≡ wayNumber (a .outcome .way
       }) (inNumbers a)
   numbered = rw (ew, em)
 
--- An operation on a call and a value: k and v are what the entry made, k′ and v′ what its numbers say.
-module _ (k k′ : Call) (ek : k ≡ k′) (v v′ : args.Arg) (ev : v ≡ v′) (words out : List ℕ) where
-  pub handed : (f : Call → args.Arg → List ℕ → List ℕ → value.Answer) (a : value.Answer) → a ≡ f k v words out
-      → (r : Answer) → r ≡ inNumbers a → r ≡ inNumbers (f k′ v′ words out)
-  handed f a ea r er = rw (er, ea, ek, ev)
+-- An operation on a call and a value: k and v are what the entry made, k′ and v′ what its numbers say. The premises stand in the order in which
+-- a search finds them: what the entry answers leads to what the operation answered, and that to what the operation was asked.
+pub handed : (f : Call → args.Arg → List ℕ → List ℕ → value.Answer) (r : Answer) (a : value.Answer) → r ≡ inNumbers a
+    → (k k′ : Call) (v v′ : args.Arg) (words out : List ℕ) → a ≡ f k v words out → k ≡ k′ → v ≡ v′ → r ≡ inNumbers (f k′ v′ words out)
+handed f r a er k k′ v v′ words out ea ek ev = rw (er, ea, ek, ev)
 
-  pub written : (f : Call → args.Arg → List ℕ → List ℕ → List ℕ) (after : List ℕ) → after ≡ f k v words out → after ≡ f k′ v′ words out
-  written f after e = rw (e, ek, ev)
+pub written : (f : Call → args.Arg → List ℕ → List ℕ → List ℕ) (after : List ℕ) (k k′ : Call) (v v′ : args.Arg) (words out : List ℕ)
+    → after ≡ f k v words out → k ≡ k′ → v ≡ v′ → after ≡ f k′ v′ words out
+written f after k k′ v v′ words out e ek ev = rw (e, ek, ev)
 
-pub started : (k k′ : Call) → k ≡ k′ → (f : Call → value.Answer) (a : value.Answer) → a ≡ f k → (r : Answer) → r ≡ inNumbers a → r ≡ inNumbers (f k′)
-started k k′ ek f a ea r er = rw (er, ea, ek)
+pub started : (f : Call → value.Answer) (r : Answer) (a : value.Answer) → r ≡ inNumbers a → (k k′ : Call) → a ≡ f k → k ≡ k′ → r ≡ inNumbers (f k′)
+started f r a er k k′ ea ek = rw (er, ea, ek)

@@ -17,6 +17,6 @@ barkpaddle-argument-void-spec =
     (λ c κs. search needs)
     (λ c.
     let call = c .before .before .call-from .ensures in (
-      handed _ _ call args.the-variants.Void _ refl _ _ argumentAnswer _ (argument-void _ _ _ _ _ refl (c .before .nothing .ensures) .0) _ (c .in-numbers .ensures),
-      written _ _ call args.the-variants.Void _ refl _ _ argumentWritten _ (argument-void _ _ _ _ _ refl (c .before .nothing .ensures) .1),
+      handed argumentAnswer _ _ (c .in-numbers .ensures) _ _ args.the-variants.Void _ _ _ (argument-void _ _ _ _ _ refl (c .before .nothing .ensures) .0) call refl,
+      written argumentWritten _ _ _ args.the-variants.Void _ _ _ (argument-void _ _ _ _ _ refl (c .before .nothing .ensures) .1) call refl,
     )))

@@ -12,4 +12,4 @@ barkpaddle-variadic-spec =
     (λ c κs. search needs)
     (λ c κs. search needs)
     (λ c κs. search needs)
-    (λ c. started _ _ (c .before .before .call-from .ensures) variadicAnswer _ (c .before .variadic .ensures) _ (c .in-numbers .ensures)))
+    (λ c. search (started variadicAnswer)))

@@ -1,7 +1,5 @@
 -- `barkpaddle_return_aggregate` hands on what the operation answers and writes. Assumes nothing.
 use borrow.Author.Needs.{needs}
-use mathlib.Core.Path.{ap}
-use Rattle.shape.specs.declared.Arg as args
 use Rattle.classify.specs.Answers.{returnsAnswer, returnsWritten}
 use Rattle.numbers.proofs.Handed.{handed, written}
 use Rattle.barkpaddle_returns.proofs.barkpaddle_return_aggregate.Statement.{statement}
@@ -16,10 +14,4 @@ barkpaddle-return-aggregate-spec =
     (λ c κs. search needs)
     (λ c κs. search needs)
     (λ c. search needs)
-    (λ c.
-    let operation = c .before .before .before in
-    let call = operation .before .before .before .call-from .ensures in
-    let shape = ap args.the-variants.Aggregate (operation .before .before .shape-from .ensures) in (
-      handed _ _ call _ _ shape _ _ returnsAnswer _ (operation .returns-aggregate .ensures .0) _ (c .in-numbers .ensures),
-      written _ _ call _ _ shape _ _ returnsWritten _ (operation .returns-aggregate .ensures .1),
-    )))
+    (λ c. (search (handed returnsAnswer), search (written returnsWritten))))

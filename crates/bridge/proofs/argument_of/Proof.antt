@@ -18,12 +18,7 @@ same-length : tie.Need-same-length
 same-length c = search needs
 
 returns : tie.Need-returns
-returns c =
-    let operation = c .before .before .before in
-    let arg = operation .before .before .arg-of .ensures in (
-      told-of _ _ _ arg _ _ argumentAnswer _ (operation .argument .ensures .0) _ (c .told .ensures),
-      written-of _ _ _ arg _ _ argumentWritten _ (operation .argument .ensures .1),
-    )
+returns c = (search (told-of argumentAnswer), search (written-of argumentWritten))
 
 pub argument-of-spec : {M : Type 1} → statement M
 argument-of-spec = tie.close (tie.spec arg-of-requires argument-requires told-requires same-length returns)

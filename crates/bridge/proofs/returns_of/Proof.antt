@@ -18,12 +18,7 @@ same-length : tie.Need-same-length
 same-length c = search needs
 
 returns : tie.Need-returns
-returns c =
-    let operation = c .before .before .before in
-    let arg = operation .before .before .arg-of .ensures in (
-      told-of _ _ _ arg _ _ returnsAnswer _ (operation .returns .ensures .0) _ (c .told .ensures),
-      written-of _ _ _ arg _ _ returnsWritten _ (operation .returns .ensures .1),
-    )
+returns c = (search (told-of returnsAnswer), search (written-of returnsWritten))
 
 pub returns-of-spec : {M : Type 1} → statement M
 returns-of-spec = tie.close (tie.spec arg-of-requires returns-requires told-requires same-length returns)

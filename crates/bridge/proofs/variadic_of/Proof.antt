@@ -12,7 +12,7 @@ told-requires : tie.Need-told-requires
 told-requires c κs = search needs
 
 returns : tie.Need-returns
-returns c = marked-of _ variadicAnswer _ (c .before .variadic .ensures) _ (c .told .ensures)
+returns c = search (marked-of variadicAnswer)
 
 pub variadic-of-spec : {M : Type 1} → statement M
 variadic-of-spec = tie.close (tie.spec variadic-requires told-requires returns)
