@@ -18,8 +18,8 @@ use Rattle.eightbytes.specs.Eightbytes.{spoiled, mend, settled, slotsFrom, slot
 use Rattle.classify.specs.Pass.{pieces, reference, memory}
 use Rattle.classify.specs.Classify.{Passed, leaves, passed}
 use Rattle.psabi.specs.Psabi as psabi
-use Rattle.psabi.specs.Psabi.{Class, INTEGER, SSE, SSEUP, NO-CLASS, Register, rdi, argumentGenerals, argumentVectors, is, anyMemory, loneX87Up, converted, cleaned, passing, returning}
-use Rattle.psabi.specs.Reading.{lastOf, standing, placesOf, readArgument, readResult}
+use Rattle.psabi.specs.Psabi.{Class, INTEGER, SSE, SSEUP, NO-CLASS, Register, rdi, is, anyMemory, loneX87Up, converted, cleaned, passing, returning}
+use Rattle.psabi.specs.Reading.{integers, floats, lastOf, standing, placesOf, readArgument, readResult}
 use Rattle.psabi.proofs.Agree.{rep, Plain, blank, int, vec, up}
 
 -- ---- registers
@@ -74,18 +74,18 @@ chunk false = record { float = refl; not-x87 = refl; not-quad = refl }
 
 i-only : (i f s : ℕ) → i ≤ 6 → Agree i f (slot 0 0 s ∷ []) (INTEGER ∷ [])
 unfolding passing placesOf floatsIn
-i-only zero f s h = rw (short-general (slot 0 0 s ∷ []) 0 f 1 0 refl refl (omega arith), none-left argumentGenerals)
+i-only zero f s h = rw (short-general (slot 0 0 s ∷ []) 0 f 1 0 refl refl (omega arith), none-left integers)
 i-only (suc n) f s h =
     rw
-    (fits (slot 0 0 s ∷ []) (suc n) f 1 0 refl refl (omega arith) (omega arith) n f (omega arith) (omega arith), next argumentGenerals n (omega arith))
+    (fits (slot 0 0 s ∷ []) (suc n) f 1 0 refl refl (omega arith) (omega arith) n f (omega arith) (omega arith), next integers n (omega arith))
 
 v-only : (i f k : ℕ) → Chunk k → f ≤ 8 → Agree i f (floatSlot k 0 ∷ []) (SSE ∷ [])
 unfolding passing placesOf floatsIn
-v-only i zero k c h = rw (short-vector (floatSlot k 0 ∷ []) i 0 0 1 (rw (c .float)) (rw (c .float)) (omega arith), none-left argumentVectors)
+v-only i zero k c h = rw (short-vector (floatSlot k 0 ∷ []) i 0 0 1 (rw (c .float)) (rw (c .float)) (omega arith), none-left floats)
 v-only i (suc m) k c h =
     rw (
       fits (floatSlot k 0 ∷ []) i (suc m) 0 1 (rw (c .float)) (rw (c .float)) (omega arith) (omega arith) i m (omega arith) (omega arith),
-      next argumentVectors m (omega arith),
+      next floats m (omega arith),
       c .float,
       c .not-x87,
       c .not-quad,
@@ -93,31 +93,31 @@ v-only i (suc m) k c h =
 
 i-i : (i f s t : ℕ) → i ≤ 6 → Agree i f (slot 0 0 s ∷ slot 0 8 t ∷ []) (INTEGER ∷ INTEGER ∷ [])
 unfolding passing placesOf floatsIn
-i-i zero f s t h = rw (short-general (slot 0 0 s ∷ slot 0 8 t ∷ []) 0 f 2 0 refl refl (omega arith), none-left argumentGenerals)
+i-i zero f s t h = rw (short-general (slot 0 0 s ∷ slot 0 8 t ∷ []) 0 f 2 0 refl refl (omega arith), none-left integers)
 i-i (suc zero) f s t h =
     rw
-    (short-general (slot 0 0 s ∷ slot 0 8 t ∷ []) 1 f 2 0 refl refl (omega arith), next argumentGenerals 0 (omega arith), none-left argumentGenerals)
+    (short-general (slot 0 0 s ∷ slot 0 8 t ∷ []) 1 f 2 0 refl refl (omega arith), next integers 0 (omega arith), none-left integers)
 i-i (suc (suc n)) f s t h =
     rw (
       fits (slot 0 0 s ∷ slot 0 8 t ∷ []) (suc (suc n)) f 2 0 refl refl (omega arith) (omega arith) n f (omega arith) (omega arith),
-      next argumentGenerals (suc n) (omega arith),
-      next argumentGenerals n (omega arith),
+      next integers (suc n) (omega arith),
+      next integers n (omega arith),
     )
 
 i-v : (i f s k : ℕ) → Chunk k → i ≤ 6 → f ≤ 8 → Agree i f (slot 0 0 s ∷ floatSlot k 8 ∷ []) (INTEGER ∷ SSE ∷ [])
 unfolding passing placesOf floatsIn
-i-v zero f s k c h g = rw (short-general (slot 0 0 s ∷ floatSlot k 8 ∷ []) 0 f 1 1 (rw (c .float)) (rw (c .float)) (omega arith), none-left argumentGenerals)
+i-v zero f s k c h g = rw (short-general (slot 0 0 s ∷ floatSlot k 8 ∷ []) 0 f 1 1 (rw (c .float)) (rw (c .float)) (omega arith), none-left integers)
 i-v (suc n) zero s k c h g =
     rw (
       short-vector (slot 0 0 s ∷ floatSlot k 8 ∷ []) (suc n) 0 1 1 (rw (c .float)) (rw (c .float)) (omega arith),
-      next argumentGenerals n (omega arith),
-      none-left argumentVectors,
+      next integers n (omega arith),
+      none-left floats,
     )
 i-v (suc n) (suc m) s k c h g =
     rw (
       fits (slot 0 0 s ∷ floatSlot k 8 ∷ []) (suc n) (suc m) 1 1 (rw (c .float)) (rw (c .float)) (omega arith) (omega arith) n m (omega arith) (omega arith),
-      next argumentGenerals n (omega arith),
-      next argumentVectors m (omega arith),
+      next integers n (omega arith),
+      next floats m (omega arith),
       c .float,
       c .not-x87,
       c .not-quad,
@@ -125,18 +125,18 @@ i-v (suc n) (suc m) s k c h g =
 
 v-i : (i f k t : ℕ) → Chunk k → i ≤ 6 → f ≤ 8 → Agree i f (floatSlot k 0 ∷ slot 0 8 t ∷ []) (SSE ∷ INTEGER ∷ [])
 unfolding passing placesOf floatsIn
-v-i i zero k t c h g = rw (short-vector (floatSlot k 0 ∷ slot 0 8 t ∷ []) i 0 1 1 (rw (c .float)) (rw (c .float)) (omega arith), none-left argumentVectors)
+v-i i zero k t c h g = rw (short-vector (floatSlot k 0 ∷ slot 0 8 t ∷ []) i 0 1 1 (rw (c .float)) (rw (c .float)) (omega arith), none-left floats)
 v-i zero (suc m) k t c h g =
     rw (
       short-general (floatSlot k 0 ∷ slot 0 8 t ∷ []) 0 (suc m) 1 1 (rw (c .float)) (rw (c .float)) (omega arith),
-      next argumentVectors m (omega arith),
-      none-left argumentGenerals,
+      next floats m (omega arith),
+      none-left integers,
     )
 v-i (suc n) (suc m) k t c h g =
     rw (
       fits (floatSlot k 0 ∷ slot 0 8 t ∷ []) (suc n) (suc m) 1 1 (rw (c .float)) (rw (c .float)) (omega arith) (omega arith) n m (omega arith) (omega arith),
-      next argumentGenerals n (omega arith),
-      next argumentVectors m (omega arith),
+      next integers n (omega arith),
+      next floats m (omega arith),
       c .float,
       c .not-x87,
       c .not-quad,
@@ -147,19 +147,19 @@ unfolding passing placesOf floatsIn
 v-v i zero k l c d h =
     rw (
       short-vector (floatSlot k 0 ∷ floatSlot l 8 ∷ []) i 0 0 2 (rw (c .float, d .float)) (rw (c .float, d .float)) (omega arith),
-      none-left argumentVectors,
+      none-left floats,
     )
 v-v i (suc zero) k l c d h =
     rw (
       short-vector (floatSlot k 0 ∷ floatSlot l 8 ∷ []) i 1 0 2 (rw (c .float, d .float)) (rw (c .float, d .float)) (omega arith),
-      next argumentVectors 0 (omega arith),
-      none-left argumentVectors,
+      next floats 0 (omega arith),
+      none-left floats,
     )
 v-v i (suc (suc m)) k l c d h =
     rw (
       fits (floatSlot k 0 ∷ floatSlot l 8 ∷ []) i (suc (suc m)) 0 2 (rw (c .float, d .float)) (rw (c .float, d .float)) (omega arith) (omega arith) i m (omega arith) (omega arith),
-      next argumentVectors (suc m) (omega arith),
-      next argumentVectors m (omega arith),
+      next floats (suc m) (omega arith),
+      next floats m (omega arith),
       c .float,
       c .not-x87,
       c .not-quad,
@@ -170,9 +170,9 @@ v-v i (suc (suc m)) k l c d h =
 
 wide : (i f : ℕ) → f ≤ 8 → Agree i f (floatSlot 4 0 ∷ []) (SSE ∷ SSEUP ∷ [])
 unfolding passing placesOf floatsIn
-wide i zero h = rw (short-vector (floatSlot 4 0 ∷ []) i 0 0 1 refl refl (omega arith), none-left argumentVectors)
+wide i zero h = rw (short-vector (floatSlot 4 0 ∷ []) i 0 0 1 refl refl (omega arith), none-left floats)
 wide i (suc m) h =
-    rw (fits (floatSlot 4 0 ∷ []) i (suc m) 0 1 refl refl (omega arith) (omega arith) i m (omega arith) (omega arith), next argumentVectors m (omega arith))
+    rw (fits (floatSlot 4 0 ∷ []) i (suc m) 0 1 refl refl (omega arith) (omega arith) i m (omega arith) (omega arith), next floats m (omega arith))
 
 -- ---- results
 
@@ -183,8 +183,8 @@ give i f (found ss) = passed (pieces ss) (leaves i f false)
 
 pub in-memory : (i f : ℕ) → i ≤ 6 → readResult (leaves i f false) (give i f nothing) ≡ some (psabi.returned (standing i f) none)
 unfolding give
-in-memory zero f h = rw (none-left argumentGenerals)
-in-memory (suc n) f h = let e : suc n - 1 ≡ n = omega arith in rw (e, next argumentGenerals n (omega arith))
+in-memory zero f h = rw (none-left integers)
+in-memory (suc n) f h = let e : suc n - 1 ≡ n = omega arith in rw (e, next integers n (omega arith))
 
 -- ---- one eightbyte and two, by the classes that the pieces left there
 

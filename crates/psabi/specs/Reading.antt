@@ -1,5 +1,6 @@
--- The classifier's answers on row 0, read in the psABI's words: a count left is the last so many argument registers, and each slot takes the next
--- free register of its bank, in order.
+-- The classifier's answers on row 0, read in the psABI's words (REFERENCE 12): a count left is the last so many argument registers, and each slot
+-- takes the next free register of its bank, in order. Which register each number of a bank is stands here, and the psABI's own lists in
+-- Psabi.antt are held to it.
 use Prim.Native.Nat.{ℕ, _+_, _-_}
 use mathlib.Core.Bool.{cond}
 use mathlib.Core.List.{List, [], _∷_, _++_}
@@ -16,17 +17,24 @@ use Rattle.classify.specs.declared.Call.{Call}
 use Rattle.classify.specs.declared.Answer.{Answer}
 use Rattle.classify.specs.Pass.{Pass, ignore, direct, pieces, reference, memory}
 use Rattle.classify.specs.Classify.{Passed}
-use Rattle.psabi.specs.Psabi.{Register, st0, Free, free, argumentGenerals, argumentVectors, resultGenerals, resultVectors, Place, place, Travels, inRegisters, onStack, byAddress}
+use Rattle.psabi.specs.Psabi.{Register, rdi, rsi, rdx, rcx, r8, r9, rax, xmm0, xmm1, xmm2, xmm3, xmm4, xmm5, xmm6, xmm7, st0, Free, free, Place, place, Travels, inRegisters, onStack, byAddress}
+
+-- the integer and the float registers of a call, by number, and those that slots come back in
+abbrev pub integers : List Register
+integers = rdi ∷ rsi ∷ rdx ∷ rcx ∷ r8 ∷ r9 ∷ []
+
+abbrev pub floats : List Register
+floats = xmm0 ∷ xmm1 ∷ xmm2 ∷ xmm3 ∷ xmm4 ∷ xmm5 ∷ xmm6 ∷ xmm7 ∷ []
+
+abbrev pub results : Free
+results = free (rax ∷ rdx ∷ []) (xmm0 ∷ xmm1 ∷ [])
 
 -- the registers that are free with so many left
 unfoldable pub lastOf : ℕ → List Register → List Register
 lastOf n rs = drop (length rs - n) rs
 
 abbrev pub standing : ℕ → ℕ → Free
-standing i f = free (lastOf i argumentGenerals) (lastOf f argumentVectors)
-
-abbrev pub results : Free
-results = free resultGenerals resultVectors
+standing i f = free (lastOf i integers) (lastOf f floats)
 
 -- ---- slots
 
