@@ -1,9 +1,12 @@
-//! The driver of `bench/run`: so many turns of a side on each value and row, or on one of them.
+//! The driver of `bench/run`: so many turns of a side on each value and row.
 //!
-//! `bench cells` names them in order. `bench count SIDE TURNS [CELL]` takes the turns, a mark before
-//! each cell and one at the end, so that a counter can cut there. `bench time` prints nanoseconds for
-//! each cell: the Rust's and ours. `bench same` only sees that both sides say the same.
+//! `bench cells` names them in order. `bench count SIDE TURNS` takes the turns, a mark before each
+//! cell and one at the end, so that a counter can cut there. `bench time` prints nanoseconds for each
+//! cell: the Rust's and ours. `bench same` only sees that both sides say the same. Built without the
+//! feature `original`, the driver has the library's side alone, and neither of these two.
 
+#[cfg_attr(not(feature = "original"), path = "no_original.rs")]
+mod original;
 mod sides;
 mod values;
 
@@ -12,8 +15,7 @@ use std::hint::black_box;
 use std::process::exit;
 use std::time::Instant;
 
-use rucc_abi::{AbiDescription, abis};
-
+use original::Row;
 use sides::{Refused, Side};
 use values::{ROWS, Value};
 
@@ -25,7 +27,7 @@ extern "C" fn bench_mark() {
 }
 
 enum Cell<'a> {
-    Argument(&'static AbiDescription, u64, &'a Value),
+    Argument(&'static Row, u64, &'a Value),
     Refused(&'a Refused),
 }
 
@@ -64,7 +66,7 @@ fn main() {
     let refused = sides::refused();
     let mut cells: Vec<Cell<'_>> = Vec::new();
     for number in ROWS {
-        let row = abis::DESCRIBED[number as usize];
+        let row = original::row(number);
         cells.extend(values.iter().map(|value| Cell::Argument(row, number, value)));
     }
     cells.extend(refused.iter().map(Cell::Refused));
@@ -73,16 +75,12 @@ fn main() {
         ["same"] => same(&cells),
         ["time"] => time(&cells),
         ["count", side, turns] => count(&cells, named(side), number(turns)),
-        ["count", side, turns, cell] => {
-            let cell = number(cell) as usize;
-            count(&cells[cell..=cell], named(side), number(turns));
-        }
         _ => usage(),
     }
 }
 
 fn usage() -> ! {
-    eprintln!("usage: bench cells | same | time | count none|rust|ours TURNS [CELL]");
+    eprintln!("usage: bench cells | same | time | count none|rust|ours TURNS");
     exit(2)
 }
 
@@ -93,10 +91,17 @@ fn number(word: &str) -> u64 {
 fn named(side: &str) -> Side {
     match side {
         "none" => sides::none,
-        "rust" => sides::rust,
+        "rust" => rust(),
         "ours" => sides::ours,
         _ => usage(),
     }
+}
+
+fn rust() -> Side {
+    original::SIDE.unwrap_or_else(|| {
+        eprintln!("bench: built without the original");
+        exit(2)
+    })
 }
 
 fn count(cells: &[Cell<'_>], side: Side, turns: u64) {
@@ -114,7 +119,7 @@ fn count(cells: &[Cell<'_>], side: Side, turns: u64) {
 fn same(cells: &[Cell<'_>]) {
     let mut slots = [0; 24];
     for cell in cells {
-        let [rust, ours] = [sides::rust as Side, sides::ours].map(|s| cell.turns(s, 1, &mut slots));
+        let [rust, ours] = [rust(), sides::ours].map(|s| cell.turns(s, 1, &mut slots));
         assert_eq!(rust, ours, "{}", cell.name());
     }
     println!("{} cells, both sides the same", cells.len());
@@ -134,7 +139,7 @@ fn time(cells: &[Cell<'_>]) {
     };
     for cell in cells {
         let none = least(cell, sides::none);
-        let rust = least(cell, sides::rust) - none;
+        let rust = least(cell, rust()) - none;
         let ours = least(cell, sides::ours) - none;
         println!("{}\t{rust:.2}\t{ours:.2}", cell.name());
     }

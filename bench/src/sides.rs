@@ -1,8 +1,7 @@
 //! The sides: each starts a call and asks for one argument, and answers a sum of all that was said,
 //! so that nothing is left out and both can be held against each other.
 
-use rucc_abi::{AbiDescription, Pass, Slot};
-
+use crate::original::Row;
 use crate::values::{Numbers, Value};
 
 #[repr(C)]
@@ -28,43 +27,20 @@ unsafe extern "C" {
 }
 
 /// One turn of one side.
-pub type Side = fn(&'static AbiDescription, u64, &Value, &mut [u64]) -> u64;
+pub type Side = fn(&'static Row, u64, &Value, &mut [u64]) -> u64;
 
 /// Nothing: what the driver itself costs.
 #[inline(never)]
-pub fn none(_: &'static AbiDescription, number: u64, value: &Value, slots: &mut [u64]) -> u64 {
+pub fn none(_: &'static Row, number: u64, value: &Value, slots: &mut [u64]) -> u64 {
     match &value.numbers {
         Numbers::Scalar { size, .. } => number + size + slots.len() as u64,
         Numbers::Aggregate { size, .. } => number + size,
     }
 }
 
-/// The original.
-#[inline(never)]
-pub fn rust(row: &'static AbiDescription, _: u64, value: &Value, _: &mut [u64]) -> u64 {
-    let mut call = row.call();
-    let pass = call.argument(&value.arg);
-    let left = u64::from(call.integer_left()) + 16 * u64::from(call.float_left());
-    let said = match &pass {
-        Pass::Ignore => 0,
-        Pass::Direct => 1,
-        Pass::Pieces(slots) => 2 + slots.iter().map(place).sum::<u64>(),
-        Pass::Reference => 3,
-        Pass::Memory => 4,
-    };
-    left + 256 * said
-}
-
-fn place(slot: &Slot) -> u64 {
-    8 + match slot {
-        Slot::Integer { offset, .. } | Slot::Float { offset, .. } => *offset,
-        Slot::Vector { .. } => 0,
-    }
-}
-
 /// The library.
 #[inline(never)]
-pub fn ours(_: &'static AbiDescription, number: u64, value: &Value, slots: &mut [u64]) -> u64 {
+pub fn ours(_: &'static Row, number: u64, value: &Value, slots: &mut [u64]) -> u64 {
     let call = barkpaddle_fresh(number);
     let answer = argument([call.abi, call.integer, call.float, call.integers_only], value, slots);
     let left = answer.integer + 16 * answer.float;

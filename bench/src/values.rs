@@ -1,6 +1,6 @@
 //! What both sides are asked about.
 
-use rucc_abi::{Arg, Format, Kind, Piece, Scalar, Shape};
+use crate::original::{self, Given};
 
 /// A value as the numbers that the library takes.
 pub enum Numbers {
@@ -11,8 +11,9 @@ pub enum Numbers {
 pub struct Value {
     pub name: &'static str,
     pub numbers: Numbers,
-    /// The Rust's own form of it. Its pieces are never given back.
-    pub arg: Arg<'static>,
+    /// What the original takes.
+    #[cfg_attr(not(feature = "original"), expect(dead_code))]
+    pub given: Given,
 }
 
 /// The rows that are measured.
@@ -47,34 +48,15 @@ pub fn all() -> Vec<Value> {
     ]
 }
 
-fn kind(number: u64) -> Kind {
-    match number {
-        0 => Kind::Integer,
-        1 => Kind::Float(Format::Single),
-        2 => Kind::Float(Format::Double),
-        _ => Kind::Float(Format::X87Extended),
-    }
-}
-
-fn scalar(name: &'static str, number: u64, size: u64) -> Value {
-    Value {
-        name,
-        numbers: Numbers::Scalar { kind: number, size, align: size },
-        arg: Arg::Scalar(Scalar { kind: kind(number), size, align: size }),
-    }
+fn scalar(name: &'static str, kind: u64, size: u64) -> Value {
+    value(name, Numbers::Scalar { kind, size, align: size })
 }
 
 fn aggregate(name: &'static str, size: u64, align: u64, pieces: &[[u64; 4]]) -> Value {
-    let of_words = |&[number, size, align, offset]: &[u64; 4]| Piece {
-        offset,
-        scalar: Scalar { kind: kind(number), size, align },
-    };
-    let rust: Vec<Piece> = pieces.iter().map(of_words).collect();
-    let shape =
-        Shape { size, align, pieces: rust.leak(), complex: false, floating: false, vector: false };
-    Value {
-        name,
-        numbers: Numbers::Aggregate { size, align, words: pieces.concat() },
-        arg: Arg::Aggregate(shape),
-    }
+    value(name, Numbers::Aggregate { size, align, words: pieces.concat() })
+}
+
+fn value(name: &'static str, numbers: Numbers) -> Value {
+    let given = original::given(&numbers);
+    Value { name, numbers, given }
 }
