@@ -1,7 +1,7 @@
 -- `main` is safe and ends: each turn leaves fewer turns. Assumes nothing.
 use borrow.Author.Needs.{needs}
-use Rattle.find_main.proofs.main.Statement.{statement}
-use Rattle.find_main.proofs.main.Tie as tie
+use Rattle.shapes_main.proofs.main.Statement.{statement}
+use Rattle.shapes_main.proofs.main.Tie as tie
 
 abbrev Inv-loop : tie.InvT-loop
 Inv-loop turns₀ turns = Unit {0}

@@ -1,7 +1,7 @@
 -- `one_shape` is safe: a head has its six words. Assumes nothing.
 use borrow.Author.Needs.{needs}
-use Rattle.find_main.proofs.one_shape.Statement.{statement}
-use Rattle.find_main.proofs.one_shape.Tie as tie
+use Rattle.shapes_main.proofs.one_shape.Statement.{statement}
+use Rattle.shapes_main.proofs.one_shape.Tie as tie
 
 pub one-shape-spec : {M : Type 1} → statement M
 one-shape-spec =

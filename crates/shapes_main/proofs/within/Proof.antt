@@ -3,8 +3,8 @@ use mathlib.Core.Path.{sym}
 use lib.Seq.{length-take-le}
 use borrow.Author.Needs.{needs}
 use native.Mathlib.Omega.{arith}
-use Rattle.find_main.proofs.within.Statement.{statement}
-use Rattle.find_main.proofs.within.Tie as tie
+use Rattle.shapes_main.proofs.within.Statement.{statement}
+use Rattle.shapes_main.proofs.within.Tie as tie
 
 returns : tie.Need-returns
 returns c = search needs

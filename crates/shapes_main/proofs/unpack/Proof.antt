@@ -3,8 +3,8 @@ use Prim.Native.Nat.{_≤_, _-_}
 use mathlib.Core.Path.{_≡_}
 use lib.ListN.{length}
 use borrow.Author.Needs.{needs}
-use Rattle.find_main.proofs.unpack.Statement.{statement}
-use Rattle.find_main.proofs.unpack.Tie as tie
+use Rattle.shapes_main.proofs.unpack.Statement.{statement}
+use Rattle.shapes_main.proofs.unpack.Tie as tie
 
 abbrev Inv-loop : tie.InvT-loop
 Inv-loop bytes words₀ i₀ i-end words i = (length words ≡ length words₀) × (i-end ≡ length bytes) × (i ≤ i-end)

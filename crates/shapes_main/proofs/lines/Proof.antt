@@ -3,14 +3,14 @@ use Prim.Native.Nat.{_-_}
 use mathlib.Core.Path.{_≡_}
 use lib.ListN.{length}
 use borrow.Author.Needs.{needs}
-use Rattle.find_main.proofs.lines.Statement.{statement}
-use Rattle.find_main.proofs.lines.Tie as tie
+use Rattle.shapes_main.proofs.lines.Statement.{statement}
+use Rattle.shapes_main.proofs.lines.Tie as tie
 
 abbrev Inv-loop : tie.InvT-loop
-Inv-loop shape pieces each out₀ at₀ test₀ out at test = length out ≡ length out₀
+Inv-loop shape pieces each out₀ at₀ number₀ out at number = length out ≡ length out₀
 
 abbrev μ-loop : tie.MeasureT-loop
-μ-loop shape pieces each out₀ at₀ test₀ out at test = 20 - test
+μ-loop shape pieces each out₀ at₀ number₀ out at number = 23 - number
 
 pub lines-spec : {M : Type 1} → statement M
 lines-spec =

@@ -3,8 +3,8 @@ use Prim.Native.Nat.{_-_}
 use mathlib.Core.Path.{_≡_}
 use lib.ListN.{length}
 use borrow.Author.Needs.{needs}
-use Rattle.find_main.proofs.put_up_to_dot.Statement.{statement}
-use Rattle.find_main.proofs.put_up_to_dot.Tie as tie
+use Rattle.shapes_main.proofs.put_up_to_dot.Statement.{statement}
+use Rattle.shapes_main.proofs.put_up_to_dot.Tie as tie
 
 abbrev Inv-loop : tie.InvT-loop
 Inv-loop out₀ from text start at₀ i₀ i-end out at i = (length out ≡ length out₀) × (i-end ≡ length text)

@@ -1,10 +1,14 @@
 // Reads shapes from standard input, as a sheet has them, and prints what each test that looks inside finds in each, a line for each test:
-// `nothing`, or how many slots and then the slots. The answers of the original to the same shapes are compared with these.
+// `nothing`, or how many slots and then the slots. Three lines more say how it is laid out: its alignment in memory on each row, the record
+// that its pieces make, and the pieces that their scalars make. The answers of the original to the same shapes are compared with these.
+use classify::Call;
 use libc::STDIN_FILENO;
 use libc::STDOUT_FILENO;
 use shape::Shape;
 use slots::Found;
 use text::append;
+ghost use Prim.Native.Nat.{_<_, _≤_};
+ghost use lib.ListN.{length};
 ghost use Rattle.io.specs.Counts.{Counts};
 
 // Bytes of a word, words of a record, and the most pieces that a shape may have here.
@@ -14,10 +18,17 @@ const RECORD: usize = 6;
 
 const MOST_PIECES: u64 = 64;
 
-// The lines of a shape, and how many of them come before those of the eightbytes.
-const LINES: usize = 20;
+// The lines of a shape, and how many of them come before those of the eightbytes and before those of the layouts.
+const LINES: usize = 23;
 
 const TESTS: usize = 15;
+
+const LAYOUTS: usize = 20;
+
+// Behind the fronts of the lines, the texts that a line may end with.
+const NOTHING: usize = 23;
+
+const REFUSED: usize = 24;
 
 // A proved loop has to end, and nothing says that the input does. So the turns are counted down from a number that no run uses up.
 fn main() {
@@ -63,8 +74,9 @@ fn with_pieces(shape: Shape, bytes: &mut [u8], words: &mut [u64]) -> bool {
     if !read(bytes, words) {
         return false;
     }
-    let n = close_up(words);
-    print(shape, &words[..n])
+    let mut pieces = [0u64; 256];
+    let n = close_up(words, RECORD, 1, 1 + shape::PIECE, &mut pieces);
+    print(shape, &pieces[..n])
 }
 
 // Reads so many bytes into words; whether all came.
@@ -90,18 +102,36 @@ fn shift_in(words: &mut [u64], at: usize, byte: u8) {
     }
 }
 
-// The words of the pieces, those behind the first of each record, move to the front; how many there are.
-fn close_up(words: &mut [u64]) -> usize
-    ensures { λ r. ⌜ Counts r (now (words .exit)) ⌝ }
+// Of each record of so many words, those from one place of it to another, with nothing between two records; how many words there are.
+fn close_up(words: &[u64], size: usize, from: usize, to: usize, out: &mut [u64]) -> usize
+    requires { ⌜ 0 < size ⌝ }
+    ensures { λ r. ⌜ Counts r (now (out .exit)) ⌝ }
 {
-    let n = words.len() / RECORD * shape::PIECE;
-    for i in 0..n {
-        words[i] = words[i / shape::PIECE * RECORD + i % shape::PIECE + 1];
+    let mut n = 0;
+    for i in 0..words.len() {
+        if is_between(i % size, from, to) {
+            n = put_word(out, n, words[i]);
+        }
     }
     n
 }
 
-// Prints what every test finds in the pieces; whether it went.
+fn is_between(place: usize, from: usize, to: usize) -> bool {
+    (from <= place) & (place < to)
+}
+
+fn put_word(out: &mut [u64], at: usize, word: u64) -> usize
+    requires { ⌜ at ≤ length (now out) ⌝ }
+    ensures { λ r. ⌜ r ≤ length (now (out .entry)) ⌝ }
+{
+    if at < out.len() {
+        out[at] = word;
+        return at + 1;
+    }
+    at
+}
+
+// Prints the lines of a shape; whether they went.
 fn print(shape: Shape, pieces: &[u64]) -> bool {
     let mut each = [0u64; 192];
     let mut out = [0u8; 16384];
@@ -110,13 +140,13 @@ fn print(shape: Shape, pieces: &[u64]) -> bool {
     io::write_all(STDOUT_FILENO, &out[..n])
 }
 
-// What every test finds, as text; how many bytes it has. `each` holds the slots of the pieces.
+// The lines of a shape as text; how many bytes it has. `each` holds the slots of the pieces.
 fn lines(shape: Shape, pieces: &[u64], each: &[u64], out: &mut [u8]) -> usize
     ensures { λ r. ⌜ Counts r (now (out .exit)) ⌝ }
 {
     let mut at = 0;
-    for test in 0..LINES {
-        at = line(out, at, test, shape, pieces, each);
+    for number in 0..LINES {
+        at = line(out, at, number, shape, pieces, each);
     }
     within(at, out)
 }
@@ -134,15 +164,31 @@ fn within(n: usize, out: &[u8]) -> usize
 fn line(
     out: &mut [u8],
     at: usize,
-    test: usize,
+    number: usize,
     shape: Shape,
     pieces: &[u64],
     each: &[u64],
 ) -> usize {
-    if test < TESTS {
-        return put_line(out, at, test, found_by(test, shape, pieces), each);
+    let a = put_text(out, at, number);
+    let b = put_answer(out, a, number, shape, pieces, each);
+    put_byte(out, b, b'\n')
+}
+
+fn put_answer(
+    out: &mut [u8],
+    at: usize,
+    number: usize,
+    shape: Shape,
+    pieces: &[u64],
+    each: &[u64],
+) -> usize {
+    if number < TESTS {
+        return put_found(out, at, found_by(number, shape, pieces), each);
     }
-    put_eightbytes(out, at, test, shape, pieces)
+    if number < LAYOUTS {
+        return put_eightbytes(out, at, number, shape, pieces);
+    }
+    put_layout(out, at, number - LAYOUTS, shape, pieces)
 }
 
 // What the test of a line finds.
@@ -177,7 +223,7 @@ fn put_eightbytes(out: &mut [u8], at: usize, test: usize, shape: Shape, pieces: 
     let classes = answer.classes;
     eightslots::put_eightbytes(classes, shape.size, &mut each);
     let found = answer.found;
-    put_line(out, at, test, found, &each)
+    put_found(out, at, found, &each)
 }
 
 // 8, 16, 24, 32 and 64 bytes.
@@ -188,20 +234,76 @@ fn limit(test: usize) -> u64 {
     (test as u64 % 15 + 1) * 8
 }
 
-fn put_line(out: &mut [u8], at: usize, test: usize, found: Found, each: &[u64]) -> usize {
-    let a = put_text(out, at, test);
-    let b = put_found(out, a, found, each);
-    put_byte(out, b, b'\n')
+fn put_layout(out: &mut [u8], at: usize, layout: usize, shape: Shape, pieces: &[u64]) -> usize {
+    if layout == 0 {
+        return put_memory(out, at, shape, pieces);
+    }
+    if layout == 1 {
+        return put_record(out, at, pieces);
+    }
+    put_pieces(out, at, pieces)
 }
 
-// The front of a line, and what stands for nothing. Each has sixteen bytes here, filled up with dots.
+// The alignment in the argument area, on each of the rows.
+fn put_memory(out: &mut [u8], from: usize, shape: Shape, pieces: &[u64]) -> usize {
+    let mut at = from;
+    for row in 0..abis::DESCRIPTIONS {
+        at = put_align(out, at, row, shape, pieces);
+    }
+    at
+}
+
+fn put_align(out: &mut [u8], at: usize, row: u64, shape: Shape, pieces: &[u64]) -> usize {
+    let fresh = Call::fresh(row);
+    let call = fresh.next;
+    let answer = call.in_memory(shape, pieces);
+    if answer.refusal != shape::ACCEPTED {
+        return put_refusal(out, at, answer.refusal);
+    }
+    put_number(out, at, b' ', answer.align)
+}
+
+// The record that the pieces make.
+fn put_record(out: &mut [u8], at: usize, pieces: &[u64]) -> usize {
+    let answer = records::record(pieces);
+    if answer.refusal != shape::ACCEPTED {
+        return put_refusal(out, at, answer.refusal);
+    }
+    let record = answer.shape;
+    let numbers = [record.size, record.align, record.floating as u64];
+    put_words(out, at, 1, 3, &numbers)
+}
+
+// The pieces that their scalars make, as the members of a record.
+fn put_pieces(out: &mut [u8], at: usize, pieces: &[u64]) -> usize {
+    let mut members = [0u64; 192];
+    let n = close_up(pieces, shape::PIECE, 0, shape::SCALAR, &mut members);
+    put_members(out, at, &members[..n])
+}
+
+fn put_members(out: &mut [u8], at: usize, members: &[u64]) -> usize {
+    let mut pieces = [0u64; 256];
+    let answer = records::pieces(members, &mut pieces);
+    if answer.refusal != shape::ACCEPTED {
+        return put_refusal(out, at, answer.refusal);
+    }
+    put_words(out, at, shape::PIECE, answer.count, &pieces)
+}
+
+fn put_refusal(out: &mut [u8], at: usize, refusal: u64) -> usize {
+    let to = put_text(out, at, REFUSED);
+    put_number(out, to, b' ', refusal)
+}
+
+// The front of a line, or one of the ends. Each has sixteen bytes here, filled up with dots.
 fn put_text(out: &mut [u8], at: usize, number: usize) -> usize {
     let texts = b"homogeneous 1...homogeneous 2...homogeneous 3...homogeneous 4...\
         homogeneous 5...homogeneous 6...homogeneous 7...homogeneous 8...\
         float_pair 8 16.float_pair 8 8..float_pair 4 8..x87_stack.......\
         lone_float......floating_mode...complex_float...eightbytes 8....\
-        eightbytes 16...eightbytes 24...eightbytes 32...eightbytes 64... nothing........";
-    put_up_to_dot(out, at, texts, number % 21 * 16)
+        eightbytes 16...eightbytes 24...eightbytes 32...eightbytes 64...\
+        memory..........record..........pieces.......... nothing........ refused........";
+    put_up_to_dot(out, at, texts, number % 25 * 16)
 }
 
 // The text from a place on, up to the next dot.
@@ -219,24 +321,26 @@ fn put_up_to_dot(out: &mut [u8], from: usize, text: &[u8], start: usize) -> usiz
 // The end of a line: nothing, or how many slots and then that many of `each`.
 fn put_found(out: &mut [u8], at: usize, found: Found, each: &[u64]) -> usize {
     match found {
-        Found::Nothing => put_text(out, at, LINES),
+        Found::Nothing => put_text(out, at, NOTHING),
         Found::Slots { count, floats: _ } => put_slots(out, at, count, each),
     }
 }
 
 fn put_slots(out: &mut [u8], at: usize, count: u64, each: &[u64]) -> usize {
     let to = put_number(out, at, b' ', count);
-    put_words(out, to, count, each)
+    put_words(out, to, slots::SLOT, count, each)
 }
 
-// The words of so many slots: a space before each slot, and a colon between its words.
-fn put_words(out: &mut [u8], from: usize, count: u64, each: &[u64]) -> usize {
+// So many records of so many words: a space before each record, and a colon between its words.
+fn put_words(out: &mut [u8], from: usize, size: usize, count: u64, each: &[u64]) -> usize
+    requires { ⌜ 0 < size ⌝ }
+{
     let mut at = from;
     for i in 0..each.len() {
-        if (i / slots::SLOT) as u64 >= count {
+        if (i / size) as u64 >= count {
             return at;
         }
-        at = put_number(out, at, before(i % slots::SLOT), each[i]);
+        at = put_number(out, at, before(i % size), each[i]);
     }
     at
 }

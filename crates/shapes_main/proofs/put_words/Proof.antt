@@ -3,14 +3,15 @@ use Prim.Native.Nat.{_≤_, _-_}
 use mathlib.Core.Path.{_≡_}
 use lib.ListN.{length}
 use borrow.Author.Needs.{needs}
-use Rattle.find_main.proofs.put_words.Statement.{statement}
-use Rattle.find_main.proofs.put_words.Tie as tie
+use Rattle.shapes_main.proofs.put_words.Statement.{statement}
+use Rattle.shapes_main.proofs.put_words.Tie as tie
 
 abbrev Inv-loop : tie.InvT-loop
-Inv-loop out₀ from count each at₀ i₀ i-end out at i = (length out ≡ length out₀) × (i-end ≡ length each) × (i ≤ i-end)
+Inv-loop out₀ from size count each at₀ i₀ i-end out at i =
+    (length out ≡ length out₀) × (i-end ≡ length each) × (i ≤ i-end)
 
 abbrev μ-loop : tie.MeasureT-loop
-μ-loop out₀ from count each at₀ i₀ i-end out at i = i-end - i
+μ-loop out₀ from size count each at₀ i₀ i-end out at i = i-end - i
 
 pub put-words-spec : {M : Type 1} → statement M
 put-words-spec =
@@ -18,6 +19,8 @@ put-words-spec =
     (tie.spec
     Inv-loop
     μ-loop
+    (λ c. search needs)
+    (λ c. search needs)
     (λ c. search needs)
     (λ c. search needs)
     (λ c. search needs)

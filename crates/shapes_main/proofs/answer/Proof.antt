@@ -3,8 +3,8 @@ use mathlib.Core.Path.{sym}
 use lib.Seq.{length-take-le}
 use native.Mathlib.Omega.{arith}
 use borrow.Author.Needs.{needs}
-use Rattle.find_main.proofs.answer.Statement.{statement}
-use Rattle.find_main.proofs.answer.Tie as tie
+use Rattle.shapes_main.proofs.answer.Statement.{statement}
+use Rattle.shapes_main.proofs.answer.Tie as tie
 
 pub answer-spec : {M : Type 1} → statement M
 answer-spec =
