@@ -2,6 +2,7 @@
 // `nothing`, or how many slots and then the slots. Three lines more say how it is laid out: its alignment in memory on each row, the record
 // that its pieces make, and the pieces that their scalars make. The answers of the original to the same shapes are compared with these.
 use classify::Call;
+use classify::InMemory;
 use libc::STDIN_FILENO;
 use libc::STDOUT_FILENO;
 use shape::Shape;
@@ -74,9 +75,7 @@ fn with_pieces(shape: Shape, bytes: &mut [u8], words: &mut [u64]) -> bool {
     if !read(bytes, words) {
         return false;
     }
-    let mut pieces = [0u64; 256];
-    let n = close_up(words, RECORD, 1, 1 + shape::PIECE, &mut pieces);
-    print(shape, &pieces[..n])
+    with_records(shape, words)
 }
 
 // Reads so many bytes into words; whether all came.
@@ -100,6 +99,13 @@ fn shift_in(words: &mut [u64], at: usize, byte: u8) {
     if at < words.len() {
         words[at] = (words[at] >> 8) | ((byte as u64) << 56);
     }
+}
+
+// Prints the shape's lines; whether they went. The words of a piece are those behind the first of its record.
+fn with_records(shape: Shape, words: &[u64]) -> bool {
+    let mut pieces = [0u64; 256];
+    let n = close_up(words, RECORD, 1, 1 + shape::PIECE, &mut pieces);
+    print(shape, &pieces[..n])
 }
 
 // Of each record of so many words, those from one place of it to another, with nothing between two records; how many words there are.
@@ -131,7 +137,6 @@ fn put_word(out: &mut [u64], at: usize, word: u64) -> usize
     at
 }
 
-// Prints the lines of a shape; whether they went.
 fn print(shape: Shape, pieces: &[u64]) -> bool {
     let mut each = [0u64; 192];
     let mut out = [0u8; 16384];
@@ -254,24 +259,23 @@ fn put_memory(out: &mut [u8], from: usize, shape: Shape, pieces: &[u64]) -> usiz
 }
 
 fn put_align(out: &mut [u8], at: usize, row: u64, shape: Shape, pieces: &[u64]) -> usize {
+    let answer = in_memory(row, shape, pieces);
+    let numbers = [answer.align];
+    put_accepted(out, at, answer.refusal, 1, 1, &numbers)
+}
+
+fn in_memory(row: u64, shape: Shape, pieces: &[u64]) -> InMemory {
     let fresh = Call::fresh(row);
     let call = fresh.next;
-    let answer = call.in_memory(shape, pieces);
-    if answer.refusal != shape::ACCEPTED {
-        return put_refusal(out, at, answer.refusal);
-    }
-    put_number(out, at, b' ', answer.align)
+    call.in_memory(shape, pieces)
 }
 
 // The record that the pieces make.
 fn put_record(out: &mut [u8], at: usize, pieces: &[u64]) -> usize {
     let answer = records::record(pieces);
-    if answer.refusal != shape::ACCEPTED {
-        return put_refusal(out, at, answer.refusal);
-    }
     let record = answer.shape;
     let numbers = [record.size, record.align, record.floating as u64];
-    put_words(out, at, 1, 3, &numbers)
+    put_accepted(out, at, answer.refusal, 1, 3, &numbers)
 }
 
 // The pieces that their scalars make, as the members of a record.
@@ -284,15 +288,25 @@ fn put_pieces(out: &mut [u8], at: usize, pieces: &[u64]) -> usize {
 fn put_members(out: &mut [u8], at: usize, members: &[u64]) -> usize {
     let mut pieces = [0u64; 256];
     let answer = records::pieces(members, &mut pieces);
-    if answer.refusal != shape::ACCEPTED {
-        return put_refusal(out, at, answer.refusal);
-    }
-    put_words(out, at, shape::PIECE, answer.count, &pieces)
+    put_accepted(out, at, answer.refusal, shape::PIECE, answer.count, &pieces)
 }
 
-fn put_refusal(out: &mut [u8], at: usize, refusal: u64) -> usize {
-    let to = put_text(out, at, REFUSED);
-    put_number(out, to, b' ', refusal)
+// The refusal, or where there is none so many records of so many words.
+fn put_accepted(
+    out: &mut [u8],
+    at: usize,
+    refusal: u64,
+    size: usize,
+    count: u64,
+    each: &[u64],
+) -> usize
+    requires { ⌜ 0 < size ⌝ }
+{
+    if refusal != shape::ACCEPTED {
+        let to = put_text(out, at, REFUSED);
+        return put_number(out, to, b' ', refusal);
+    }
+    put_words(out, at, size, count, each)
 }
 
 // The front of a line, or one of the ends. Each has sixteen bytes here, filled up with dots.
