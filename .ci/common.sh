@@ -3,6 +3,7 @@
 #   $room          a folder of their own, removed when they end
 #   fail WORDS     says what is wrong; the script ends with `exit "$failed"`
 #   make_library   makes the static library, or ends the check
+#   build_oracle   builds the original, where its sources are at hand
 #   skip WHAT WHY  says what of the check can't be run on this machine, and why. The gate counts such a check neither way, and knows it by
 #                  this line.
 set -u -o pipefail
@@ -28,4 +29,15 @@ make_library() {
         exit 1
     fi
     tail -n 1 "$room/said"
+}
+
+# Builds the oracle, whose path is then $oracle. Where there is none, WHAT can't be compared with the original, and this fails.
+build_oracle() { # build_oracle WHAT
+    oracle=$(oracle/build 2>"$room/why")
+    case $? in
+    0) return ;;
+    3) skip "$1 beside the original" "$(cat "$room/why")" ;;
+    *) cat "$room/why"; fail "the oracle can't be built" ;;
+    esac
+    return 1
 }
