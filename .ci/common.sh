@@ -18,7 +18,7 @@ fail() {
 }
 
 skip() {
-    echo "SKIPPED $1: ${2//$'\n'/ }"
+    echo "SKIPPED $1 (${2//$'\n'/ })"
 }
 
 # Makes target/staticlib/libbarkpaddle.a where it isn't there yet, or ends the check.
