@@ -5,8 +5,19 @@
 typedef uint64_t u64;
 
 typedef struct {
-    u64 refusal, way, abi, integer, float_, integers_only, integers_passed, integers_given, floats_passed, floats_given, slots;
+    u64 abi, integer, float_, integers_only;
+} call;
+
+typedef struct {
+    u64 refusal, way, integers_passed, integers_given, floats_passed, floats_given, slots;
+} outcome;
+
+typedef struct {
+    call next;
+    outcome outcome;
 } answer;
+
+enum { DIRECT = 1, MEMORY = 4 };
 
 enum { BAD_ABI = 1, BAD_CALL, BAD_LIST, BAD_KIND, BAD_SIZE, BAD_ALIGN, NO_ROOM };
 
@@ -17,7 +28,7 @@ static const u64 marked = 3;
 
 #define REFUSE_IF(test, number)                                                                                                                \
     if (test)                                                                                                                                  \
-        return (answer){number, 0, abi, integer, float_, mark != 0, 0, 0, 0, 0, 0};
+        return (answer){{abi, integer, float_, mark}, {number}};
 
 #define CHECK_CALL                                                                                                                             \
     REFUSE_IF(abi >= 30, BAD_ABI)                                                                                                              \
@@ -25,8 +36,8 @@ static const u64 marked = 3;
 
 answer barkpaddle_fresh(u64 abi) {
     if (abi >= 30)
-        return (answer){BAD_ABI, 0, 0, 0, 0, 0, 0, 0, 0, 0, 0};
-    return (answer){0, 0, abi, integers[abi], floats[abi], 0, 0, 0, 0, 0, 0};
+        return (answer){{0}, {BAD_ABI}};
+    return (answer){{abi, integers[abi], floats[abi]}, {0}};
 }
 
 answer barkpaddle_argument_scalar(u64 abi, u64 integer, u64 float_, u64 mark, u64 kind, u64 size, u64 align, u64 *slots, u64 length) {
@@ -35,7 +46,7 @@ answer barkpaddle_argument_scalar(u64 abi, u64 integer, u64 float_, u64 mark, u6
     REFUSE_IF(size > 64, BAD_SIZE)
     REFUSE_IF(align > 4096, BAD_ALIGN)
     u64 given = integer > 0;
-    return (answer){0, 1, abi, integer - given, float_, mark != 0, 0, given, 0, 0, 0};
+    return (answer){{abi, integer - given, float_, mark}, {.way = DIRECT, .integers_given = given}};
 }
 
 answer barkpaddle_argument_aggregate(u64 abi, u64 integer, u64 float_, u64 mark, u64 size, u64 align, u64 complex, u64 floating, const u64 *words, u64 count, u64 *slots, u64 length) {
@@ -49,5 +60,5 @@ answer barkpaddle_argument_aggregate(u64 abi, u64 integer, u64 float_, u64 mark,
         REFUSE_IF(words[at + 2] > 4096, BAD_ALIGN)
     }
     REFUSE_IF(length < 6, NO_ROOM) /* two slots */
-    return (answer){0, 4, abi, integer, float_, mark != 0, 0, 0, 0, 0, 0};
+    return (answer){{abi, integer, float_, mark}, {.way = MEMORY}};
 }

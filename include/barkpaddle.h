@@ -9,11 +9,14 @@
  * otherwise the pointer has to point to that many. A buffer that an entry writes to may not overlap another that the same call is
  * lent. An entry that writes puts its result at the front of the buffer; every word behind it keeps its value.
  *
- * Refusals. An answer's first number is its refusal, 0 where the input is accepted. A refused operation hands back the call that it was
- * handed (a refused fresh one: all zeros), answers 0 in every other number, and leaves every lent buffer as it was. Where several
- * refusals would apply, the first in the order given with the entry is answered.
+ * Refusals. A refusal is a number, 0 where the input is accepted. An operation on a call has it in its outcome, as the first number there;
+ * in every other answer that is a struct it is the first number of all. A refused operation hands back the call that it was handed (a
+ * refused fresh one: all zeros), answers 0 in every other number, and leaves every lent buffer as it was. Where several refusals would
+ * apply, the first in the order given with the entry is answered.
  *
- * Yes and no. A number that stands for yes or no is a yes where it isn't 0, and comes back as 0 or 1.
+ * Yes and no. A number that stands for yes or no is a yes where it isn't 0. A yes that an entry answers is 1. The integers-only mark of a
+ * call isn't answered but handed on: it comes back as the number that was handed in, whether the operation is refused or accepted. Only
+ * an accepted barkpaddle_variadic or barkpaddle_bridge_variadic changes it: to 1, on a description that has the mark.
  *
  * Numbers to come. Later versions may add refusals, ways, kinds, conventions, descriptions and the codes of a description's fields; those
  * that are here keep their meaning. A program that meets a number it doesn't know should treat it as one that it can't handle.
@@ -25,8 +28,6 @@
 
 #ifdef __cplusplus
 extern "C" {
-#else
-#include <stdbool.h>
 #endif
 
 /* ---- numbers ---- */
@@ -87,7 +88,7 @@ extern "C" {
 #define BARKPADDLE_SLOT_SIZE 2 /* 0 for a float: its kind says it */
 #define BARKPADDLE_SLOT_WORDS 3
 
-/* No result needs more slots than this, so a buffer of 24 words is never too small. */
+/* No result needs more slots than this, so a buffer of BARKPADDLE_MOST_SLOT_WORDS words is never too small. */
 #define BARKPADDLE_MOST_SLOTS 8
 #define BARKPADDLE_MOST_SLOT_WORDS (BARKPADDLE_MOST_SLOTS * BARKPADDLE_SLOT_WORDS)
 
@@ -184,33 +185,32 @@ extern "C" {
 #define BARKPADDLE_SHORT_MEMORY_AND_DRAIN UINT64_C(2)
 #define BARKPADDLE_SHORT_TRY_NEXT_RULE UINT64_C(3)
 
-/* ---- answers ---- */
+/* ---- calls and answers ---- */
 
-/* What an operation on a call answers. */
-typedef struct barkpaddle_answer {
+/* A call. */
+typedef struct barkpaddle_call {
+    uint64_t abi;     /* its description */
+    uint64_t integer; /* the registers left */
+    uint64_t float_;
+    uint64_t integers_only; /* the mark: yes or no */
+} barkpaddle_call;
+
+/* How a value travels, or why it was refused. */
+typedef struct barkpaddle_outcome {
     uint64_t refusal;
     uint64_t way;
-    uint64_t abi; /* the next call: these four are handed to the next operation */
-    uint64_t integer;
-    uint64_t float_;
-    uint64_t integers_only;
     uint64_t integers_passed; /* registers that this value passed over and was given; it passes over first */
     uint64_t integers_given;
     uint64_t floats_passed;
     uint64_t floats_given;
     uint64_t slots; /* how many slots were written */
-} barkpaddle_answer;
-
-/* What an operation on a lent call answers: the same without the call. */
-typedef struct barkpaddle_outcome {
-    uint64_t refusal;
-    uint64_t way;
-    uint64_t integers_passed;
-    uint64_t integers_given;
-    uint64_t floats_passed;
-    uint64_t floats_given;
-    uint64_t slots;
 } barkpaddle_outcome;
+
+/* What an operation on a call answers; one on a lent call answers the outcome alone. */
+typedef struct barkpaddle_answer {
+    barkpaddle_call next; /* its four numbers are handed to the next operation, or it is lent to one */
+    barkpaddle_outcome outcome;
+} barkpaddle_answer;
 
 /* A refusal, or one number. */
 typedef struct barkpaddle_told {
@@ -264,7 +264,7 @@ typedef struct barkpaddle_rule {
 /* ---- a call and its operations ----
  *
  * A call is four numbers: its description, the integer and the float registers left, and the integers-only mark. Each operation takes a
- * call and answers the next one in the same four fields.
+ * call as these four and answers the next one, with the outcome behind it.
  *
  * Every operation refuses, in this order: BAD_ABI; BAD_CALL; what its value has to be refused for; NO_ROOM.
  * A scalar is refused by kind, size, alignment. An aggregate: BAD_LIST; its size; its alignment; then its pieces from the first, each by
@@ -321,12 +321,11 @@ barkpaddle_told barkpaddle_in_memory(
  *
  * A call that is kept in one place and updated there. It starts as barkpaddle_fresh says:
  *
- *     barkpaddle_answer start = barkpaddle_fresh(BARKPADDLE_SYSV_AMD64);
- *     barkpaddle_call call = {start.abi, start.integer, start.float_, start.integers_only != 0};
+ *     barkpaddle_call call = barkpaddle_fresh(BARKPADDLE_SYSV_AMD64).next;
  *
  * Each entry is lent the call and stores the next one in its place. It answers and refuses what the entry above that takes the same call
- * and the same value answers and refuses, writes the same slots, and calls of both forms can be mixed. A refused operation leaves the call
- * and the slots as they were. The call's bytes behind the mark, which fill it up, mean nothing and may change.
+ * and the same value answers and refuses, and writes the same slots. It is the same call in both forms, and they can be mixed. A refused
+ * operation leaves the call and the slots as they were.
  *
  * What is asked has a form, and the fields that the form doesn't read may hold anything: VOID reads none, SCALAR kind, size and align,
  * AGGREGATE size, align, complex_ and floating. An aggregate's pieces are `words`, which no other form looks at. A form of another number
@@ -334,13 +333,6 @@ barkpaddle_told barkpaddle_in_memory(
  *
  * `call` has to point to a call. Neither it nor what `slots` points to may overlap anything else that is lent.
  */
-typedef struct barkpaddle_call {
-    uint64_t abi;
-    uint64_t integer;
-    uint64_t float_;
-    bool integers_only; /* a bool, where an answer has a number: set it by `!= 0` */
-} barkpaddle_call;
-
 typedef struct barkpaddle_what {
     uint64_t form;
     uint64_t kind;

@@ -16,7 +16,7 @@ use std::process::exit;
 use std::time::Instant;
 
 use original::Row;
-use sides::{Refused, Side};
+use sides::{ROOM, Refused, Side};
 use values::{ROWS, Value};
 
 /// A place for a counter to cut.
@@ -105,7 +105,7 @@ fn rust() -> Side {
 }
 
 fn count(cells: &[Cell<'_>], side: Side, turns: u64) {
-    let mut slots = [0; 24];
+    let mut slots = [0; ROOM];
     let mut sum: u64 = 0;
     for cell in cells {
         bench_mark();
@@ -117,7 +117,7 @@ fn count(cells: &[Cell<'_>], side: Side, turns: u64) {
 
 /// Both sides say the same, or the figures would compare nothing.
 fn same(cells: &[Cell<'_>]) {
-    let mut slots = [0; 24];
+    let mut slots = [0; ROOM];
     for cell in cells {
         let [rust, ours] = [rust(), sides::ours].map(|s| cell.turns(s, 1, &mut slots));
         assert_eq!(rust, ours, "{}", cell.name());
@@ -128,7 +128,7 @@ fn same(cells: &[Cell<'_>]) {
 /// The least of several runs: what a busy machine adds is left out as far as it can be.
 fn time(cells: &[Cell<'_>]) {
     const TURNS: u64 = 20_000;
-    let mut slots = [0; 24];
+    let mut slots = [0; ROOM];
     let mut least = |cell: &Cell<'_>, side: Side| {
         let run = |_| {
             let start = Instant::now();

@@ -4,19 +4,37 @@
 use crate::original::Row;
 use crate::values::{Numbers, Value};
 
+/// The words of a slot: kind, offset, size.
+const SLOT_WORDS: usize = 3;
+/// No result has more slots.
+const MOST_SLOTS: usize = 8;
+/// The words of a buffer that has room for any result.
+pub const ROOM: usize = MOST_SLOTS * SLOT_WORDS;
+
+#[derive(Clone, Copy)]
 #[repr(C)]
-struct Answer {
-    refusal: u64,
-    way: u64,
+pub struct Call {
     abi: u64,
     integer: u64,
     float: u64,
     integers_only: u64,
+}
+
+#[repr(C)]
+struct Outcome {
+    refusal: u64,
+    way: u64,
     integers_passed: u64,
     integers_given: u64,
     floats_passed: u64,
     floats_given: u64,
     slots: u64,
+}
+
+#[repr(C)]
+struct Answer {
+    next: Call,
+    outcome: Outcome,
 }
 
 #[rustfmt::skip]
@@ -41,16 +59,16 @@ pub fn none(_: &'static Row, number: u64, value: &Value, slots: &mut [u64]) -> u
 /// The library.
 #[inline(never)]
 pub fn ours(_: &'static Row, number: u64, value: &Value, slots: &mut [u64]) -> u64 {
-    let call = barkpaddle_fresh(number);
-    let answer = argument([call.abi, call.integer, call.float, call.integers_only], value, slots);
-    let left = answer.integer + 16 * answer.float;
-    let written = slots.chunks_exact(3).take(answer.slots as usize);
-    left + 256 * (answer.way + written.map(|slot| 8 + slot[1]).sum::<u64>())
+    let Answer { next, outcome } = argument(barkpaddle_fresh(number).next, value, slots);
+    let left = next.integer + 16 * next.float;
+    let written = slots.chunks_exact(SLOT_WORDS).take(outcome.slots as usize);
+    left + 256 * (outcome.way + written.map(|slot| 8 + slot[1]).sum::<u64>())
 }
 
 // In line, so that nothing stands between a side and the entries.
 #[inline(always)]
-fn argument([abi, integer, float, mark]: [u64; 4], value: &Value, slots: &mut [u64]) -> Answer {
+fn argument(call: Call, value: &Value, slots: &mut [u64]) -> Answer {
+    let Call { abi, integer, float, integers_only: mark } = call;
     let (room, length) = (slots.as_mut_ptr(), slots.len() as u64);
     match &value.numbers {
         // SAFETY: the buffer is `slots`.
@@ -73,7 +91,7 @@ fn argument([abi, integer, float, mark]: [u64; 4], value: &Value, slots: &mut [u
 pub struct Refused {
     pub name: &'static str,
     pub refusal: u64,
-    pub call: [u64; 4],
+    pub call: Call,
     pub value: Value,
     pub room: usize,
 }
@@ -82,14 +100,17 @@ impl Refused {
     #[inline(never)]
     pub fn turn(&self, slots: &mut [u64]) -> u64 {
         let answer = argument(self.call, &self.value, &mut slots[..self.room]);
-        assert!(answer.refusal == self.refusal, "{} is {}", self.name, answer.refusal);
-        answer.refusal + answer.integer + answer.integers_passed + answer.floats_given
+        let outcome = &answer.outcome;
+        assert!(outcome.refusal == self.refusal, "{} is {}", self.name, outcome.refusal);
+        outcome.refusal + answer.next.integer + outcome.integers_passed + outcome.floats_given
     }
 }
 
 /// One refused operation for each number but BAD_ABI's fresh call.
 pub fn refused() -> Vec<Refused> {
-    const CALL: [u64; 4] = [0, 6, 8, 0];
+    const CALL: Call = Call { abi: 0, integer: 6, float: 8, integers_only: 0 };
+    const NO_ABI: Call = Call { abi: 30, integer: 0, float: 0, integers_only: 0 };
+    const TOO_MANY: Call = Call { integer: 7, ..CALL };
     let make = |name, refusal, call, value, room| Refused { name, refusal, call, value, room };
     let two = |change: fn(&mut Vec<u64>)| {
         let mut values = crate::values::all();
@@ -99,12 +120,12 @@ pub fn refused() -> Vec<Refused> {
         value
     };
     vec![
-        make("BAD_ABI", 1, [30, 0, 0, 0], two(|_| ()), 24),
-        make("BAD_CALL", 2, [0, 7, 8, 0], two(|_| ()), 24),
-        make("BAD_LIST", 3, CALL, two(|words| words.truncate(7)), 24),
-        make("BAD_KIND of the second piece", 4, CALL, two(|words| words[4] = 5), 24),
-        make("BAD_SIZE of the second piece", 5, CALL, two(|words| words[5] = 65), 24),
-        make("BAD_ALIGN of the second piece", 6, CALL, two(|words| words[6] = 4_097), 24),
-        make("NO_ROOM for two slots", 7, CALL, two(|_| ()), 5),
+        make("BAD_ABI", 1, NO_ABI, two(|_| ()), ROOM),
+        make("BAD_CALL", 2, TOO_MANY, two(|_| ()), ROOM),
+        make("BAD_LIST", 3, CALL, two(|words| words.truncate(7)), ROOM),
+        make("BAD_KIND of the second piece", 4, CALL, two(|words| words[4] = 5), ROOM),
+        make("BAD_SIZE of the second piece", 5, CALL, two(|words| words[5] = 65), ROOM),
+        make("BAD_ALIGN of the second piece", 6, CALL, two(|words| words[6] = 4_097), ROOM),
+        make("NO_ROOM for two slots", 7, CALL, two(|_| ()), 2 * SLOT_WORDS - 1),
     ]
 }

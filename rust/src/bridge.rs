@@ -1,17 +1,17 @@
 //! A call that is lent and updated where it stands (REFERENCE 14).
 
 use crate::abi::Abi;
-use crate::call::{Call, Slots, Spent};
-use crate::limits::SLOT_WORDS;
-use crate::numbers::{Refusal, Way};
+use crate::call::Call;
+use crate::numbers::Refusal;
+use crate::outcome::Outcome;
 use crate::raw::{self, Operation};
 use crate::values::Value;
 
 /// A call that each operation updates where it stands: one for each bridge to a foreign function.
 ///
-/// It answers what [`Call`] answers, without the next call, which it has become. A refused operation
-/// leaves it, and the lent buffer, as they were. To go back to an earlier call, keep what
-/// [`call`](Self::call) says.
+/// It answers the outcome that [`Call`] answers, without the next call, which it has become. A
+/// refused operation leaves it, and the lent buffer, as they were. To go back to an earlier call,
+/// keep what [`call`](Self::call) says.
 ///
 /// ```
 /// use barkpaddle::{Abi, Aggregate, Bridge, Kind, Piece, Refusal, Room, Scalar, Way};
@@ -109,17 +109,7 @@ impl Bridge {
         slots: &'b mut [u64],
     ) -> Result<Outcome<'b>, Refusal> {
         let outcome = raw::place_lent(operation, &mut self.call, &value, slots);
-        Refusal::check(outcome.refusal)?;
-        Ok(Outcome {
-            way: Way::from_number(outcome.way),
-            spent: Spent {
-                integers_passed: outcome.integers_passed,
-                integers_given: outcome.integers_given,
-                floats_passed: outcome.floats_passed,
-                floats_given: outcome.floats_given,
-            },
-            slots: &slots[..SLOT_WORDS * outcome.slots as usize],
-        })
+        Outcome::of(&outcome, slots)
     }
 }
 
@@ -127,24 +117,5 @@ impl From<Call> for Bridge {
     /// A bridge that goes on from this call. Each operation checks it.
     fn from(call: Call) -> Self {
         Self { call }
-    }
-}
-
-/// How a value travels, where the next call is the bridge's.
-#[derive(Debug, Clone, Copy, PartialEq, Eq)]
-#[non_exhaustive]
-pub struct Outcome<'b> {
-    /// The way.
-    pub way: Way,
-    /// What this operation spent.
-    pub spent: Spent,
-    slots: &'b [u64],
-}
-
-impl<'b> Outcome<'b> {
-    /// The slots that were written to the buffer: none unless the way is [`Way::Pieces`].
-    #[must_use]
-    pub fn slots(&self) -> Slots<'b> {
-        Slots::of(self.slots)
     }
 }

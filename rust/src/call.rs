@@ -1,12 +1,8 @@
 //! A call and its operations (REFERENCE 9).
 
-use core::iter::FusedIterator;
-use core::ops::{Deref, DerefMut};
-use core::slice::ChunksExact;
-
 use crate::abi::Abi;
-use crate::limits::{MOST_SLOTS, SLOT_WORDS};
-use crate::numbers::{Kind, Refusal, Way};
+use crate::numbers::Refusal;
+use crate::outcome::Outcome;
 use crate::raw::{self, Operation};
 use crate::values::{Aggregate, Value};
 
@@ -20,7 +16,9 @@ pub struct Call {
     pub(crate) abi: Abi,
     pub(crate) integer: u64,
     pub(crate) float: u64,
-    pub(crate) integers_only: bool,
+    // 0 or 1, so that equal calls are equal numbers: it starts so, and the library hands it on as
+    // it is, or sets it to 1.
+    pub(crate) integers_only: u64,
 }
 
 impl Call {
@@ -30,13 +28,13 @@ impl Call {
     ///
     /// There is no such description.
     pub fn fresh(abi: Abi) -> Result<Self, Refusal> {
-        Self::next(&raw::barkpaddle_fresh(abi.0))
+        Self::next(raw::barkpaddle_fresh(abi.0))
     }
 
     /// A call of these numbers, as one that was kept elsewhere. Each operation checks them.
     #[must_use]
     pub const fn from_parts(abi: Abi, integer: u64, float: u64, integers_only: bool) -> Self {
-        Self { abi, integer, float, integers_only }
+        Self { abi, integer, float, integers_only: integers_only as u64 }
     }
 
     /// The same call, to a function whose parameters end in dots. It may come late and more than
@@ -46,8 +44,8 @@ impl Call {
     ///
     /// The description, then the call.
     pub fn variadic(self) -> Result<Self, Refusal> {
-        let mark = u64::from(self.integers_only);
-        Self::next(&raw::barkpaddle_variadic(self.abi.0, self.integer, self.float, mark))
+        let Self { abi, integer, float, integers_only } = self;
+        Self::next(raw::barkpaddle_variadic(abi.0, integer, float, integers_only))
     }
 
     /// How the return value comes back.
@@ -89,7 +87,8 @@ impl Call {
         self.place(Operation::AfterDots, value.into(), slots)
     }
 
-    /// What a fixed argument that travels as [`Way::Memory`] is aligned to in the argument area.
+    /// What a fixed argument that travels as [`Way::Memory`](crate::Way::Memory) is aligned to in
+    /// the argument area.
     ///
     /// # Errors
     ///
@@ -120,7 +119,7 @@ impl Call {
     /// Whether floats go in integer registers, too: a marked call of Windows arm64.
     #[must_use]
     pub const fn integers_only(self) -> bool {
-        self.integers_only
+        self.integers_only != 0
     }
 
     fn place<'b>(
@@ -130,138 +129,21 @@ impl Call {
         slots: &'b mut [u64],
     ) -> Result<Passed<'b>, Refusal> {
         let answer = raw::place(operation, self, &value, slots);
-        Ok(Passed {
-            way: Way::from_number(answer.way),
-            next: Self::next(&answer)?,
-            spent: Spent {
-                integers_passed: answer.integers_passed,
-                integers_given: answer.integers_given,
-                floats_passed: answer.floats_passed,
-                floats_given: answer.floats_given,
-            },
-            slots: &slots[..SLOT_WORDS * answer.slots as usize],
-        })
+        Outcome::of(&answer.outcome, slots).map(|outcome| Passed { next: answer.next, outcome })
     }
 
-    fn next(answer: &raw::Answer) -> Result<Self, Refusal> {
-        Refusal::check(answer.refusal)?;
-        Ok(Self {
-            abi: Abi(answer.abi),
-            integer: answer.integer,
-            float: answer.float,
-            integers_only: answer.integers_only != 0,
-        })
+    /// The call of an answer that has no more to say.
+    fn next(answer: raw::Answer) -> Result<Self, Refusal> {
+        Refusal::check(answer.outcome.refusal).map(|()| answer.next)
     }
 }
 
-/// How a value travels.
+/// What an operation answers: the next call, and how the value travels.
 #[derive(Debug, Clone, Copy, PartialEq, Eq)]
 #[non_exhaustive]
 pub struct Passed<'b> {
-    /// The way.
-    pub way: Way,
     /// The call that the next operation is asked of.
     pub next: Call,
-    /// What this operation spent.
-    pub spent: Spent,
-    slots: &'b [u64],
-}
-
-impl<'b> Passed<'b> {
-    /// The slots that were written to the buffer: none unless the way is [`Way::Pieces`].
-    #[must_use]
-    pub fn slots(&self) -> Slots<'b> {
-        Slots::of(self.slots)
-    }
-}
-
-/// Registers that an operation passed over, which carry nothing, and those that it was given. It
-/// passes over first.
-#[derive(Debug, Clone, Copy, PartialEq, Eq, Default)]
-#[non_exhaustive]
-pub struct Spent {
-    /// Integer registers passed over.
-    pub integers_passed: u64,
-    /// Integer registers given.
-    pub integers_given: u64,
-    /// Float registers passed over.
-    pub floats_passed: u64,
-    /// Float registers given.
-    pub floats_given: u64,
-}
-
-/// One register's worth of a value: which of its bytes go there.
-#[derive(Debug, Clone, Copy, PartialEq, Eq)]
-#[non_exhaustive]
-pub struct Slot {
-    /// An integer, or a float's format.
-    pub kind: Kind,
-    /// The first of its bytes.
-    pub offset: u64,
-    /// How many bytes; 0 for a float, whose kind says it.
-    pub size: u64,
-}
-
-/// The slots of an answer, in order.
-#[derive(Debug, Clone)]
-pub struct Slots<'b> {
-    words: ChunksExact<'b, u64>,
-}
-
-impl<'b> Slots<'b> {
-    /// The slots that these words are.
-    pub(crate) fn of(words: &'b [u64]) -> Self {
-        Self { words: words.chunks_exact(SLOT_WORDS) }
-    }
-}
-
-impl Iterator for Slots<'_> {
-    type Item = Slot;
-
-    fn next(&mut self) -> Option<Slot> {
-        let slot = self.words.next()?;
-        Some(Slot { kind: Kind::from_number(slot[0]), offset: slot[1], size: slot[2] })
-    }
-
-    fn size_hint(&self) -> (usize, Option<usize>) {
-        self.words.size_hint()
-    }
-}
-
-impl ExactSizeIterator for Slots<'_> {}
-
-impl FusedIterator for Slots<'_> {}
-
-/// Room for the slots of any answer. A slice of words of one's own does as well.
-#[derive(Debug, Clone)]
-pub struct Room {
-    words: [u64; MOST_SLOTS * SLOT_WORDS],
-}
-
-impl Room {
-    /// Room for eight slots.
-    #[must_use]
-    pub const fn new() -> Self {
-        Self { words: [0; MOST_SLOTS * SLOT_WORDS] }
-    }
-}
-
-impl Default for Room {
-    fn default() -> Self {
-        Self::new()
-    }
-}
-
-impl Deref for Room {
-    type Target = [u64];
-
-    fn deref(&self) -> &[u64] {
-        &self.words
-    }
-}
-
-impl DerefMut for Room {
-    fn deref_mut(&mut self) -> &mut [u64] {
-        &mut self.words
-    }
+    /// How the value travels.
+    pub outcome: Outcome<'b>,
 }

@@ -1,9 +1,9 @@
 //! How each value of a call travels, on thirty calling conventions.
 //!
 //! Start a [`Call`] on an [`Abi`], then ask for its return value and its arguments in order. Each
-//! answer says the way, the slots, the registers spent, and the next call. The code that answers is
-//! proved: it has an answer to every input. What it can't take is refused with a [`Refusal`], and a
-//! refused operation leaves the call and the lent buffer as they were.
+//! answer has the next call and the [`Outcome`]: the way, the slots, the registers spent. The code
+//! that answers is proved: it has an answer to every input. What it can't take is refused with a
+//! [`Refusal`], and a refused operation leaves the call and the lent buffer as they were.
 //!
 //! ```
 //! use barkpaddle::{Abi, Aggregate, Call, Kind, Piece, Room, Way};
@@ -16,8 +16,8 @@
 //! let mut room = Room::new();
 //! let passed = call.argument(record, &mut room)?;
 //!
-//! assert_eq!(passed.way, Way::Pieces);
-//! let slots: Vec<_> = passed.slots().map(|slot| (slot.kind, slot.offset)).collect();
+//! assert_eq!(passed.outcome.way, Way::Pieces);
+//! let slots: Vec<_> = passed.outcome.slots().map(|slot| (slot.kind, slot.offset)).collect();
 //! assert_eq!(slots, [(Kind::Integer, 0), (Kind::Double, 8)]);
 //! // The next argument is asked of the next call.
 //! assert_eq!((passed.next.integer_left(), passed.next.float_left()), (5, 7));
@@ -25,7 +25,7 @@
 //! ```
 //!
 //! A [`Call`] is a value. Whoever keeps one for each bridge to a foreign function lends a [`Bridge`]
-//! instead, which each operation updates where it stands.
+//! instead, which each operation updates where it stands. Its answers are the outcome alone.
 //!
 //! The numbers behind the names are those of docs/REFERENCE.md. Enums are non-exhaustive, and a
 //! number without a name here comes back as `Unnamed`: a newer library may have more of them.
@@ -36,17 +36,19 @@ mod abi;
 mod bridge;
 mod call;
 mod numbers;
+mod outcome;
 mod raw;
 mod targets;
 mod values;
 
 pub use abi::{Abi, Description, Rule, Rules, Test};
-pub use bridge::{Bridge, Outcome};
-pub use call::{Call, Passed, Room, Slot, Slots, Spent};
+pub use bridge::Bridge;
+pub use call::{Call, Passed};
 pub use numbers::{
     Architecture, BitInts, Cleanup, Kind, Narrow, Refusal, ReturnPointer, Short, StackArgs, System,
     Travel, Variadic, Way,
 };
+pub use outcome::{Outcome, Room, Slot, Slots, Spent};
 pub use targets::{Convention, Target};
 pub use values::{Aggregate, Piece, Scalar, Value, pieces, record};
 

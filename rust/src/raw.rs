@@ -8,29 +8,33 @@
 //! and a shared one of the same call can't overlap: both are borrowed at once. `Scalar` and `Piece` are
 //! `repr(C)` structs of three and four `u64`, so a slice of them is a slice of that many words, any
 //! of which may hold any number. A lent `Call` is borrowed mutably beside the slices, so it overlaps
-//! neither; it is a `repr(C)` struct of three words and a `bool`, laid out as the library's, which
-//! stores no `bool` but 0 or 1.
+//! neither; it is a `repr(C)` struct of four words, which may hold any number, too. Every struct is
+//! asserted to be laid out as the header's.
 #![allow(unsafe_code)]
 
 use core::mem::offset_of;
 
+use crate::abi::Abi;
 use crate::call::Call;
 use crate::values::{Aggregate, Piece, Scalar, Value};
 
-/// What an operation on a call answers.
+/// How a value travels, or why it was refused: what an operation on a lent call answers.
 #[repr(C)]
-pub struct Answer {
+pub struct Outcome {
     pub refusal: u64,
     pub way: u64,
-    pub abi: u64,
-    pub integer: u64,
-    pub float: u64,
-    pub integers_only: u64,
     pub integers_passed: u64,
     pub integers_given: u64,
     pub floats_passed: u64,
     pub floats_given: u64,
     pub slots: u64,
+}
+
+/// What an operation on a call answers.
+#[repr(C)]
+pub struct Answer {
+    pub next: Call,
+    pub outcome: Outcome,
 }
 
 /// What an operation on a lent call is asked about.
@@ -43,23 +47,6 @@ struct What {
     complex: u64,
     floating: u64,
 }
-
-/// What an operation on a lent call answers.
-#[repr(C)]
-pub struct Outcome {
-    pub refusal: u64,
-    pub way: u64,
-    pub integers_passed: u64,
-    pub integers_given: u64,
-    pub floats_passed: u64,
-    pub floats_given: u64,
-    pub slots: u64,
-}
-
-// The library's layout of a call (include/barkpaddle.h).
-const _: () = assert!(size_of::<Call>() == 32 && align_of::<Call>() == align_of::<u64>());
-const _: () = assert!(offset_of!(Call, abi) == 0 && offset_of!(Call, integer) == 8);
-const _: () = assert!(offset_of!(Call, float) == 16 && offset_of!(Call, integers_only) == 24);
 
 /// A refusal, or one number.
 #[repr(C)]
@@ -114,6 +101,55 @@ pub struct RuleNumbers {
     pub short: u64,
 }
 
+/// Holds a struct against include/barkpaddle.h's: its bytes, and the byte at which each field starts.
+macro_rules! laid_out {
+    ($name:ident, $bytes:literal { $($field:ident: $start:literal),* $(,)? }) => {
+        const _: () = {
+            assert!(size_of::<$name>() == $bytes && align_of::<$name>() == align_of::<u64>());
+            $(assert!(offset_of!($name, $field) == $start);)*
+        };
+    };
+}
+
+laid_out!(Call, 32 { abi: 0, integer: 8, float: 16, integers_only: 24 });
+laid_out!(Outcome, 56 {
+    refusal: 0,
+    way: 8,
+    integers_passed: 16,
+    integers_given: 24,
+    floats_passed: 32,
+    floats_given: 40,
+    slots: 48,
+});
+laid_out!(Answer, 88 { next: 0, outcome: 32 });
+laid_out!(What, 48 { form: 0, kind: 8, size: 16, align: 24, complex: 32, floating: 40 });
+laid_out!(Told, 16 { refusal: 0, value: 8 });
+laid_out!(Record, 40 { refusal: 0, size: 8, align: 16, complex: 24, floating: 32 });
+laid_out!(Fields, 168 {
+    refusal: 0,
+    integer: 8,
+    float: 16,
+    shared: 24,
+    integer_width: 32,
+    float_width: 40,
+    in_memory: 48,
+    wide_integer_is_all_or_nothing: 56,
+    wide_integer_starts_even: 64,
+    wide_integer_drains: 72,
+    wide_is_by_reference: 80,
+    wide_integer_returns_in: 88,
+    wide_integer_in_memory: 96,
+    decimal_in_integers: 104,
+    quad_returns_by_reference: 112,
+    return_pointer: 120,
+    variadic: 128,
+    stack_args: 136,
+    narrow: 144,
+    bit_ints: 152,
+    cleanup: 160,
+});
+laid_out!(RuleNumbers, 40 { refusal: 0, test: 8, number: 16, travel: 24, short: 32 });
+
 #[rustfmt::skip]
 unsafe extern "C" {
     pub safe fn barkpaddle_fresh(abi: u64) -> Answer;
@@ -159,8 +195,7 @@ pub enum Operation {
 
 /// Performs an operation on a call.
 pub fn place(operation: Operation, call: Call, value: &Value<'_>, slots: &mut [u64]) -> Answer {
-    let Call { abi, integer, float, integers_only } = call;
-    let (abi, mark) = (abi.0, u64::from(integers_only));
+    let Call { abi: Abi(abi), integer, float, integers_only: mark } = call;
     let (room, length) = (slots.as_mut_ptr(), slots.len() as u64);
     match value {
         Value::Void => {
@@ -244,14 +279,13 @@ pub fn place_lent(
 
 /// What a fixed argument that travels as Memory is aligned to.
 pub fn in_memory(call: Call, shape: &Aggregate<'_>) -> Told {
-    let Call { abi, integer, float, integers_only } = call;
+    let Call { abi: Abi(abi), integer, float, integers_only: mark } = call;
     let (complex, floating) = (u64::from(shape.complex), u64::from(shape.floating));
     let (words, count) = (shape.pieces.as_ptr().cast(), words_in(shape.pieces));
-    let mark = u64::from(integers_only);
     // SAFETY: the list is `shape.pieces`.
     unsafe {
         barkpaddle_in_memory(
-            abi.0,
+            abi,
             integer,
             float,
             mark,

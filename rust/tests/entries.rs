@@ -28,7 +28,7 @@ fn words_behind_the_slots_stay() {
     let one = [Piece::new(Kind::Double, 8, 8, 0)];
     let mut slots = [9; 7];
     let passed = call.argument(Aggregate::new(8, 8, &one), &mut slots).expect("accepted");
-    assert_eq!((passed.way, passed.slots().len()), (Way::Pieces, 1));
+    assert_eq!((passed.outcome.way, passed.outcome.slots().len()), (Way::Pieces, 1));
     assert_eq!(passed.next, Call::from_parts(SYSV, 6, 7, false));
     assert_eq!(slots, [2, 0, 0, 9, 9, 9, 9]);
 }
@@ -43,7 +43,7 @@ fn the_five_arguments_and_the_record_that_goes_to_memory() {
     let two = [Piece::new(Kind::Integer, 8, 8, 0), Piece::new(Kind::Integer, 8, 8, 8)];
     let both = Aggregate::new(16, 8, &two);
     let passed = call.argument(both, &mut room).expect("accepted");
-    assert_eq!((passed.way, passed.next.integer_left()), (Way::Memory, 1));
+    assert_eq!((passed.outcome.way, passed.next.integer_left()), (Way::Memory, 1));
     assert_eq!(call.in_memory(both), Ok(8));
 }
 
@@ -53,8 +53,9 @@ fn the_mark_is_row_3s() {
     assert!(call.integers_only());
     let mut room = Room::new();
     let passed = call.argument(Scalar::new(Kind::Double, 8, 8), &mut room).expect("accepted");
-    assert_eq!(passed.slots().next().map(|slot| slot.kind), Some(Kind::Integer));
-    assert_eq!(passed.spent.integers_given, 1);
+    assert_eq!(passed.outcome.slots().next().map(|slot| slot.kind), Some(Kind::Integer));
+    assert_eq!(passed.outcome.spent.integers_given, 1);
+    assert_eq!(passed.next, Call::from_parts(Abi::WINDOWS_ARM64, 7, 8, true));
     let call = Call::from_parts(SYSV, 0, 0, true);
     assert_eq!(call.variadic(), Err(Refusal::BadCall));
 }

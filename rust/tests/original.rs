@@ -169,10 +169,7 @@ fn lines(sheet: &[u8]) -> String {
             _ => bridge.variadic_argument(value, &mut lent_room),
         };
         match (passed, outcome) {
-            (Ok(passed), Ok(outcome)) => {
-                assert_eq!((outcome.way, outcome.spent), (passed.way, passed.spent));
-                assert!(outcome.slots().eq(passed.slots()));
-            }
+            (Ok(passed), Ok(outcome)) => assert_eq!(outcome, passed.outcome),
             (passed, outcome) => assert_eq!(outcome.err(), passed.err()),
         }
         assert_eq!(bridge.call(), passed.map_or(call, |passed| passed.next));
@@ -199,13 +196,14 @@ fn print_left(out: &mut String, word: &str, call: Option<Call>, refusal: Option<
 }
 
 fn print_passed(out: &mut String, passed: &Passed<'_>) {
-    let word = format!("{:?}", passed.way).to_lowercase();
-    let (next, spent) = (passed.next, passed.spent);
+    let Passed { next, outcome, .. } = passed;
+    let word = format!("{:?}", outcome.way).to_lowercase();
+    let spent = outcome.spent;
     write!(out, "{word} {} {}", next.integer_left(), next.float_left())
         .and_then(|()| write!(out, " {} {}", spent.integers_passed, spent.integers_given))
         .and_then(|()| write!(out, " {} {}", spent.floats_passed, spent.floats_given))
         .expect("a string takes it");
-    for slot in passed.slots() {
+    for slot in outcome.slots() {
         let kind = slot.kind.number();
         write!(out, " {kind}:{}:{}", slot.offset, slot.size).expect("a string takes it");
     }

@@ -18,14 +18,24 @@
 #define HOLDS(name, fact) typedef char name[(fact) ? 1 : -1]
 
 /* The structs are laid out as the library has them. */
-HOLDS(a_bool_is_a_byte, sizeof(bool) == 1);
 HOLDS(call_has_32_bytes, sizeof(barkpaddle_call) == 32);
 HOLDS(call_abi_at_0, offsetof(barkpaddle_call, abi) == 0);
 HOLDS(call_integer_at_8, offsetof(barkpaddle_call, integer) == 8);
 HOLDS(call_float_at_16, offsetof(barkpaddle_call, float_) == 16);
 HOLDS(call_mark_at_24, offsetof(barkpaddle_call, integers_only) == 24);
-HOLDS(what_has_6_words, sizeof(barkpaddle_what) == 6 * 8);
+HOLDS(call_mark_is_a_word, sizeof(((barkpaddle_call *)0)->integers_only) == 8);
 HOLDS(outcome_has_7_words, sizeof(barkpaddle_outcome) == 7 * 8);
+HOLDS(outcome_refusal_at_0, offsetof(barkpaddle_outcome, refusal) == 0);
+HOLDS(outcome_way_at_8, offsetof(barkpaddle_outcome, way) == 8);
+HOLDS(outcome_integers_passed_at_16, offsetof(barkpaddle_outcome, integers_passed) == 16);
+HOLDS(outcome_integers_given_at_24, offsetof(barkpaddle_outcome, integers_given) == 24);
+HOLDS(outcome_floats_passed_at_32, offsetof(barkpaddle_outcome, floats_passed) == 32);
+HOLDS(outcome_floats_given_at_40, offsetof(barkpaddle_outcome, floats_given) == 40);
+HOLDS(outcome_slots_at_48, offsetof(barkpaddle_outcome, slots) == 48);
+HOLDS(answer_has_11_words, sizeof(barkpaddle_answer) == 11 * 8);
+HOLDS(answer_next_at_0, offsetof(barkpaddle_answer, next) == 0);
+HOLDS(answer_outcome_at_32, offsetof(barkpaddle_answer, outcome) == 32);
+HOLDS(what_has_6_words, sizeof(barkpaddle_what) == 6 * 8);
 
 static unsigned long passed;
 static unsigned long failed;
@@ -39,6 +49,53 @@ static void check_number(const char *place, const char *what, uint64_t expected,
     failed++;
     if (failed <= 40)
         printf("FAILED %s: %s is %llu, not %llu\n", place, what, (unsigned long long)got, (unsigned long long)expected);
+}
+
+/* ---- calls and outcomes ---- */
+
+static barkpaddle_call call_of(uint64_t abi, uint64_t integer, uint64_t float_, uint64_t integers_only)
+{
+    barkpaddle_call c;
+
+    c.abi = abi;
+    c.integer = integer;
+    c.float_ = float_;
+    c.integers_only = integers_only;
+    return c;
+}
+
+static void check_call(const char *place, barkpaddle_call expected, barkpaddle_call got)
+{
+    check_number(place, "abi", expected.abi, got.abi);
+    check_number(place, "integer", expected.integer, got.integer);
+    check_number(place, "float_", expected.float_, got.float_);
+    check_number(place, "integers_only", expected.integers_only, got.integers_only);
+}
+
+/* `spent` is integers passed over and given, floats passed over and given. */
+static barkpaddle_outcome outcome_of(uint64_t refusal, uint64_t way, const uint64_t spent[4], uint64_t slots)
+{
+    barkpaddle_outcome outcome;
+
+    outcome.refusal = refusal;
+    outcome.way = way;
+    outcome.integers_passed = spent[0];
+    outcome.integers_given = spent[1];
+    outcome.floats_passed = spent[2];
+    outcome.floats_given = spent[3];
+    outcome.slots = slots;
+    return outcome;
+}
+
+static void check_outcome(const char *place, barkpaddle_outcome expected, barkpaddle_outcome got)
+{
+    check_number(place, "refusal", expected.refusal, got.refusal);
+    check_number(place, "way", expected.way, got.way);
+    check_number(place, "integers_passed", expected.integers_passed, got.integers_passed);
+    check_number(place, "integers_given", expected.integers_given, got.integers_given);
+    check_number(place, "floats_passed", expected.floats_passed, got.floats_passed);
+    check_number(place, "floats_given", expected.floats_given, got.floats_given);
+    check_number(place, "slots", expected.slots, got.slots);
 }
 
 /* ---- lent buffers ---- */
@@ -96,10 +153,6 @@ static void check_bytes(const char *place, const char *text)
 enum operation { RETURN, ARGUMENT, AFTER_DOTS };
 enum what { VOID, SCALAR, AGGREGATE };
 
-typedef struct call {
-    uint64_t abi, integer, float_, integers_only;
-} call;
-
 typedef struct value {
     enum what what;
     uint64_t kind, size, align, complex_, floating;
@@ -107,7 +160,7 @@ typedef struct value {
     uint64_t words_length;
 } value;
 
-static barkpaddle_answer by_value(enum operation operation, call c, value v, uint64_t *slots, uint64_t length)
+static barkpaddle_answer by_value(enum operation operation, barkpaddle_call c, value v, uint64_t *slots, uint64_t length)
 {
     switch (operation) {
     case RETURN:
@@ -139,32 +192,6 @@ static barkpaddle_answer by_value(enum operation operation, call c, value v, uin
 
 /* ---- the same over a lent call ---- */
 
-/* The bytes of a call that mean something. */
-#define CALL_BYTES (offsetof(barkpaddle_call, integers_only) + 1)
-
-static barkpaddle_call lendable(call c)
-{
-    barkpaddle_call kept;
-
-    memset(&kept, 0xA5, sizeof kept);
-    kept.abi = c.abi;
-    kept.integer = c.integer;
-    kept.float_ = c.float_;
-    kept.integers_only = c.integers_only != 0;
-    return kept;
-}
-
-static call by_numbers(const barkpaddle_call *kept)
-{
-    call c;
-
-    c.abi = kept->abi;
-    c.integer = kept->integer;
-    c.float_ = kept->float_;
-    c.integers_only = kept->integers_only;
-    return c;
-}
-
 /* A value as a lent call's operations take it. A field that its form doesn't read holds a number that would be refused, or a yes. */
 static barkpaddle_what what_of(value v)
 {
@@ -194,31 +221,22 @@ static barkpaddle_outcome by_lending(
     }
 }
 
-/* The outcome and the call that is stored are the answer's numbers, and a refusal leaves the call's bytes as they were. */
+/* The outcome and the call that is stored are the answer's, and a refusal leaves the call's bytes as they were. */
 static void check_stored(
     const char *place, barkpaddle_answer a, barkpaddle_outcome outcome, const barkpaddle_call *before, const barkpaddle_call *kept)
 {
-    check_number(place, "the lent call's refusal", a.refusal, outcome.refusal);
-    check_number(place, "the lent call's way", a.way, outcome.way);
-    check_number(place, "the lent call's integers_passed", a.integers_passed, outcome.integers_passed);
-    check_number(place, "the lent call's integers_given", a.integers_given, outcome.integers_given);
-    check_number(place, "the lent call's floats_passed", a.floats_passed, outcome.floats_passed);
-    check_number(place, "the lent call's floats_given", a.floats_given, outcome.floats_given);
-    check_number(place, "the lent call's slots", a.slots, outcome.slots);
-    check_number(place, "the stored abi", a.abi, kept->abi);
-    check_number(place, "the stored integer", a.integer, kept->integer);
-    check_number(place, "the stored float_", a.float_, kept->float_);
-    check_number(place, "the stored integers_only", a.integers_only, ((const unsigned char *)kept)[CALL_BYTES - 1]);
-    if (a.refusal != BARKPADDLE_ACCEPTED)
-        check_number(place, "a difference in a refused call", 0, memcmp(before, kept, CALL_BYTES) != 0);
+    check_outcome(place, a.outcome, outcome);
+    check_call(place, a.next, *kept);
+    if (a.outcome.refusal != BARKPADDLE_ACCEPTED)
+        check_number(place, "a difference in a refused call", 0, memcmp(before, kept, sizeof *kept) != 0);
 }
 
 /* The lent call's own buffer, with the same words in it as the other. */
 static uint64_t lent_again[ROOM];
 
-/* An operation by value on `c`, and on `kept`, which is the same call. The answer is the value's; `slots` is NULL or `lent`. */
+/* An operation by value on the call that `kept` is, and on `kept` itself. The answer is the value's; `slots` is NULL or `lent`. */
 static barkpaddle_answer both_ways(
-    const char *place, enum operation operation, call c, barkpaddle_call *kept, value v, uint64_t *slots, uint64_t length)
+    const char *place, enum operation operation, barkpaddle_call *kept, value v, uint64_t *slots, uint64_t length)
 {
     /* words that are for no aggregate, so that nobody looks at them: no whole pieces, and of no kind */
     static const uint64_t no_pieces[] = {UINT64_MAX, UINT64_MAX, UINT64_MAX};
@@ -229,18 +247,17 @@ static barkpaddle_answer both_ways(
     barkpaddle_outcome outcome;
 
     memcpy(lent_again, lent, sizeof lent);
-    a = by_value(operation, c, v, slots, length);
+    a = by_value(operation, before, v, slots, length);
     outcome = by_lending(operation, kept, what_of(v), words, words_length, slots == NULL ? NULL : lent_again, length);
     check_stored(place, a, outcome, &before, kept);
+    check_number(place, "the mark that is handed on", before.integers_only, a.next.integers_only);
     check_number(place, "a difference in the lent call's buffer", 0, memcmp(lent, lent_again, sizeof lent) != 0);
     return a;
 }
 
-static barkpaddle_answer perform(enum operation operation, call c, value v, uint64_t *slots, uint64_t length)
+static barkpaddle_answer perform(enum operation operation, barkpaddle_call c, value v, uint64_t *slots, uint64_t length)
 {
-    barkpaddle_call kept = lendable(c);
-
-    return both_ways("lent", operation, c, &kept, v, slots, length);
+    return both_ways("lent", operation, &c, v, slots, length);
 }
 
 static value scalar(uint64_t kind, uint64_t size, uint64_t align)
@@ -270,31 +287,21 @@ static const value nothing = {VOID, 0, 0, 0, 0, 0, NULL, 0};
 
 /* Checks all eleven numbers of an answer. */
 static void check_answer(
-    const char *place, barkpaddle_answer a, uint64_t refusal, uint64_t way, call next, const uint64_t spent[4], uint64_t slots)
+    const char *place, barkpaddle_answer a, uint64_t refusal, uint64_t way, barkpaddle_call next, const uint64_t spent[4], uint64_t slots)
 {
-    check_number(place, "refusal", refusal, a.refusal);
-    check_number(place, "way", way, a.way);
-    check_number(place, "abi", next.abi, a.abi);
-    check_number(place, "integer", next.integer, a.integer);
-    check_number(place, "float_", next.float_, a.float_);
-    check_number(place, "integers_only", next.integers_only, a.integers_only);
-    check_number(place, "integers_passed", spent[0], a.integers_passed);
-    check_number(place, "integers_given", spent[1], a.integers_given);
-    check_number(place, "floats_passed", spent[2], a.floats_passed);
-    check_number(place, "floats_given", spent[3], a.floats_given);
-    check_number(place, "slots", slots, a.slots);
+    check_call(place, next, a.next);
+    check_outcome(place, outcome_of(refusal, way, spent, slots), a.outcome);
 }
 
 static const uint64_t no_spending[4] = {0, 0, 0, 0};
 
 /* A refused operation: the call comes back, all else is 0, and the buffer is as it was. */
-static void check_refused(const char *place, enum operation operation, call c, value v, uint64_t length, uint64_t refusal)
+static void check_refused(const char *place, enum operation operation, barkpaddle_call c, value v, uint64_t length, uint64_t refusal)
 {
     barkpaddle_answer a;
 
     fill();
     a = perform(operation, c, v, length == 0 ? NULL : lent, length);
-    c.integers_only = c.integers_only != 0;
     check_answer(place, a, refusal, 0, c, no_spending, 0);
     check_lent(place, NULL, 0);
 }
@@ -305,15 +312,14 @@ static void check_refused(const char *place, enum operation operation, call c, v
  * NO_ROOM.
  */
 static void check_line(
-    const char *place, enum operation operation, call c, value v, uint64_t way, const uint64_t numbers[6], const uint64_t *slots,
+    const char *place, enum operation operation, barkpaddle_call c, value v, uint64_t way, const uint64_t numbers[6], const uint64_t *slots,
     uint64_t slots_count)
 {
     uint64_t length;
-    call next = c;
+    barkpaddle_call next = c;
 
     next.integer = numbers[0];
     next.float_ = numbers[1];
-    next.integers_only = c.integers_only != 0;
     for (length = 0; length <= 30; length++) {
         barkpaddle_answer a;
 
@@ -340,17 +346,6 @@ static const uint64_t int4_single[] = {0, 4, 4, 0, 1, 4, 4, 4};
 #define LINE(place, operation, c, v, way, numbers, slots) \
     check_line(place, operation, c, v, way, numbers, slots, COUNT(slots) / BARKPADDLE_SLOT_WORDS)
 #define BARE(place, operation, c, v, way, numbers) check_line(place, operation, c, v, way, numbers, NULL, 0)
-
-static call call_of(uint64_t abi, uint64_t integer, uint64_t float_, uint64_t integers_only)
-{
-    call c;
-
-    c.abi = abi;
-    c.integer = integer;
-    c.float_ = float_;
-    c.integers_only = integers_only;
-    return c;
-}
 
 /* The table of twelve calls (REFERENCE 9.8). Left, passed over and given are in the order of a sheet's line; the aggregates of calls 10 and
  * 12 have other pieces than there. */
@@ -407,9 +402,12 @@ static void beside_the_twelve(void)
     BARE("fastcall, wide", ARGUMENT, call_of(22, 2, 0, 0), scalar(0, 8, 8), BARKPADDLE_DIRECT, fastcall_passed);
     BARE("fastcall, record", ARGUMENT, call_of(22, 2, 0, 0), aggregate(8, 4, NULL, 0), BARKPADDLE_MEMORY, fastcall_given);
 
-    /* any number but 0 is the mark; it comes back as 1 */
-    for (mark = 1; mark != 0; mark <<= 1)
+    /* any number but 0 is the mark; it comes back as it was */
+    for (mark = 1; mark != 0; mark <<= 1) {
         LINE("a marked call", ARGUMENT, call_of(3, 8, 8, mark), scalar(2, 8, 8), BARKPADDLE_PIECES, marked, one_int);
+        LINE("a marked call, after the dots", AFTER_DOTS, call_of(3, 8, 8, mark), scalar(2, 8, 8), BARKPADDLE_PIECES, marked, one_int);
+        BARE("a marked call's return", RETURN, call_of(3, 8, 8, mark), scalar(2, 8, 8), BARKPADDLE_DIRECT, no_pointer);
+    }
     LINE("eight slots", ARGUMENT, call_of(3, 8, 8, 1), scalar(4, 64, 16), BARKPADDLE_PIECES, all_given, eight_ints);
     BARE("a float without size", ARGUMENT, call_of(3, 8, 8, 1), scalar(1, 0, 0), BARKPADDLE_PIECES, marked);
     BARE("after the dots, no mark", AFTER_DOTS, call_of(3, 8, 8, 0), scalar(2, 8, 8), BARKPADDLE_DIRECT, float_given);
@@ -461,7 +459,7 @@ static void refusals_of(enum operation operation)
     barkpaddle_answer a;
     value bad = aggregate(16777217, 4097, all_wrong, 3);
 
-    /* 1 before all else, for void too; the call comes back, yes-or-no as 0 or 1 */
+    /* 1 before all else, for void too; the call comes back as it was */
     for (i = 0; i < COUNT(numbers_past); i++) {
         check_refused("BAD_ABI, void", operation, call_of(30 + numbers_past[i], 9, 9, 7), nothing, 24, BARKPADDLE_BAD_ABI);
         check_refused("BAD_ABI, scalar", operation, call_of(30 + numbers_past[i], 0, 0, 0), scalar(5, 65, 4097), 24, BARKPADDLE_BAD_ABI);
@@ -470,7 +468,7 @@ static void refusals_of(enum operation operation)
 
     /* 2: each bank's start passes, one above it doesn't; the mark belongs to row 3 alone */
     for (i = 0; i < BARKPADDLE_DESCRIPTIONS; i++) {
-        barkpaddle_answer start = barkpaddle_fresh(i);
+        barkpaddle_call start = barkpaddle_fresh(i).next;
 
         check_refused("BAD_CALL, integers", operation, call_of(i, start.integer + 1, start.float_, 0), bad, 24, BARKPADDLE_BAD_CALL);
         check_refused("BAD_CALL, floats", operation, call_of(i, start.integer, start.float_ + 1, 0), nothing, 24, BARKPADDLE_BAD_CALL);
@@ -494,8 +492,8 @@ static void refusals_of(enum operation operation)
     for (n = 4097; n <= 4104; n++)
         check_refused("BAD_LIST, many", operation, call_of(0, 6, 8, 0), aggregate(64, 8, many_words, n), 24, BARKPADDLE_BAD_LIST);
     a = perform(operation, call_of(0, 6, 8, 0), aggregate(8, 8, many_words, 4096), lent, ROOM);
-    check_number("1,024 pieces", "refusal", BARKPADDLE_ACCEPTED, a.refusal);
-    check_number("1,024 pieces", "way", BARKPADDLE_PIECES, a.way);
+    check_number("1,024 pieces", "refusal", BARKPADDLE_ACCEPTED, a.outcome.refusal);
+    check_number("1,024 pieces", "way", BARKPADDLE_PIECES, a.outcome.way);
 
     /* the shape's size, its alignment, then the pieces from the first, each by kind, size, offset, alignment */
     check_refused("the shape's size", operation, call_of(0, 6, 8, 0), aggregate(16777217, 4097, all_wrong, 4), 24, BARKPADDLE_BAD_SIZE);
@@ -515,13 +513,13 @@ static void refusals_of(enum operation operation)
         check_refused("the first of two", operation, call_of(0, 6, 8, 0), aggregate(8, 8, two, 8), 24, refusals[n]);
     }
     a = perform(operation, call_of(0, 6, 8, 0), aggregate(16777216, 4096, NULL, 0), NULL, 0);
-    check_number("the largest shape", "refusal", BARKPADDLE_ACCEPTED, a.refusal);
+    check_number("the largest shape", "refusal", BARKPADDLE_ACCEPTED, a.outcome.refusal);
     two[0] = 4;
     two[1] = 64;
     two[2] = 4096;
     two[3] = 16777216;
     a = perform(operation, call_of(0, 6, 8, 0), aggregate(0, 0, two, 4), NULL, 0);
-    check_number("the largest piece", "refusal", BARKPADDLE_ACCEPTED, a.refusal);
+    check_number("the largest piece", "refusal", BARKPADDLE_ACCEPTED, a.outcome.refusal);
 
     /* a scalar: kind, size, alignment */
     for (i = 0; i < COUNT(kinds); i++)
@@ -530,26 +528,26 @@ static void refusals_of(enum operation operation)
     check_refused("a scalar's size", operation, call_of(0, 6, 8, 0), scalar(0, UINT64_MAX, 0), 24, BARKPADDLE_BAD_SIZE);
     check_refused("a scalar's alignment", operation, call_of(0, 6, 8, 0), scalar(4, 64, 4097), 24, BARKPADDLE_BAD_ALIGN);
     a = perform(operation, call_of(0, 6, 8, 0), scalar(4, 64, 4096), NULL, 0);
-    check_number("the largest scalar", "refusal", BARKPADDLE_ACCEPTED, a.refusal);
+    check_number("the largest scalar", "refusal", BARKPADDLE_ACCEPTED, a.outcome.refusal);
 }
 
 /* ---- the start and the mark ---- */
 
-/* The mark by value on `c`, and on `kept`, which is the same call. */
-static barkpaddle_answer mark_both_ways(const char *place, call c, barkpaddle_call *kept)
+/* The mark by value on the call that `kept` is, and on `kept` itself. */
+static barkpaddle_answer mark_both_ways(const char *place, barkpaddle_call *kept)
 {
     barkpaddle_call before = *kept;
-    barkpaddle_answer a = barkpaddle_variadic(c.abi, c.integer, c.float_, c.integers_only);
+    barkpaddle_answer a = barkpaddle_variadic(before.abi, before.integer, before.float_, before.integers_only);
+    int sets = a.outcome.refusal == BARKPADDLE_ACCEPTED && before.abi == BARKPADDLE_WINDOWS_ARM64;
 
     check_stored(place, a, barkpaddle_bridge_variadic(kept), &before, kept);
+    check_number(place, "the mark that is set or handed on", sets ? 1 : before.integers_only, a.next.integers_only);
     return a;
 }
 
-static barkpaddle_answer mark(call c)
+static barkpaddle_answer mark(barkpaddle_call c)
 {
-    barkpaddle_call kept = lendable(c);
-
-    return mark_both_ways("the mark, lent", c, &kept);
+    return mark_both_ways("the mark, lent", &c);
 }
 
 static void starts(void)
@@ -560,8 +558,8 @@ static void starts(void)
     uint64_t i;
 
     for (i = 0; i < BARKPADDLE_DESCRIPTIONS; i++) {
-        call c = call_of(i, integers[i], i < COUNT(floats) ? floats[i] : 0, 0);
-        call marked = c;
+        barkpaddle_call c = call_of(i, integers[i], i < COUNT(floats) ? floats[i] : 0, 0);
+        barkpaddle_call marked = c;
 
         check_answer("fresh", barkpaddle_fresh(i), 0, 0, c, no_spending, 0);
         marked.integers_only = i == BARKPADDLE_WINDOWS_ARM64;
@@ -569,7 +567,7 @@ static void starts(void)
         if (marked.integers_only)
             check_answer("variadic twice", mark(call_of(i, c.integer, c.float_, 6)), 0, 0, marked, no_spending, 0);
         else
-            check_answer("mark", mark(call_of(i, 0, 0, 6)), BARKPADDLE_BAD_CALL, 0, call_of(i, 0, 0, 1), no_spending, 0);
+            check_answer("mark", mark(call_of(i, 0, 0, 6)), BARKPADDLE_BAD_CALL, 0, call_of(i, 0, 0, 6), no_spending, 0);
         check_answer(
             "variadic, too many", mark(call_of(i, c.integer + 1, 0, 0)), BARKPADDLE_BAD_CALL, 0, call_of(i, c.integer + 1, 0, 0),
             no_spending, 0);
@@ -578,18 +576,17 @@ static void starts(void)
         uint64_t abi = 30 + numbers_past[i];
 
         check_answer("fresh, BAD_ABI", barkpaddle_fresh(abi), BARKPADDLE_BAD_ABI, 0, call_of(0, 0, 0, 0), no_spending, 0);
-        check_answer("variadic, BAD_ABI", mark(call_of(abi, 9, 9, 9)), BARKPADDLE_BAD_ABI, 0, call_of(abi, 9, 9, 1), no_spending, 0);
+        check_answer("variadic, BAD_ABI", mark(call_of(abi, 9, 9, 9)), BARKPADDLE_BAD_ABI, 0, call_of(abi, 9, 9, 9), no_spending, 0);
     }
 }
 
 /* ---- a lent call ---- */
 
 /* A lent call whose operation is refused: its number, all else 0, and the call and the buffer as they were. */
-static void check_form_refused(enum operation operation, call c, uint64_t form, uint64_t refusal)
+static void check_form_refused(enum operation operation, barkpaddle_call c, uint64_t form, uint64_t refusal)
 {
     static const uint64_t no_pieces[] = {UINT64_MAX, UINT64_MAX, UINT64_MAX};
-    barkpaddle_call kept = lendable(c);
-    barkpaddle_call before = kept;
+    barkpaddle_call kept = c;
     barkpaddle_what what = what_of(nothing);
     barkpaddle_outcome outcome;
     int empty;
@@ -604,7 +601,7 @@ static void check_form_refused(enum operation operation, call c, uint64_t form, 
         check_number("form", "integers spent", 0, outcome.integers_passed | outcome.integers_given);
         check_number("form", "floats spent", 0, outcome.floats_passed | outcome.floats_given);
         check_number("form", "slots", 0, outcome.slots);
-        check_number("form", "a difference in the call", 0, memcmp(&before, &kept, CALL_BYTES) != 0);
+        check_number("form", "a difference in the call", 0, memcmp(&c, &kept, sizeof kept) != 0);
         check_lent("form", NULL, 0);
     }
 }
@@ -631,17 +628,12 @@ static void forms_of(enum operation operation)
 static void lent_calls(void)
 {
     static const uint64_t slots[] = {0, 0, 8, 2, 8, 0};
-    barkpaddle_answer start = barkpaddle_fresh(BARKPADDLE_SYSV_AMD64);
-    barkpaddle_call kept;
+    barkpaddle_call kept = barkpaddle_fresh(BARKPADDLE_SYSV_AMD64).next;
     barkpaddle_what what = what_of(aggregate(16, 8, NULL, 0));
     barkpaddle_what word = what_of(scalar(BARKPADDLE_INTEGER, 8, 8));
     barkpaddle_outcome outcome;
     uint64_t i;
 
-    kept.abi = start.abi;
-    kept.integer = start.integer;
-    kept.float_ = start.float_;
-    kept.integers_only = start.integers_only != 0;
     fill();
     outcome = barkpaddle_bridge_argument(&kept, what, int8_double, COUNT(int8_double), lent, ROOM);
     check_number("lent record", "refusal", BARKPADDLE_ACCEPTED, outcome.refusal);
@@ -668,7 +660,7 @@ static void lent_calls(void)
     check_number("a pointer for a result", "way", BARKPADDLE_REFERENCE, outcome.way);
     check_number("a pointer for a result", "integers left", 0, kept.integer);
 
-    kept = lendable(call_of(BARKPADDLE_WINDOWS_ARM64, 8, 8, 0));
+    kept = call_of(BARKPADDLE_WINDOWS_ARM64, 8, 8, 0);
     outcome = barkpaddle_bridge_variadic(&kept);
     check_number("lent mark", "refusal", BARKPADDLE_ACCEPTED, outcome.refusal);
     check_number("lent mark", "integers_only", 1, kept.integers_only);
@@ -678,6 +670,67 @@ static void lent_calls(void)
     check_number("after the lent mark", "integers left", 7, kept.integer);
     check_number("after the lent mark", "floats left", 8, kept.float_);
     check_lent("after the lent mark", slots, 3);
+}
+
+/* One call in both forms: what one stores or answers goes into the other as it stands. */
+static void one_call_in_both_forms(void)
+{
+    static const uint64_t given[] = {0, 1, 0, 0};
+    barkpaddle_answer a = barkpaddle_fresh(BARKPADDLE_SYSV_AMD64);
+    barkpaddle_outcome expected = outcome_of(BARKPADDLE_ACCEPTED, BARKPADDLE_DIRECT, given, 0);
+    barkpaddle_what word = what_of(scalar(BARKPADDLE_INTEGER, 8, 8));
+    uint64_t left;
+
+    for (left = 6; left > 0; left -= 2) {
+        barkpaddle_call *kept = &a.next;
+
+        check_outcome("lent an answer's call", expected, barkpaddle_bridge_argument(kept, word, NULL, 0, NULL, 0));
+        check_call("lent an answer's call", call_of(BARKPADDLE_SYSV_AMD64, left - 1, 8, 0), *kept);
+        a = barkpaddle_argument_scalar(kept->abi, kept->integer, kept->float_, kept->integers_only, BARKPADDLE_INTEGER, 8, 8, NULL, 0);
+        check_outcome("a lent call's numbers", expected, a.outcome);
+        check_call("a lent call's numbers", call_of(BARKPADDLE_SYSV_AMD64, left - 2, 8, 0), a.next);
+    }
+}
+
+/*
+ * A mark of 2 is a yes, and comes back as 2. It is a yes where a Double goes in an integer register, and where a call is refused since its
+ * description has no mark.
+ */
+static void mark_of_two(void)
+{
+    static const uint64_t given[] = {0, 1, 0, 0}, slot[] = {0, 0, 8};
+    const barkpaddle_call marked = call_of(BARKPADDLE_WINDOWS_ARM64, 8, 8, 2), next = call_of(BARKPADDLE_WINDOWS_ARM64, 7, 8, 2);
+    const barkpaddle_call bad = call_of(BARKPADDLE_SYSV_AMD64, 6, 8, 2);
+    const barkpaddle_outcome in_an_integer = outcome_of(BARKPADDLE_ACCEPTED, BARKPADDLE_PIECES, given, 1);
+    const barkpaddle_outcome bad_size = outcome_of(BARKPADDLE_BAD_SIZE, 0, no_spending, 0);
+    const barkpaddle_outcome bad_call = outcome_of(BARKPADDLE_BAD_CALL, 0, no_spending, 0);
+    barkpaddle_what what = what_of(scalar(BARKPADDLE_DOUBLE, 8, 8)), wide = what_of(scalar(BARKPADDLE_DOUBLE, 65, 8));
+    barkpaddle_call kept;
+    barkpaddle_answer a;
+
+    fill();
+    a = barkpaddle_argument_scalar(BARKPADDLE_WINDOWS_ARM64, 8, 8, 2, BARKPADDLE_DOUBLE, 8, 8, lent, ROOM);
+    check_outcome("a mark of 2", in_an_integer, a.outcome);
+    check_call("a mark of 2", next, a.next);
+    check_lent("a mark of 2", slot, COUNT(slot));
+    a = barkpaddle_argument_scalar(BARKPADDLE_WINDOWS_ARM64, 8, 8, 2, BARKPADDLE_DOUBLE, 65, 8, NULL, 0);
+    check_outcome("a mark of 2, a refused value", bad_size, a.outcome);
+    check_call("a mark of 2, a refused value", marked, a.next);
+    a = barkpaddle_argument_scalar(BARKPADDLE_SYSV_AMD64, 6, 8, 2, BARKPADDLE_DOUBLE, 8, 8, NULL, 0);
+    check_outcome("a mark of 2, a refused call", bad_call, a.outcome);
+    check_call("a mark of 2, a refused call", bad, a.next);
+
+    fill();
+    kept = marked;
+    check_outcome("a lent mark of 2", in_an_integer, barkpaddle_bridge_argument(&kept, what, NULL, 0, lent, ROOM));
+    check_call("a lent mark of 2", next, kept);
+    check_lent("a lent mark of 2", slot, COUNT(slot));
+    kept = marked;
+    check_outcome("a lent mark of 2, a refused value", bad_size, barkpaddle_bridge_argument(&kept, wide, NULL, 0, NULL, 0));
+    check_call("a lent mark of 2, a refused value", marked, kept);
+    kept = bad;
+    check_outcome("a lent mark of 2, a refused call", bad_call, barkpaddle_bridge_argument(&kept, what, NULL, 0, NULL, 0));
+    check_call("a lent mark of 2, a refused call", bad, kept);
 }
 
 /* ---- a random history ---- */
@@ -765,7 +818,7 @@ static value random_value(void)
 }
 
 /* A call that can't be: another description, more registers than it has, or a mark that isn't its own. */
-static call spoilt(call c)
+static barkpaddle_call spoilt(barkpaddle_call c)
 {
     switch (below(4)) {
     case 0:
@@ -778,7 +831,7 @@ static call spoilt(call c)
         c.float_ = UINT64_MAX - below(3);
         break;
     default:
-        c.integers_only = 1;
+        c.integers_only = UINT64_C(1) << below(64);
     }
     return c;
 }
@@ -789,49 +842,54 @@ static call spoilt(call c)
  */
 static void history(void)
 {
-    static unsigned long of_refusal[8], of_way[5], of_row[30], of_operation[4], marked;
-    barkpaddle_call kept = lendable(call_of(0, 6, 8, 0));
+    static unsigned long of_refusal[8], of_way[5], of_row[30], of_operation[4], marked, oddly_marked;
+    barkpaddle_call kept = call_of(0, 6, 8, 0);
     uint64_t n;
     uint64_t i;
 
     for (n = 0; n < OPERATIONS; n++) {
         uint64_t row = n / CALL_LASTS % BARKPADDLE_DESCRIPTIONS;
         uint64_t which = below(10);
+        uint64_t refusal;
+        uint64_t way;
         barkpaddle_call aside;
         barkpaddle_answer a;
 
         if (n % CALL_LASTS == 0) {
-            a = barkpaddle_fresh(row);
-            kept = lendable(call_of(a.abi, a.integer, a.float_, a.integers_only));
+            kept = barkpaddle_fresh(row).next;
             if (below(3) == 0)
-                mark_both_ways("history, marked", by_numbers(&kept), &kept);
+                mark_both_ways("history, marked", &kept);
+            kept.integers_only <<= below(64); /* another yes, where it is marked */
         }
         aside = kept;
         if (below(24) == 0)
-            kept = lendable(spoilt(by_numbers(&kept)));
+            kept = spoilt(kept);
         if (which == 0) {
-            a = mark_both_ways("history, the mark", by_numbers(&kept), &kept);
+            a = mark_both_ways("history, the mark", &kept);
             of_operation[3]++;
         } else {
             enum operation operation = which == 1 ? RETURN : which < 7 ? ARGUMENT : AFTER_DOTS;
             uint64_t length = below(4) == 0 ? below(3 * BARKPADDLE_SLOT_WORDS) : BARKPADDLE_MOST_SLOT_WORDS;
 
             fill();
-            a = both_ways("history", operation, by_numbers(&kept), &kept, random_value(), length == 0 ? NULL : lent, length);
+            a = both_ways("history", operation, &kept, random_value(), length == 0 ? NULL : lent, length);
             of_operation[operation]++;
-            for (i = a.slots * BARKPADDLE_SLOT_WORDS; i < ROOM; i++)
+            for (i = a.outcome.slots * BARKPADDLE_SLOT_WORDS; i < ROOM; i++)
                 if (lent_again[i] != untouched(i))
                     check_number("history", "a word behind the slots", untouched(i), lent_again[i]);
         }
-        check_number("history", "a refusal or a way past the last", 1, a.refusal < COUNT(of_refusal) && a.way < COUNT(of_way));
-        if (a.refusal >= COUNT(of_refusal) || a.way >= COUNT(of_way))
+        refusal = a.outcome.refusal;
+        way = a.outcome.way;
+        check_number("history", "a refusal or a way past the last", 1, refusal < COUNT(of_refusal) && way < COUNT(of_way));
+        if (refusal >= COUNT(of_refusal) || way >= COUNT(of_way))
             continue;
-        of_refusal[a.refusal]++;
+        of_refusal[refusal]++;
         of_row[row]++;
-        marked += kept.integers_only;
-        if (a.refusal == BARKPADDLE_ACCEPTED && which != 0)
-            of_way[a.way]++;
-        else if (a.refusal == BARKPADDLE_BAD_ABI || a.refusal == BARKPADDLE_BAD_CALL)
+        marked += kept.integers_only != 0;
+        oddly_marked += kept.integers_only > 1;
+        if (refusal == BARKPADDLE_ACCEPTED && which != 0)
+            of_way[way]++;
+        else if (refusal == BARKPADDLE_BAD_ABI || refusal == BARKPADDLE_BAD_CALL)
             kept = aside;
     }
 
@@ -845,6 +903,7 @@ static void history(void)
     for (i = 0; i < COUNT(of_operation); i++)
         check_number("history", "an operation that was seen often", 1, of_operation[i] >= 5000);
     check_number("history", "marked calls that were seen often", 1, marked >= 500);
+    check_number("history", "marks other than 1 that were seen often", 1, oddly_marked >= 300);
     printf("history: %d operations, by value and lent, of which %lu refused\n", OPERATIONS, OPERATIONS - of_refusal[0]);
 }
 
@@ -1173,6 +1232,8 @@ int main(void)
     forms_of(ARGUMENT);
     forms_of(AFTER_DOTS);
     lent_calls();
+    one_call_in_both_forms();
+    mark_of_two();
     history();
     in_memory();
     records();

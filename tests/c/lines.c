@@ -158,7 +158,7 @@ static int read_record(uint64_t record[6])
 }
 
 /* The operation of a record on the call that the last answer left. */
-static barkpaddle_answer perform(const uint64_t r[6], barkpaddle_answer c, uint64_t *slots, uint64_t length)
+static barkpaddle_answer perform(const uint64_t r[6], barkpaddle_call c, uint64_t *slots, uint64_t length)
 {
     uint64_t complex_ = r[4] % 2;
     uint64_t floating = r[4] / 2;
@@ -196,7 +196,7 @@ static int print_sheet(void)
     static const char *const ways[] = {"ignore", "direct", "pieces", "reference", "memory"};
     uint64_t slots[BARKPADDLE_MOST_SLOT_WORDS];
     uint64_t r[6];
-    barkpaddle_answer call = {0, 0, 0, 0, 0, 0, 0, 0, 0, 0, 0};
+    barkpaddle_answer a = {{0, 0, 0, 0}, {0, 0, 0, 0, 0, 0, 0}};
     uint64_t i;
 
     while (read_record(r)) {
@@ -213,19 +213,19 @@ static int print_sheet(void)
                 memcpy(words + 4 * i, piece + 1, 4 * sizeof(uint64_t));
             }
         if (r[0] == FRESH)
-            call = barkpaddle_fresh(r[1]), word = "fresh";
+            a = barkpaddle_fresh(r[1]), word = "fresh";
         else if (r[0] == MARK)
-            call = barkpaddle_variadic(call.abi, call.integer, call.float_, call.integers_only), word = "marked";
+            a = barkpaddle_variadic(a.next.abi, a.next.integer, a.next.float_, a.next.integers_only), word = "marked";
         else
-            call = perform(r, call, slots, COUNT(slots)), word = call.way < COUNT(ways) ? ways[call.way] : "unknown";
-        if (call.refusal != BARKPADDLE_ACCEPTED)
+            a = perform(r, a.next, slots, COUNT(slots)), word = a.outcome.way < COUNT(ways) ? ways[a.outcome.way] : "unknown";
+        if (a.outcome.refusal != BARKPADDLE_ACCEPTED)
             word = "refused";
-        printf("%s %llu %llu", word, (shown)call.integer, (shown)call.float_);
-        printf(" %llu %llu", (shown)call.integers_passed, (shown)call.integers_given);
-        printf(" %llu %llu", (shown)call.floats_passed, (shown)call.floats_given);
-        if (call.refusal != BARKPADDLE_ACCEPTED)
-            printf(" %llu", (shown)call.refusal);
-        for (i = 0; i < call.slots; i++) {
+        printf("%s %llu %llu", word, (shown)a.next.integer, (shown)a.next.float_);
+        printf(" %llu %llu", (shown)a.outcome.integers_passed, (shown)a.outcome.integers_given);
+        printf(" %llu %llu", (shown)a.outcome.floats_passed, (shown)a.outcome.floats_given);
+        if (a.outcome.refusal != BARKPADDLE_ACCEPTED)
+            printf(" %llu", (shown)a.outcome.refusal);
+        for (i = 0; i < a.outcome.slots; i++) {
             const uint64_t *slot = slots + BARKPADDLE_SLOT_WORDS * i;
 
             printf(" %llu:", (shown)slot[BARKPADDLE_SLOT_KIND]);

@@ -19,7 +19,7 @@ use Rattle.slots.specs.Cut.{upTo, partOf, cut}
 use Rattle.slots.proofs.Cut.{length-cut}
 use Rattle.abis.specs.Abis.{described, descriptions}
 use Rattle.classify.specs.Pass.{reference}
-use Rattle.classify.specs.Classify.{passed, leaves, call, argument, returns}
+use Rattle.classify.specs.Classify.{passed, counts, leaves, call, argument, returns}
 use Rattle.aapcs64.specs.Aapcs64.{Composite, addressable, count, doublewords, memberParts, wordParts, x, registers, stack, copy, copyOnStack, state, passing, parameter, stageC, stageA, isHfa, result}
 use Rattle.aapcs64.specs.Told.{composite, mostAlign, mostNatural, stateOf, partsOf, told, toldPassed, toldResult, toldReturned}
 use Rattle.aapcs64.specs.Domain.{Domain, every}
@@ -109,23 +109,23 @@ used left n h l = omega arith
 module _ (I F : ℕ) (hI : I ≤ 8) (hF : F ≤ 8) where
   module _ (i f : ℕ) (ss : List Slot) (ei : length ss - floatsIn ss ≡ i) (ef : floatsIn ss ≡ f) where
     told-fits : i ≤ I → f ≤ F
-        → toldPassed (leaves I F false) (spent I F ss) ≡ some (passing (registers (partsOf (8 - I) (8 - F) ss)) (state (8 - I + i) (8 - F + f)))
+        → toldPassed (counts I F) (spent I F ss) ≡ some (passing (registers (partsOf (8 - I) (8 - F) ss)) (state (8 - I + i) (8 - F + f)))
     unfolding told
     told-fits li lf = rw (ei, ef, le-leb i I li, le-leb f F lf, used I i hI li, used F f hF lf)
 
-    told-no-floats : i ≤ I → F < f → toldPassed (leaves I F false) (spent I F ss) ≡ some (passing stack (state (8 - I) 8))
+    told-no-floats : i ≤ I → F < f → toldPassed (counts I F) (spent I F ss) ≡ some (passing stack (state (8 - I) 8))
     unfolding told
     told-no-floats li lf = rw (ei, ef, le-leb i I li, lt-leb f F lf, le-ltb I i li, lt-ltb F f lf)
 
-    told-no-integers : I < i → f ≤ F → toldPassed (leaves I F false) (spent I F ss) ≡ some (passing stack (state 8 (8 - F)))
+    told-no-integers : I < i → f ≤ F → toldPassed (counts I F) (spent I F ss) ≡ some (passing stack (state 8 (8 - F)))
     unfolding told
     told-no-integers li lf = rw (ei, ef, lt-leb i I li, lt-ltb I i li, le-ltb F f lf)
 
-  told-copy : 0 < I → toldPassed (leaves I F false) (passed reference (leaves (I - 1) F false)) ≡ some (passing (copy (x (8 - I))) (state (8 - I + 1) (8 - F)))
+  told-copy : 0 < I → toldPassed (counts I F) (passed reference (counts (I - 1) F)) ≡ some (passing (copy (x (8 - I))) (state (8 - I + 1) (8 - F)))
   unfolding told
   told-copy l = rw (lt-ltb (I - 1) I (omega arith), used I 1 hI l)
 
-  told-copy-short : I ≤ 0 → toldPassed (leaves I F false) (passed reference (leaves (I - 1) F false)) ≡ some (passing copyOnStack (state 8 (8 - F)))
+  told-copy-short : I ≤ 0 → toldPassed (counts I F) (passed reference (counts (I - 1) F)) ≡ some (passing copyOnStack (state 8 (8 - F)))
   unfolding told
   told-copy-short l =
       let a : 8 - (I - 1) ≡ 8 = omega arith in
@@ -140,7 +140,7 @@ module _ (shape : Shape) (ps : List Piece) (d : Enough shape ps) (natural : ℕ)
   module _ (I F : ℕ) (hI : I ≤ 8) (hF : F ≤ 8) where
     abbrev Same : Type 0
     Same =
-        toldPassed (leaves I F false) (argument (described 1) (leaves I F false) (Aggregate shape) ps)
+        toldPassed (counts I F) (argument (described 1) (counts I F) (Aggregate shape) ps)
         ≡ some (parameter (state (8 - I) (8 - F)) c)
 
     in-vectors : Vectors natural shape ps → Same
@@ -149,7 +149,7 @@ module _ (shape : Shape) (ps : List Piece) (d : Enough shape ps) (natural : ℕ)
         i : length (f .slots) - floatsIn (f .slots) ≡ 0
         i = omega (arith, f .floats, f .all)
 
-        go : Dec (count c ≤ F) → toldPassed (leaves I F false) (spent I F (f .slots)) ≡ some (parameter (state (8 - I) (8 - F)) c)
+        go : Dec (count c ≤ F) → toldPassed (counts I F) (spent I F (f .slots)) ≡ some (parameter (state (8 - I) (8 - F)) c)
         go (yes l) =
             let a : 8 - I + 0 ≡ 8 - I = omega arith in
             told-fits I F hI hF 0 (count c) (f .slots) i (f .floats) (omega arith) l
@@ -168,7 +168,7 @@ module _ (shape : Shape) (ps : List Piece) (d : Enough shape ps) (natural : ℕ)
         small = narrow shape ps natural d n
 
         go : Dec (doublewords c ≤ I)
-            → toldPassed (leaves I F false) (spent I F (cut (shape .size) 8)) ≡ some (parameter (state (8 - I) (8 - F)) c)
+            → toldPassed (counts I F) (spent I F (cut (shape .size) 8)) ≡ some (parameter (state (8 - I) (8 - F)) c)
         go (yes l) =
             let a : 8 - F + 0 ≡ 8 - F = omega arith in
             told-fits I F hI hF (doublewords c) 0 (cut (shape .size) 8) i (no-floats (shape .size) h) l (omega arith)
@@ -180,7 +180,7 @@ module _ (shape : Shape) (ps : List Piece) (d : Enough shape ps) (natural : ℕ)
     by-copy : Others natural shape ps → 16 < shape .size → Same
     by-copy o h = rw (argument-large shape ps (d .some) I F (o .finds) h) (go (decLe I 0))
       where
-        go : Dec (I ≤ 0) → toldPassed (leaves I F false) (passed reference (leaves (I - 1) F false)) ≡ some (parameter (state (8 - I) (8 - F)) c)
+        go : Dec (I ≤ 0) → toldPassed (counts I F) (passed reference (counts (I - 1) F)) ≡ some (parameter (state (8 - I) (8 - F)) c)
         go (yes l) = told-copy-short I F hI hF l ∙ rw (by-C17 (8 - I) (8 - F) c (o .test) h (omega arith))
         go (no l) = told-copy I F hI hF (omega arith) ∙ rw (by-C9 (8 - I) (8 - F) c (o .test) h (omega arith))
 
@@ -197,7 +197,7 @@ module _ (shape : Shape) (ps : List Piece) (d : Enough shape ps) (natural : ℕ)
   module _ (I F : ℕ) where
     abbrev SameResult : Type 0
     SameResult =
-        toldReturned (described 1 .«return_pointer») (returns (described 1) (leaves I F false) (Aggregate shape) ps)
+        toldReturned (described 1 .«return_pointer») (returns (described 1) (counts I F) (Aggregate shape) ps)
         ≡ some (result (state (8 - I) (8 - F)) c)
 
     pub returns-agrees : SameResult
@@ -219,12 +219,12 @@ module _ (shape : Shape) (ps : List Piece) (d : Enough shape ps) (natural : ℕ)
 
 module _ (shape : Shape) (ps : List Piece) (natural I F : ℕ) where
   pub argument-is-aapcs64 : Domain shape ps → natural ≤ mostNatural shape ps → I ≤ 8 → F ≤ 8
-      → toldPassed (leaves I F false) (argument (described 1) (leaves I F false) (Aggregate shape) ps)
+      → toldPassed (counts I F) (argument (described 1) (counts I F) (Aggregate shape) ps)
       ≡ some (parameter (state (8 - I) (8 - F)) (composite natural shape ps))
   argument-is-aapcs64 d n hI hF = argument-agrees shape ps (enough shape ps d) natural n I F hI hF
 
   pub returns-is-aapcs64 : Domain shape ps → natural ≤ mostNatural shape ps
-      → toldReturned (described 1 .«return_pointer») (returns (described 1) (leaves I F false) (Aggregate shape) ps)
+      → toldReturned (described 1 .«return_pointer») (returns (described 1) (counts I F) (Aggregate shape) ps)
       ≡ some (result (state (8 - I) (8 - F)) (composite natural shape ps))
   returns-is-aapcs64 d n = returns-agrees shape ps (enough shape ps d) natural n I F
 

@@ -1,18 +1,21 @@
 -- What an answer says in the standard's terms is all that it says: the way, the slots and what is left are read back from it. Assumes nothing.
 use Prim.Native.Nat.{ℕ, _+_, _-_, _≤_}
-use mathlib.Core.Path.{_≡_, refl}
+use mathlib.Core.Path.{_≡_, refl, ap, sym, _∙_}
 use mathlib.Core.List.{List, [], _∷_, map}
-use mathlib.Core.Bool.{Bool, true, false, cond}
-use mathlib.Core.Option.Option.{some}
+use mathlib.Core.Bool.{Bool, true, false, not, cond}
+use mathlib.Core.Option.{Option}
+use mathlib.Core.Option.Option.{none, some}
 use native.Mathlib.Omega.{arith}
+use borrow.Author.Tests.{eqb-true}
 use lib.Dec.{eqb, ltb}
 use Rattle.slots.specs.declared.Slot.{Slot}
 use Rattle.slots.specs.Words.{slot, integerSlot, floatSlot}
 use Rattle.spend.specs.declared.Left.{Left}
-use Rattle.classify.specs.Pass.{Pass, ignore, direct, pieces, reference, memory, slotsOf}
-use Rattle.classify.specs.Classify.{Passed, passed, leaves}
+use Rattle.spend.specs.Ways.{no-mark}
+use Rattle.classify.specs.Pass.{Pass, ignore, direct, pieces, reference, memory, wayOf, slotsOf}
+use Rattle.classify.specs.Classify.{Passed, passed, counts, leaves}
 use Rattle.aapcs64.specs.Aapcs64.{Register, v, x, Part, Place, registers, stack, copy, copyOnStack, State, Passing, passing}
-use Rattle.aapcs64.specs.Told.{stateOf, partsOf, copyOf, told, toldPassed}
+use Rattle.aapcs64.specs.Told.{stateOf, partsOf, copyOf, placeOf, passingOf, told, toldPassed}
 
 -- ---- reading back
 
@@ -33,7 +36,7 @@ passFor (copy r) = reference
 passFor copyOnStack = reference
 
 abbrev pub leftFor : State → Left
-leftFor s = leaves (8 - s .NGRN) (8 - s .NSRN) false
+leftFor s = counts (8 - s .NGRN) (8 - s .NSRN)
 
 abbrev pub passedFor : Passing → Passed
 passedFor p = passed (passFor (p .place)) (leftFor (p .next))
@@ -68,35 +71,46 @@ parts-back (then {k} {o} {n} {ss} h rest) N S = slot-back k o n ss h (λ n s. pa
 
 -- ---- answers
 
-left-back : (i f : ℕ) → i ≤ 8 → f ≤ 8 → leftFor (stateOf (leaves i f false)) ≡ leaves i f false
+left-back : (i f : ℕ) → i ≤ 8 → f ≤ 8 → leftFor (stateOf (counts i f)) ≡ counts i f
 left-back i f hi hf =
     let a : 8 - (8 - i) ≡ i = omega arith in
     let b : 8 - (8 - f) ≡ f = omega arith in
     rw (a, b)
 
 module _ (before : Left) (i f : ℕ) (hi : i ≤ 8) (hf : f ≤ 8) (q : Passing) where
-  back : (pass : Pass) (marked : Bool) → AllKept (slotsOf pass) → toldPassed before (passed pass (leaves i f marked)) ≡ some q
-      → passedFor q ≡ passed pass (leaves i f marked)
+  back : (pass : Pass) → AllKept (slotsOf pass) → toldPassed before (passed pass (counts i f)) ≡ some q → passedFor q ≡ passed pass (counts i f)
   unfolding told
-  back ignore marked h e = absurd (let z : _≡_ {A = ℕ} 0 1 = cc in omega arith)
-  back direct marked h e = absurd (let z : _≡_ {A = ℕ} 0 1 = cc in omega arith)
-  back (pieces ss) true h e = absurd (let z : _≡_ {A = ℕ} 0 1 = cc in omega arith)
-  back reference true h e = absurd (let z : _≡_ {A = ℕ} 0 1 = cc in omega arith)
-  back memory true h e = absurd (let z : _≡_ {A = ℕ} 0 1 = cc in omega arith)
-  back (pieces ss) false h e =
-      let z : q ≡ passing (registers (partsOf (8 - before .integer) (8 - before .float) ss)) (stateOf (leaves i f false)) = cc in
+  back ignore h e = absurd (let z : _≡_ {A = ℕ} 0 1 = cc in omega arith)
+  back direct h e = absurd (let z : _≡_ {A = ℕ} 0 1 = cc in omega arith)
+  back (pieces ss) h e =
+      let z : q ≡ passing (registers (partsOf (8 - before .integer) (8 - before .float) ss)) (stateOf (counts i f)) = cc in
       rw (z, parts-back h (8 - before .integer) (8 - before .float), left-back i f hi hf)
-  back reference false h e =
-      let z : q ≡ passing (copyOf before (leaves i f false)) (stateOf (leaves i f false)) = cc in
+  back reference h e =
+      let z : q ≡ passing (copyOf before (counts i f)) (stateOf (counts i f)) = cc in
       rw (z, left-back i f hi hf) (go (ltb i (before .integer)))
     where
-      go : (b : Bool) → passed (passFor (cond b (copy (x (8 - before .integer))) copyOnStack)) (leaves i f false) ≡ passed reference (leaves i f false)
+      go : (b : Bool) → passed (passFor (cond b (copy (x (8 - before .integer))) copyOnStack)) (counts i f) ≡ passed reference (counts i f)
       go true = refl
       go false = refl
-  back memory false h e =
-      let z : q ≡ passing stack (stateOf (leaves i f false)) = cc in
+  back memory h e =
+      let z : q ≡ passing stack (stateOf (counts i f)) = cc in
       rw (z, left-back i f hi hf)
+
+  -- what is told has no mark
+  none-marked : (place : Option Place) (after : Left) → passingOf place after ≡ some q → after .«integers_only» ≡ no-mark
+  none-marked none after e = absurd (let z : _≡_ {A = ℕ} 0 1 = cc in omega arith)
+  none-marked (some place) after e = go (eqb (after .«integers_only») no-mark) refl e
+    where
+      go : (b : Bool) → eqb (after .«integers_only») no-mark ≡ b → cond (not b) none (some (passing place (stateOf after))) ≡ some q → after .«integers_only» ≡ no-mark
+      go true t y = eqb-true _ _ t
+      go false t y = absurd (let z : _≡_ {A = ℕ} 0 1 = cc in omega arith)
+
+  told-unmarked : (p : Passed) → toldPassed before p ≡ some q → p .left .«integers_only» ≡ no-mark
+  unfolding told
+  told-unmarked p e = none-marked (placeOf (wayOf (p .pass)) before (slotsOf (p .pass)) (p .left)) (p .left) e
 
 pub told-back : (before : Left) (p : Passed) → AllKept (slotsOf (p .pass)) → p .left .integer ≤ 8 → p .left .float ≤ 8 → (q : Passing)
     → toldPassed before p ≡ some q → passedFor q ≡ p
-told-back before p h hi hf q e = back before (p .left .integer) (p .left .float) hi hf q (p .pass) (p .left .«integers_only») h e
+told-back before p h hi hf q e =
+    let m : p .left ≡ counts (p .left .integer) (p .left .float) = λ j. leaves (p .left .integer) (p .left .float) (told-unmarked before (p .left .integer) (p .left .float) hi hf q p e j) in
+    back before (p .left .integer) (p .left .float) hi hf q (p .pass) h (ap (λ (l : Left). toldPassed before (passed (p .pass) l)) (sym m) ∙ e) ∙ ap (passed (p .pass)) (sym m)

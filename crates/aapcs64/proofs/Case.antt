@@ -9,7 +9,7 @@ use Rattle.shape.specs.declared.Arg.the-variants.{Aggregate}
 use Rattle.shape.specs.declared.Piece.{Piece}
 use Rattle.shape.specs.declared.Shape.{Shape}
 use Rattle.abis.specs.Abis.{described}
-use Rattle.classify.specs.Classify.{Passed, leaves, argument, returns}
+use Rattle.classify.specs.Classify.{Passed, counts, argument, returns}
 use Rattle.aapcs64.specs.Aapcs64.{state, Passing, parameter, Returning, result}
 use Rattle.aapcs64.specs.Told.{composite, mostNatural, toldPassed, toldReturned}
 
@@ -29,10 +29,10 @@ on shape ps natural I F = record { shape = shape; pieces = ps; natural = natural
 
 module _ (k : Case) where
   abbrev pub rowArgument : Passed
-  rowArgument = argument (described 1) (leaves (k .integers) (k .floats) false) (Aggregate (k .shape)) (k .pieces)
+  rowArgument = argument (described 1) (counts (k .integers) (k .floats)) (Aggregate (k .shape)) (k .pieces)
 
   abbrev pub rowResult : Passed
-  rowResult = returns (described 1) (leaves (k .integers) (k .floats) false) (Aggregate (k .shape)) (k .pieces)
+  rowResult = returns (described 1) (counts (k .integers) (k .floats)) (Aggregate (k .shape)) (k .pieces)
 
   abbrev pub standardArgument : Passing
   standardArgument = parameter (state (8 - k .integers) (8 - k .floats)) (composite (k .natural) (k .shape) (k .pieces))
@@ -42,7 +42,7 @@ module _ (k : Case) where
 
   -- what `argument-is-aapcs64` and `returns-is-aapcs64` say of it, and what they ask beside the domain
   abbrev pub Same : Type 0
-  Same = toldPassed (leaves (k .integers) (k .floats) false) rowArgument ≡ some standardArgument
+  Same = toldPassed (counts (k .integers) (k .floats)) rowArgument ≡ some standardArgument
 
   abbrev pub SameResult : Type 0
   SameResult = toldReturned (described 1 .«return_pointer») rowResult ≡ some standardResult

@@ -17,7 +17,7 @@ use Rattle.spend.specs.declared.Left.{Left}
 use Rattle.spend.specs.Spending.{wantOf}
 use Rattle.search.specs.Matches.{matches}
 use Rattle.classify.specs.Pass.{direct, pieces, reference, memory}
-use Rattle.classify.specs.Classify.{Passed, passed, leaves, shortOf, inRegisters, travel, apply, afterScalar, argument, returns}
+use Rattle.classify.specs.Classify.{Passed, passed, counts, shortOf, inRegisters, travel, apply, afterScalar, argument, returns}
 use Rattle.classify.specs.Classify as classify
 use Rattle.aapcs64.specs.Aapcs64.{Fundamental, integral, floating, fundamental, v, x, part, registers, stack, copy, copyOnStack, state, Passing, passing, allOf, insert, addressable, count, isHfaOf, isHfa, memberParts, wordParts, stageC, parameter, comes, throughX8, Returning, returning, result}
 use Rattle.aapcs64.specs.Aapcs64 as precision
@@ -85,17 +85,17 @@ abbrev pub large-without-x : Case
 large-without-x = on (shaped 24 8) (piece integer 8 8 0 ∷ piece integer 8 8 8 ∷ piece integer 8 8 16 ∷ []) 8 0 8
 
 pub record Examples : Type 0 where
-  pub one-double-is : Example one-double (passed (pieces (floatSlot double 0 ∷ [])) (leaves 8 7 false)) (passing (registers (part (v 0) 0 8 ∷ [])) (state 0 1)) (passed (pieces (floatSlot double 0 ∷ [])) (leaves 8 8 false)) (returning (comes (part (v 0) 0 8 ∷ [])) (state 0 0))
-  pub three-singles-is : Example three-singles (passed (pieces (floatSlot single 0 ∷ floatSlot single 4 ∷ floatSlot single 8 ∷ [])) (leaves 8 3 false)) (passing (registers (part (v 2) 0 4 ∷ part (v 3) 4 4 ∷ part (v 4) 8 4 ∷ [])) (state 0 5)) (passed (pieces (floatSlot single 0 ∷ floatSlot single 4 ∷ floatSlot single 8 ∷ [])) (leaves 8 6 false)) (returning (comes (part (v 0) 0 4 ∷ part (v 1) 4 4 ∷ part (v 2) 8 4 ∷ [])) (state 0 2))
-  pub four-doubles-is : Example four-doubles (passed (pieces (floatSlot double 0 ∷ floatSlot double 8 ∷ floatSlot double 16 ∷ floatSlot double 24 ∷ [])) (leaves 8 4 false)) (passing (registers (part (v 0) 0 8 ∷ part (v 1) 8 8 ∷ part (v 2) 16 8 ∷ part (v 3) 24 8 ∷ [])) (state 0 4)) (passed (pieces (floatSlot double 0 ∷ floatSlot double 8 ∷ floatSlot double 16 ∷ floatSlot double 24 ∷ [])) (leaves 8 8 false)) (returning (comes (part (v 0) 0 8 ∷ part (v 1) 8 8 ∷ part (v 2) 16 8 ∷ part (v 3) 24 8 ∷ [])) (state 0 0))
-  pub short-of-v-is : Example short-of-v (passed memory (leaves 8 0 false)) (passing stack (state 0 8)) (passed (pieces (floatSlot double 0 ∷ floatSlot double 8 ∷ floatSlot double 16 ∷ [])) (leaves 8 2 false)) (returning (comes (part (v 0) 0 8 ∷ part (v 1) 8 8 ∷ part (v 2) 16 8 ∷ [])) (state 0 6))
-  pub five-singles-is : Example five-singles (passed reference (leaves 7 8 false)) (passing (copy (x 0)) (state 1 0)) (passed reference (leaves 8 8 false)) (returning throughX8 (state 0 0))
-  pub eight-bytes-is : Example eight-bytes (passed (pieces (integerSlot 0 8 ∷ [])) (leaves 7 8 false)) (passing (registers (part (x 0) 0 8 ∷ [])) (state 1 0)) (passed (pieces (integerSlot 0 8 ∷ [])) (leaves 8 8 false)) (returning (comes (part (x 0) 0 8 ∷ [])) (state 0 0))
-  pub sixteen-bytes-is : Example sixteen-bytes (passed (pieces (integerSlot 0 8 ∷ integerSlot 8 8 ∷ [])) (leaves 5 8 false)) (passing (registers (part (x 1) 0 8 ∷ part (x 2) 8 8 ∷ [])) (state 3 0)) (passed (pieces (integerSlot 0 8 ∷ integerSlot 8 8 ∷ [])) (leaves 7 8 false)) (returning (comes (part (x 0) 0 8 ∷ part (x 1) 8 8 ∷ [])) (state 1 0))
-  pub mixed-is : Example mixed (passed (pieces (integerSlot 0 8 ∷ integerSlot 8 4 ∷ [])) (leaves 6 8 false)) (passing (registers (part (x 0) 0 8 ∷ part (x 1) 8 4 ∷ [])) (state 2 0)) (passed (pieces (integerSlot 0 8 ∷ integerSlot 8 4 ∷ [])) (leaves 8 8 false)) (returning (comes (part (x 0) 0 8 ∷ part (x 1) 8 4 ∷ [])) (state 0 0))
-  pub short-of-x-is : Example short-of-x (passed memory (leaves 0 8 false)) (passing stack (state 8 0)) (passed (pieces (integerSlot 0 8 ∷ integerSlot 8 8 ∷ [])) (leaves 1 8 false)) (returning (comes (part (x 0) 0 8 ∷ part (x 1) 8 8 ∷ [])) (state 7 0))
-  pub large-is : Example large (passed reference (leaves 2 8 false)) (passing (copy (x 5)) (state 6 0)) (passed reference (leaves 3 8 false)) (returning throughX8 (state 5 0))
-  pub large-without-x-is : Example large-without-x (passed reference (leaves 0 8 false)) (passing copyOnStack (state 8 0)) (passed reference (leaves 0 8 false)) (returning throughX8 (state 8 0))
+  pub one-double-is : Example one-double (passed (pieces (floatSlot double 0 ∷ [])) (counts 8 7)) (passing (registers (part (v 0) 0 8 ∷ [])) (state 0 1)) (passed (pieces (floatSlot double 0 ∷ [])) (counts 8 8)) (returning (comes (part (v 0) 0 8 ∷ [])) (state 0 0))
+  pub three-singles-is : Example three-singles (passed (pieces (floatSlot single 0 ∷ floatSlot single 4 ∷ floatSlot single 8 ∷ [])) (counts 8 3)) (passing (registers (part (v 2) 0 4 ∷ part (v 3) 4 4 ∷ part (v 4) 8 4 ∷ [])) (state 0 5)) (passed (pieces (floatSlot single 0 ∷ floatSlot single 4 ∷ floatSlot single 8 ∷ [])) (counts 8 6)) (returning (comes (part (v 0) 0 4 ∷ part (v 1) 4 4 ∷ part (v 2) 8 4 ∷ [])) (state 0 2))
+  pub four-doubles-is : Example four-doubles (passed (pieces (floatSlot double 0 ∷ floatSlot double 8 ∷ floatSlot double 16 ∷ floatSlot double 24 ∷ [])) (counts 8 4)) (passing (registers (part (v 0) 0 8 ∷ part (v 1) 8 8 ∷ part (v 2) 16 8 ∷ part (v 3) 24 8 ∷ [])) (state 0 4)) (passed (pieces (floatSlot double 0 ∷ floatSlot double 8 ∷ floatSlot double 16 ∷ floatSlot double 24 ∷ [])) (counts 8 8)) (returning (comes (part (v 0) 0 8 ∷ part (v 1) 8 8 ∷ part (v 2) 16 8 ∷ part (v 3) 24 8 ∷ [])) (state 0 0))
+  pub short-of-v-is : Example short-of-v (passed memory (counts 8 0)) (passing stack (state 0 8)) (passed (pieces (floatSlot double 0 ∷ floatSlot double 8 ∷ floatSlot double 16 ∷ [])) (counts 8 2)) (returning (comes (part (v 0) 0 8 ∷ part (v 1) 8 8 ∷ part (v 2) 16 8 ∷ [])) (state 0 6))
+  pub five-singles-is : Example five-singles (passed reference (counts 7 8)) (passing (copy (x 0)) (state 1 0)) (passed reference (counts 8 8)) (returning throughX8 (state 0 0))
+  pub eight-bytes-is : Example eight-bytes (passed (pieces (integerSlot 0 8 ∷ [])) (counts 7 8)) (passing (registers (part (x 0) 0 8 ∷ [])) (state 1 0)) (passed (pieces (integerSlot 0 8 ∷ [])) (counts 8 8)) (returning (comes (part (x 0) 0 8 ∷ [])) (state 0 0))
+  pub sixteen-bytes-is : Example sixteen-bytes (passed (pieces (integerSlot 0 8 ∷ integerSlot 8 8 ∷ [])) (counts 5 8)) (passing (registers (part (x 1) 0 8 ∷ part (x 2) 8 8 ∷ [])) (state 3 0)) (passed (pieces (integerSlot 0 8 ∷ integerSlot 8 8 ∷ [])) (counts 7 8)) (returning (comes (part (x 0) 0 8 ∷ part (x 1) 8 8 ∷ [])) (state 1 0))
+  pub mixed-is : Example mixed (passed (pieces (integerSlot 0 8 ∷ integerSlot 8 4 ∷ [])) (counts 6 8)) (passing (registers (part (x 0) 0 8 ∷ part (x 1) 8 4 ∷ [])) (state 2 0)) (passed (pieces (integerSlot 0 8 ∷ integerSlot 8 4 ∷ [])) (counts 8 8)) (returning (comes (part (x 0) 0 8 ∷ part (x 1) 8 4 ∷ [])) (state 0 0))
+  pub short-of-x-is : Example short-of-x (passed memory (counts 0 8)) (passing stack (state 8 0)) (passed (pieces (integerSlot 0 8 ∷ integerSlot 8 8 ∷ [])) (counts 1 8)) (returning (comes (part (x 0) 0 8 ∷ part (x 1) 8 8 ∷ [])) (state 7 0))
+  pub large-is : Example large (passed reference (counts 2 8)) (passing (copy (x 5)) (state 6 0)) (passed reference (counts 3 8)) (returning throughX8 (state 5 0))
+  pub large-without-x-is : Example large-without-x (passed reference (counts 0 8)) (passing copyOnStack (state 8 0)) (passed reference (counts 0 8)) (returning throughX8 (state 8 0))
 
 pub examples : Examples
 unfolding every any inOrder apart furthest below mostAlign argument returns described descriptions apply matches foundIf travel inRegisters shortOf homogeneous isHomogeneous allSame floatsAt cut upTo floatsIn parameter stageC isHfa isHfaOf allOf count addressable insert memberParts wordParts result told toldResult partsOf
@@ -117,20 +117,20 @@ examples =
 -- ---- fundamental types
 
 pub record ScalarExample (s : Scalar) (type : Fundamental) (I F : ℕ) (left : Left) (standard : Passing) : Type 0 where
-  pub row-is : argument (described 1) (leaves I F false) (args.Scalar s) [] ≡ passed direct left
+  pub row-is : argument (described 1) (counts I F) (args.Scalar s) [] ≡ passed direct left
   pub standard-is : stageC (state (8 - I) (8 - F)) (fundamental type) ≡ standard
   pub same : stateOf left ≡ standard .next
 
 pub record ScalarExamples : Type 0 where
   -- an integer of 16 bytes starts at an even register, by C.10 and C.11; by C.13 it takes the last register away
-  pub even : ScalarExample (scalar integer 16 16) (integral 16) 7 8 (leaves 4 8 false) (passing (registers (part (x 2) 0 8 ∷ part (x 3) 8 8 ∷ [])) (state 4 0))
-  pub last : ScalarExample (scalar integer 16 16) (integral 16) 1 8 (leaves 0 8 false) (passing stack (state 8 0))
+  pub even : ScalarExample (scalar integer 16 16) (integral 16) 7 8 (counts 4 8) (passing (registers (part (x 2) 0 8 ∷ part (x 3) 8 8 ∷ [])) (state 4 0))
+  pub last : ScalarExample (scalar integer 16 16) (integral 16) 1 8 (counts 0 8) (passing stack (state 8 0))
   -- C.9 and C.17
-  pub eight : ScalarExample (scalar integer 8 8) (integral 8) 1 8 (leaves 0 8 false) (passing (registers (part (x 7) 0 8 ∷ [])) (state 8 0))
-  pub ninth : ScalarExample (scalar integer 8 8) (integral 8) 0 8 (leaves 0 8 false) (passing stack (state 8 0))
+  pub eight : ScalarExample (scalar integer 8 8) (integral 8) 1 8 (counts 0 8) (passing (registers (part (x 7) 0 8 ∷ [])) (state 8 0))
+  pub ninth : ScalarExample (scalar integer 8 8) (integral 8) 0 8 (counts 0 8) (passing stack (state 8 0))
   -- C.1 and C.6
-  pub float : ScalarExample (scalar double 8 8) (floating precision.double) 8 1 (leaves 8 0 false) (passing (registers (part (v 7) 0 8 ∷ [])) (state 0 8))
-  pub ninth-float : ScalarExample (scalar double 8 8) (floating precision.double) 8 0 (leaves 8 0 false) (passing stack (state 0 8))
+  pub float : ScalarExample (scalar double 8 8) (floating precision.double) 8 1 (counts 8 0) (passing (registers (part (v 7) 0 8 ∷ [])) (state 0 8))
+  pub ninth-float : ScalarExample (scalar double 8 8) (floating precision.double) 8 0 (counts 8 0) (passing stack (state 0 8))
 
 pub scalar-examples : ScalarExamples
 unfolding argument classify.scalar afterScalar wantOf described descriptions stageC

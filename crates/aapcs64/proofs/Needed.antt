@@ -21,7 +21,7 @@ use Rattle.find.proofs.Each.{and-true}
 use Rattle.abis.specs.Abis.{described, descriptions}
 use Rattle.search.specs.Matches.{matches}
 use Rattle.classify.specs.Pass.{ignore, pieces}
-use Rattle.classify.specs.Classify.{Passed, passed, leaves, shortOf, inRegisters, travel, apply, argument}
+use Rattle.classify.specs.Classify.{Passed, passed, counts, leaves, shortOf, inRegisters, travel, apply, argument}
 use Rattle.aapcs64.specs.Aapcs64.{Register, v, x, part, Place, registers, stack, copy, copyOnStack, state, Passing, passing, allOf, insert, addressable, count, isHfaOf, isHfa, memberParts, wordParts, stageC, parameter}
 use Rattle.aapcs64.specs.Told.{mostAlign, partsOf, told, toldPassed}
 use Rattle.aapcs64.specs.Domain.{every, any, isUsual, inOrder, apart, furthest, below, covered, Domain}
@@ -99,12 +99,12 @@ pub record Differs (clause : ℕ) (k : Case) (row : Passed) (standard : Passing)
   pub allowed : Allowed k
   pub row-is : rowArgument k ≡ row
   pub standard-is : standardArgument k ≡ standard
-  pub differ : eqb (first (toldPassed (leaves (k .integers) (k .floats) false) row)) (first (some standard)) ≡ false
+  pub differ : eqb (first (toldPassed (counts (k .integers) (k .floats)) row)) (first (some standard)) ≡ false
 
 -- so the theorem would be false without that clause
 pub breaks : {clause : ℕ} {k : Case} {row : Passed} {standard : Passing} → Differs clause k row standard → Same k → ⊥
 breaks {k = k} {row = row} {standard = standard} d e =
-    let s : toldPassed (leaves (k .integers) (k .floats) false) row ≡ some standard = rw (d .row-is, d .standard-is) at e in
+    let s : toldPassed (counts (k .integers) (k .floats)) row ≡ some standard = rw (d .row-is, d .standard-is) at e in
     eqb-false _ _ (d .differ) (ap first s)
 
 -- size 0: the description leaves it out. The standard leaves nothing out: it goes in no register
@@ -140,14 +140,14 @@ abbrev pub union : Case
 union = on (shaped 4 4) (piece single 4 4 0 ∷ piece single 4 4 0 ∷ []) 4 8 8
 
 pub record Needed : Type 0 where
-  pub some : Differs 0 empty (passed ignore (leaves 8 8 false)) (passing (registers []) (state 0 0))
-  pub shape-align : Differs 1 even (passed (pieces (integerSlot 0 8 ∷ integerSlot 8 8 ∷ [])) (leaves 5 8 false)) (passing (registers (part (x 2) 0 8 ∷ part (x 3) 8 8 ∷ [])) (state 4 0))
-  pub aligns : Differs 2 even-piece (passed (pieces (integerSlot 0 8 ∷ integerSlot 8 8 ∷ [])) (leaves 5 8 false)) (passing (registers (part (x 2) 0 8 ∷ part (x 3) 8 8 ∷ [])) (state 4 0))
-  pub float-align : Differs 3 aligned-to-1 (passed (pieces (integerSlot 0 8 ∷ [])) (leaves 7 8 false)) (passing (registers (part (v 0) 0 4 ∷ part (v 1) 4 4 ∷ [])) (state 0 2))
-  pub float-size : Differs 3 short-single (passed (pieces (floatSlot single 0 ∷ [])) (leaves 8 7 false)) (passing (registers (part (x 0) 0 1 ∷ [])) (state 1 0))
-  pub float-format : Differs 3 x87 (passed (pieces (floatSlot x87-extended 0 ∷ [])) (leaves 8 7 false)) (passing (registers (part (x 0) 0 8 ∷ part (x 1) 8 8 ∷ [])) (state 2 0))
-  pub order : Differs 5 backwards (passed (pieces (floatSlot single 4 ∷ floatSlot single 0 ∷ [])) (leaves 8 6 false)) (passing (registers (part (v 0) 0 4 ∷ part (v 1) 4 4 ∷ [])) (state 0 2))
-  pub no-overlap : Differs 6 union (passed (pieces (integerSlot 0 4 ∷ [])) (leaves 7 8 false)) (passing (registers (part (v 0) 0 4 ∷ [])) (state 0 1))
+  pub some : Differs 0 empty (passed ignore (counts 8 8)) (passing (registers []) (state 0 0))
+  pub shape-align : Differs 1 even (passed (pieces (integerSlot 0 8 ∷ integerSlot 8 8 ∷ [])) (counts 5 8)) (passing (registers (part (x 2) 0 8 ∷ part (x 3) 8 8 ∷ [])) (state 4 0))
+  pub aligns : Differs 2 even-piece (passed (pieces (integerSlot 0 8 ∷ integerSlot 8 8 ∷ [])) (counts 5 8)) (passing (registers (part (x 2) 0 8 ∷ part (x 3) 8 8 ∷ [])) (state 4 0))
+  pub float-align : Differs 3 aligned-to-1 (passed (pieces (integerSlot 0 8 ∷ [])) (counts 7 8)) (passing (registers (part (v 0) 0 4 ∷ part (v 1) 4 4 ∷ [])) (state 0 2))
+  pub float-size : Differs 3 short-single (passed (pieces (floatSlot single 0 ∷ [])) (counts 8 7)) (passing (registers (part (x 0) 0 1 ∷ [])) (state 1 0))
+  pub float-format : Differs 3 x87 (passed (pieces (floatSlot x87-extended 0 ∷ [])) (counts 8 7)) (passing (registers (part (x 0) 0 8 ∷ part (x 1) 8 8 ∷ [])) (state 2 0))
+  pub order : Differs 5 backwards (passed (pieces (floatSlot single 4 ∷ floatSlot single 0 ∷ [])) (counts 8 6)) (passing (registers (part (v 0) 0 4 ∷ part (v 1) 4 4 ∷ [])) (state 0 2))
+  pub no-overlap : Differs 6 union (passed (pieces (integerSlot 0 4 ∷ [])) (counts 7 8)) (passing (registers (part (v 0) 0 4 ∷ [])) (state 0 1))
 
 pub needed : Needed
 unfolding every any inOrder apart furthest below mostAlign argument described descriptions apply matches foundIf travel inRegisters shortOf homogeneous isHomogeneous allSame floatsAt cut upTo floatsIn parameter stageC isHfa isHfaOf allOf count addressable insert memberParts wordParts told partsOf
@@ -189,10 +189,10 @@ abbrev pub quads : Case
 quads = on (shaped 16 8) (piece quad 16 8 0 ∷ []) 8 8 8
 
 pub record Unneeded : Type 0 where
-  pub sizes : Alike 4 no-bytes (passed (pieces (integerSlot 0 4 ∷ [])) (leaves 7 8 false)) (passing (registers (part (x 0) 0 4 ∷ [])) (state 1 0))
-  pub no-holes : Alike 7 hole (passed (pieces (integerSlot 0 8 ∷ integerSlot 8 4 ∷ [])) (leaves 6 8 false)) (passing (registers (part (x 0) 0 8 ∷ part (x 1) 8 4 ∷ [])) (state 2 0))
-  pub ends : Alike 8 behind (passed (pieces (integerSlot 0 8 ∷ [])) (leaves 7 8 false)) (passing (registers (part (x 0) 0 8 ∷ [])) (state 1 0))
-  pub format : Alike 3 quads (passed (pieces (floatSlot quad 0 ∷ [])) (leaves 8 7 false)) (passing (registers (part (v 0) 0 16 ∷ [])) (state 0 1))
+  pub sizes : Alike 4 no-bytes (passed (pieces (integerSlot 0 4 ∷ [])) (counts 7 8)) (passing (registers (part (x 0) 0 4 ∷ [])) (state 1 0))
+  pub no-holes : Alike 7 hole (passed (pieces (integerSlot 0 8 ∷ integerSlot 8 4 ∷ [])) (counts 6 8)) (passing (registers (part (x 0) 0 8 ∷ part (x 1) 8 4 ∷ [])) (state 2 0))
+  pub ends : Alike 8 behind (passed (pieces (integerSlot 0 8 ∷ [])) (counts 7 8)) (passing (registers (part (x 0) 0 8 ∷ [])) (state 1 0))
+  pub format : Alike 3 quads (passed (pieces (floatSlot quad 0 ∷ [])) (counts 8 7)) (passing (registers (part (v 0) 0 16 ∷ [])) (state 0 1))
 
 pub unneeded : Unneeded
 unfolding every any inOrder apart furthest below mostAlign argument described descriptions apply matches foundIf travel inRegisters shortOf homogeneous isHomogeneous allSame floatsAt cut upTo floatsIn parameter stageC isHfa isHfaOf allOf count addressable insert memberParts wordParts told partsOf

@@ -19,14 +19,14 @@ use Rattle.find.specs.Find.{foundIf, homogeneous}
 use Rattle.abis.specs.Abis.{described, descriptions}
 use Rattle.search.specs.Matches.{matches}
 use Rattle.classify.specs.Pass.{pieces, reference, memory}
-use Rattle.classify.specs.Classify.{Passed, passed, leaves, drainedTo, shortOf, inRegisters, travel, orElse, apply, argument, returns}
+use Rattle.classify.specs.Classify.{Passed, passed, counts, drainedTo, shortOf, inRegisters, travel, orElse, apply, argument, returns}
 
 -- slots of which some are floats: in registers, or in memory with each short bank drained
 abbrev pub spent : ℕ → ℕ → List Slot → Passed
 spent I F ss =
     cond (leb (length ss - floatsIn ss) I && leb (floatsIn ss) F)
-    (passed (pieces ss) (leaves (I - (length ss - floatsIn ss)) (F - floatsIn ss) false))
-    (passed memory (leaves (drainedTo (length ss - floatsIn ss) I) (drainedTo (floatsIn ss) F) false))
+    (passed (pieces ss) (counts (I - (length ss - floatsIn ss)) (F - floatsIn ss)))
+    (passed memory (counts (drainedTo (length ss - floatsIn ss) I) (drainedTo (floatsIn ss) F)))
 
 settled : (b : Bool) (p q rest : Passed) → orElse (cond b (some p) (some q)) rest ≡ cond b p q
 settled true p q rest = refl
@@ -38,35 +38,35 @@ module _ (shape : Shape) (ps : List Piece) (positive : 0 < shape .size) where
 
   module _ (I F : ℕ) where
     pub argument-found : (ss : List Slot) → homogeneous 4 shape ps ≡ found ss
-        → argument (described 1) (leaves I F false) (Aggregate shape) ps ≡ spent I F ss
+        → argument (described 1) (counts I F) (Aggregate shape) ps ≡ spent I F ss
     unfolding argument described descriptions apply matches foundIf travel inRegisters shortOf
     argument-found ss e = rw (ne-eqb (shape .size) 0 full, e) (settled (leb (length ss - floatsIn ss) I && leb (floatsIn ss) F) _ _ _)
 
     module _ (e : homogeneous 4 shape ps ≡ nothing) where
       pub argument-small : shape .size ≤ 16
-          → argument (described 1) (leaves I F false) (Aggregate shape) ps ≡ spent I F (cut (shape .size) 8)
+          → argument (described 1) (counts I F) (Aggregate shape) ps ≡ spent I F (cut (shape .size) 8)
       unfolding argument described descriptions apply matches foundIf travel inRegisters shortOf
       argument-small h =
           rw (ne-eqb (shape .size) 0 full, e, le-leb (shape .size) 16 h)
           (settled (leb (length (cut (shape .size) 8) - floatsIn (cut (shape .size) 8)) I && leb (floatsIn (cut (shape .size) 8)) F) _ _ _)
 
       pub argument-large : 16 < shape .size
-          → argument (described 1) (leaves I F false) (Aggregate shape) ps ≡ passed reference (leaves (I - 1) F false)
+          → argument (described 1) (counts I F) (Aggregate shape) ps ≡ passed reference (counts (I - 1) F)
       unfolding argument described descriptions apply matches foundIf travel
       argument-large h = rw (ne-eqb (shape .size) 0 full, e, lt-leb (shape .size) 16 h)
 
     pub returns-found : (ss : List Slot) → homogeneous 4 shape ps ≡ found ss
-        → returns (described 1) (leaves I F false) (Aggregate shape) ps ≡ passed (pieces ss) (leaves I F false)
+        → returns (described 1) (counts I F) (Aggregate shape) ps ≡ passed (pieces ss) (counts I F)
     unfolding returns described descriptions apply matches foundIf travel inRegisters
     returns-found ss e = rw (ne-eqb (shape .size) 0 full, e)
 
     module _ (e : homogeneous 4 shape ps ≡ nothing) where
       pub returns-small : shape .size ≤ 16
-          → returns (described 1) (leaves I F false) (Aggregate shape) ps ≡ passed (pieces (cut (shape .size) 8)) (leaves I F false)
+          → returns (described 1) (counts I F) (Aggregate shape) ps ≡ passed (pieces (cut (shape .size) 8)) (counts I F)
       unfolding returns described descriptions apply matches foundIf travel inRegisters
       returns-small h = rw (ne-eqb (shape .size) 0 full, e, le-leb (shape .size) 16 h)
 
       pub returns-large : 16 < shape .size
-          → returns (described 1) (leaves I F false) (Aggregate shape) ps ≡ passed reference (leaves I F false)
+          → returns (described 1) (counts I F) (Aggregate shape) ps ≡ passed reference (counts I F)
       unfolding returns described descriptions apply matches foundIf travel
       returns-large h = rw (ne-eqb (shape .size) 0 full, e, lt-leb (shape .size) 16 h)

@@ -15,6 +15,7 @@ use Rattle.describe.specs.declared.ReturnPointer.{ReturnPointer}
 use Rattle.describe.specs.declared.ReturnPointer.the-variants.{FirstArgument, FirstArgumentPopped, Dedicated}
 use Rattle.spend.specs.declared.Left.{Left}
 use Rattle.spend.specs.declared.Way.{Way}
+use Rattle.spend.specs.Ways.{marked}
 use Rattle.spend.specs.declared.Way.the-variants.{Ignore, Direct, Pieces, Reference, Memory}
 use Rattle.classify.specs.Pass.{wayOf, slotsOf}
 use Rattle.classify.specs.Classify.{Passed}
@@ -76,7 +77,7 @@ placeOf Memory before slots after = some stack
 
 abbrev pub passingOf : Option Place → Left → Option Passing
 passingOf none after = none
-passingOf (some place) after = cond (after .«integers_only») none (some (passing place (stateOf after)))
+passingOf (some place) after = cond (marked after) none (some (passing place (stateOf after)))
 
 -- an argument's way and slots, between what was left before and after it
 unfoldable pub told : Left → Way → List Slot → Left → Option Passing
@@ -100,7 +101,7 @@ resultBy Memory pointer slots = none
 
 abbrev pub returningOf : Option Result → Left → Option Returning
 returningOf none after = none
-returningOf (some result) after = cond (after .«integers_only») none (some (returning result (stateOf after)))
+returningOf (some result) after = cond (marked after) none (some (returning result (stateOf after)))
 
 -- a result's way and slots, with what is left after it
 unfoldable pub toldResult : ReturnPointer → Way → List Slot → Left → Option Returning

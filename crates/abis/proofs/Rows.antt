@@ -7,14 +7,14 @@ use native.Mathlib.Nat.{le-of-suc-le-suc, not-suc-le-zero}
 use mathlib.Core.Bool.{_&&_}
 use lib.Dec.{T, leb}
 use lib.ListN.{length, getD, List·getD-map, List·getD-eq-default}
-use Rattle.describe.specs.declared.Others.{Others}
-use Rattle.describe.specs.Description.{Description, past, others}
-use Rattle.describe.specs.declared.Rules.{Rules}
-use Rattle.describe.specs.Row.{encode, decode, held, heldBanks, heldFormats, heldRules, heldTests, listOf, packed, returnRule, argumentRule, banksOf, scalarsOf, othersOf, returnPointerOf, variadicOf}
-use Rattle.describe.proofs.Inverse.{return-rule-back, argument-rule-back, banks-back, scalars-back, others-back, decode-back}
-use Rattle.rules.proofs.Packed.{returns-packed, arguments-packed}
+use Rattle.describe.specs.Description.{Description, past, termsOf, othersOf}
+use Rattle.describe.specs.Row.{encode, decode, held, heldBanks, heldFormats, heldRules, heldTests, packed, listed, returnRule, argumentRule, termsFrom, othersFrom}
+use Rattle.describe.proofs.Inverse.{return-rule-back, argument-rule-back, terms-back, others-back, decode-back}
+use Rattle.rules.proofs.Packed.{listed-packed, returns-packed, arguments-packed}
 use Rattle.describe.proofs.Numbers.{and-left, and-right}
+use Rattle.abis.specs.declared.Brief.{Brief}
 use Rattle.abis.specs.Abis.{described, descriptions, blank, description-count}
+use Rattle.abis.specs.Brief.{briefOf, briefFrom}
 use Rattle.abis.proofs.Every.{anywhere}
 
 pub fits : (d : ℕ) → T (held (described d))
@@ -27,22 +27,11 @@ return-rule d = return-rule-back (described d) (fits d)
 pub argument-rule : (d i : ℕ) → argumentRule (encode (described d)) i ≡ getD (described d .arguments) i past
 argument-rule d = argument-rule-back (described d) (fits d)
 
-pub row-banks : (d : ℕ) → banksOf (encode (described d)) ≡ described d .banks
-row-banks d = banks-back (described d) (fits d)
+row-terms : (d : ℕ) → termsFrom (encode (described d)) ≡ termsOf (described d)
+row-terms d = terms-back (described d) (fits d)
 
-pub row-scalars : (d : ℕ) → scalarsOf (encode (described d)) ≡ described d .scalars
-row-scalars d = scalars-back (described d) (fits d)
-
-pub row-others : (d : ℕ) → othersOf (encode (described d)) ≡ others (described d)
+pub row-others : (d : ℕ) → othersFrom (encode (described d)) ≡ othersOf (described d)
 row-others d = others-back (described d) (fits d)
-
-pub row-return-pointer : (d : ℕ) → returnPointerOf (encode (described d)) ≡ described d .«return_pointer»
-unfolding othersOf
-row-return-pointer d = ap (λ (o : Others). o .«return_pointer») (row-others d)
-
-pub row-variadic : (d : ℕ) → variadicOf (encode (described d)) ≡ described d .variadic
-unfolding othersOf
-row-variadic d = ap (λ (o : Others). o .variadic) (row-others d)
 
 pub row-decoded : (d : ℕ) → decode (described d .name) (encode (described d)) ≡ described d
 row-decoded d = decode-back (described d) (fits d)
@@ -67,7 +56,6 @@ indexed {A} f table other e d h =
     ap (λ (entries : List A). getD entries d other) e
     ∙ (inside (map f descriptions) other (f blank) d h ∙ List·getD-map f descriptions d blank)
 
--- The lists of rules that a walk takes, where a `match` found them.
 record Held (D : Description) : Type 0 where
   returns : T (heldRules (D .returns))
   arguments : T (heldRules (D .arguments))
@@ -83,14 +71,20 @@ lists-held d =
       arguments = and-right (heldRules (D .returns)) (heldRules (D .arguments)) rules;
     }
 
-pub returns-held : (d : ℕ) → T (heldTests (described d .returns))
-returns-held d = and-right (leb (length (described d .returns)) 4) (heldTests (described d .returns)) (lists-held d .returns)
+-- The lists that a row's numbers stand for are the description's.
+pub returns-listed : (d : ℕ) → listed (packed (described d .returns)) ≡ described d .returns
+returns-listed d =
+    listed-packed (described d .returns) (and-right (leb (length (described d .returns)) 4) (heldTests (described d .returns)) (lists-held d .returns))
 
-pub arguments-held : (d : ℕ) → T (heldTests (described d .arguments))
-arguments-held d = and-right (leb (length (described d .arguments)) 4) (heldTests (described d .arguments)) (lists-held d .arguments)
+pub arguments-listed : (d : ℕ) → listed (packed (described d .arguments)) ≡ described d .arguments
+arguments-listed d =
+    listed-packed (described d .arguments) (and-right (leb (length (described d .arguments)) 4) (heldTests (described d .arguments)) (lists-held d .arguments))
 
-pub returns-here : (d : ℕ) {row : List ℕ} {R : Rules} → row ≡ encode (described d) → R ≡ listOf row 8 → R ≡ packed (described d .returns)
-returns-here d e l = l ∙ (ap (λ (row : List ℕ). listOf row 8) e ∙ returns-packed (described d) (lists-held d .returns))
+-- What is read of a row, where a `match` found it.
+pub read-here : (d : ℕ) {row : List ℕ} {r : Brief} → row ≡ encode (described d) → r ≡ briefFrom row → r ≡ briefOf (described d)
+unfolding briefFrom
+read-here d e er =
+    rw (er, e, row-terms d, returns-packed (described d) (lists-held d .returns), arguments-packed (described d) (lists-held d .arguments))
 
-pub arguments-here : (d : ℕ) {row : List ℕ} {R : Rules} → row ≡ encode (described d) → R ≡ listOf row 20 → R ≡ packed (described d .arguments)
-arguments-here d e l = l ∙ (ap (λ (row : List ℕ). listOf row 20) e ∙ arguments-packed (described d) (lists-held d .arguments))
+pub scalars-read : (d : ℕ) (b : Brief) → b ≡ briefOf (described d) → b .terms .scalars ≡ described d .scalars
+scalars-read d b e = rw e

@@ -2,33 +2,17 @@
 use mathlib.Core.Path.{sym, _∙_}
 use contract.Lifetimes.{Lfts}
 use Rattle.shape.proofs.OneAnswer.{OneAnswer}
+use Rattle.abis.proofs.read.Reads as read
 use Rattle.abis.proofs.row.Reads as row
-use Rattle.abis.proofs.banks.Reads as banks
-use Rattle.abis.proofs.scalars.Reads as scalars
-use Rattle.abis.proofs.others.Reads as others
-use Rattle.abis.proofs.return_pointer.Reads as return-pointer
-use Rattle.abis.proofs.variadic.Reads as variadic
 use Rattle.abis.proofs.scalar_is_by_reference.Reads as scalar-is-by-reference
 use Rattle.abis.proofs.scalar_returns_by_reference.Reads as scalar-returns-by-reference
 use Rattle.abis.proofs.wide_integer_returns_in.Reads as wide-integer-returns-in
 
+read-decides : (κs : Lfts 0) → OneAnswer (read.Post κs)
+read-decides κs a r q s t p p′ = p ∙ sym p′
+
 row-decides : (κs : Lfts 0) → OneAnswer (row.Post κs)
 row-decides κs a r q s t p p′ = p ∙ sym p′
-
-banks-decides : (κs : Lfts 0) → OneAnswer (banks.Post κs)
-banks-decides κs a r q s t p p′ = p ∙ sym p′
-
-scalars-decides : (κs : Lfts 0) → OneAnswer (scalars.Post κs)
-scalars-decides κs a r q s t p p′ = p ∙ sym p′
-
-others-decides : (κs : Lfts 0) → OneAnswer (others.Post κs)
-others-decides κs a r q s t p p′ = p ∙ sym p′
-
-return-pointer-decides : (κs : Lfts 0) → OneAnswer (return-pointer.Post κs)
-return-pointer-decides κs a r q s t p p′ = p ∙ sym p′
-
-variadic-decides : (κs : Lfts 0) → OneAnswer (variadic.Post κs)
-variadic-decides κs a r q s t p p′ = p ∙ sym p′
 
 scalar-is-by-reference-decides : (κs : Lfts 0) → OneAnswer (scalar-is-by-reference.Post κs)
 scalar-is-by-reference-decides κs a r q s t p p′ = p ∙ sym p′

@@ -120,8 +120,8 @@ win64 =
         «decimal_in_integers» = true;
         «quad_returns_by_reference» = false;
       };
-      returns = rule Empty Ignore ∷ rule (SizeOneOf 1 2 4 8) AsOneInteger ∷ rule Anything ByReference ∷ [];
-      arguments = rule (SizeOneOf 1 2 4 8) AsOneInteger ∷ rule Anything ByReference ∷ [];
+      returns = rule Empty Ignore ∷ rule (SizeOneOf 4 1 2 4 8) AsOneInteger ∷ rule Anything ByReference ∷ [];
+      arguments = rule (SizeOneOf 4 1 2 4 8) AsOneInteger ∷ rule Anything ByReference ∷ [];
       «return_pointer» = FirstArgument;
       variadic = BothBanks;
       «stack_args» = RegisterSized;
@@ -236,10 +236,10 @@ sysv-returns = rule Empty Ignore ∷ rule ComplexFloat AsIntegers ∷ rule Anyth
 
 abbrev reg-struct-returns : List Rule
 reg-struct-returns =
-    rule Empty Ignore ∷ rule LoneFloat AsFound ∷ rule (SizeOneOf 1 2 4 8) AsIntegers ∷ rule Anything ByReference ∷ []
+    rule Empty Ignore ∷ rule LoneFloat AsFound ∷ rule (SizeOneOf 4 1 2 4 8) AsIntegers ∷ rule Anything ByReference ∷ []
 
 abbrev msvc-returns : List Rule
-msvc-returns = rule Empty Ignore ∷ rule (SizeOneOf 1 2 4 8) AsIntegers ∷ rule Anything ByReference ∷ []
+msvc-returns = rule Empty Ignore ∷ rule (SizeOneOf 4 1 2 4 8) AsIntegers ∷ rule Anything ByReference ∷ []
 
 abbrev pub i386-sysv : Description
 i386-sysv = i386 cdecl (bytes "i386 SysV") sysv-returns FirstArgumentPopped Caller

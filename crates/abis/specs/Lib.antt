@@ -1,2 +1,3 @@
 pub mod Abis
 pub mod Answers
+pub mod Brief

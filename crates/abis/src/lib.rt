@@ -1,17 +1,16 @@
-// The thirty descriptions, read by number (REFERENCE 5.5), and the questions of REFERENCE 5.7 asked of a number.
+// The thirty descriptions, read by number (REFERENCE 5.5), and the questions of REFERENCE 5.7 asked of a number. The table is the one place
+// that has their order.
 ghost use mathlib.Core.Path.{_≡_};
-ghost use Rattle.describe.specs.Description.{others};
 ghost use Rattle.describe.specs.Row.{encode};
 ghost use Rattle.abis.specs.Abis.{described};
+ghost use Rattle.abis.specs.Brief.{briefOf, briefFrom};
 ghost use Rattle.abis.specs.Answers.{isByReferenceAnswer, returnsByReferenceAnswer, wideReturnsInAnswer, questionRefusal};
 
-pub mod table;
+mod table;
 
-use describe::Banks;
-use describe::Others;
-use describe::ReturnPointer;
+use describe::Rules;
 use describe::Scalars;
-use describe::Variadic;
+use describe::Terms;
 use describe::WIDTH;
 use table::*;
 
@@ -29,8 +28,66 @@ pub struct AskedFormat {
     pub format: u64,
 }
 
-// The row of description `d`, all zeros where there is none. An indexed constant is rebuilt at each read, so a walk over rules
-// reads its row once.
+// What classification reads of a description.
+pub struct Brief {
+    pub terms: Terms,
+    pub returns: Rules,
+    pub arguments: Rules,
+}
+
+// Description `d` as classification reads it; the description of nothing where there is none. Each arm reads a literal place of the table,
+// so what it gives is a constant: a row that is chosen first and read behind the `match` costs two hundred instructions more.
+pub fn read(d: u64) -> Brief
+    ensures { λ r. ⌜ r ≡ briefOf (described d) ⌝ }
+{
+    let table = TABLE;
+    match d {
+        0 => read_of(table[0]),
+        1 => read_of(table[1]),
+        2 => read_of(table[2]),
+        3 => read_of(table[3]),
+        4 => read_of(table[4]),
+        5 => read_of(table[5]),
+        6 => read_of(table[6]),
+        7 => read_of(table[7]),
+        8 => read_of(table[8]),
+        9 => read_of(table[9]),
+        10 => read_of(table[10]),
+        11 => read_of(table[11]),
+        12 => read_of(table[12]),
+        13 => read_of(table[13]),
+        14 => read_of(table[14]),
+        15 => read_of(table[15]),
+        16 => read_of(table[16]),
+        17 => read_of(table[17]),
+        18 => read_of(table[18]),
+        19 => read_of(table[19]),
+        20 => read_of(table[20]),
+        21 => read_of(table[21]),
+        22 => read_of(table[22]),
+        23 => read_of(table[23]),
+        24 => read_of(table[24]),
+        25 => read_of(table[25]),
+        26 => read_of(table[26]),
+        27 => read_of(table[27]),
+        28 => read_of(table[28]),
+        29 => read_of(table[29]),
+        _ => read_of([0; WIDTH]),
+    }
+}
+
+fn read_of(row: [u8; WIDTH]) -> Brief
+    ensures { λ r. ⌜ r ≡ briefFrom row ⌝ }
+{
+    Brief {
+        terms: describe::terms_of(row),
+        returns: rules::return_rules(row),
+        arguments: rules::argument_rules(row),
+    }
+}
+
+// The row of description `d`, all zeros where there is none, for what isn't on an operation's path: an indexed constant is rebuilt at each
+// read.
 pub fn row(d: u64) -> [u8; WIDTH]
     ensures { λ r. ⌜ r ≡ encode (described d) ⌝ }
 {
@@ -40,37 +97,6 @@ pub fn row(d: u64) -> [u8; WIDTH]
     } else {
         [0; WIDTH]
     }
-}
-
-pub fn banks(d: u64) -> Banks
-    ensures { λ r. ⌜ r ≡ described d .banks ⌝ }
-{
-    describe::banks_of(named_row(d))
-}
-
-pub fn scalars(d: u64) -> Scalars
-    ensures { λ r. ⌜ r ≡ described d .scalars ⌝ }
-{
-    describe::scalars_of(named_row(d))
-}
-
-// The fields beside banks, scalar rules, rules and the name.
-pub fn others(d: u64) -> Others
-    ensures { λ r. ⌜ r ≡ others (described d) ⌝ }
-{
-    describe::others_of(named_row(d))
-}
-
-pub fn return_pointer(d: u64) -> ReturnPointer
-    ensures { λ r. ⌜ r ≡ described d .«return_pointer» ⌝ }
-{
-    describe::return_pointer_of(named_row(d))
-}
-
-pub fn variadic(d: u64) -> Variadic
-    ensures { λ r. ⌜ r ≡ described d .variadic ⌝ }
-{
-    describe::variadic_of(named_row(d))
 }
 
 // Whether a scalar of this size travels as the address of a copy.
@@ -127,6 +153,14 @@ pub fn wide_integer_returns_in(d: u64, size: u64) -> AskedFormat
     }
 }
 
+fn scalars(d: u64) -> Scalars
+    ensures { λ r. ⌜ r ≡ described d .scalars ⌝ }
+{
+    let read = read(d);
+    let terms = read.terms;
+    terms.scalars
+}
+
 fn question_refusal(d: u64, size: u64) -> u64
     ensures { λ r. ⌜ r ≡ questionRefusal d size ⌝ }
 {
@@ -137,43 +171,4 @@ fn question_refusal(d: u64, size: u64) -> u64
         return shape::BAD_SIZE;
     }
     shape::ACCEPTED
-}
-
-// The same row as `row` gives, for readers of literal places: where those are known, a `match` costs a few loads.
-fn named_row(d: u64) -> [u8; WIDTH]
-    ensures { λ r. ⌜ r ≡ encode (described d) ⌝ }
-{
-    match d {
-        0 => SYSV_AMD64,
-        1 => AAPCS64,
-        2 => DARWIN_ARM64,
-        3 => WINDOWS_ARM64,
-        4 => WIN64,
-        5 => RISCV_LP64D,
-        6 => I386_SYSV,
-        7 => I386_SYSV_REGPARM_1,
-        8 => I386_SYSV_REGPARM_2,
-        9 => I386_SYSV_REGPARM_3,
-        10 => I386_SYSV_REG_STRUCT,
-        11 => I386_SYSV_REGPARM_1_REG_STRUCT,
-        12 => I386_SYSV_REGPARM_2_REG_STRUCT,
-        13 => I386_SYSV_REGPARM_3_REG_STRUCT,
-        14 => I386_SYSV_STDCALL,
-        15 => I386_SYSV_REGPARM_1_STDCALL,
-        16 => I386_SYSV_REGPARM_2_STDCALL,
-        17 => I386_SYSV_REGPARM_3_STDCALL,
-        18 => I386_SYSV_REG_STRUCT_STDCALL,
-        19 => I386_SYSV_REGPARM_1_REG_STRUCT_STDCALL,
-        20 => I386_SYSV_REGPARM_2_REG_STRUCT_STDCALL,
-        21 => I386_SYSV_REGPARM_3_REG_STRUCT_STDCALL,
-        22 => I386_SYSV_FASTCALL,
-        23 => I386_SYSV_REG_STRUCT_FASTCALL,
-        24 => I386_MINGW,
-        25 => I386_MSVC,
-        26 => I386_MINGW_STDCALL,
-        27 => I386_MINGW_FASTCALL,
-        28 => I386_MSVC_STDCALL,
-        29 => I386_MSVC_FASTCALL,
-        _ => [0; WIDTH],
-    }
 }

@@ -45,7 +45,9 @@ fn name(out: &mut [u8], d: u64) -> usize {
 }
 
 fn banks(out: &mut [u8], at: usize, d: u64) -> usize {
-    let banks = abis::banks(d);
+    let brief = abis::read(d);
+    let terms = brief.terms;
+    let banks = terms.banks;
     let numbers = [
         banks.integer,
         banks.float,
@@ -58,7 +60,9 @@ fn banks(out: &mut [u8], at: usize, d: u64) -> usize {
 }
 
 fn scalars(out: &mut [u8], at: usize, d: u64) -> usize {
-    let scalars = abis::scalars(d);
+    let brief = abis::read(d);
+    let terms = brief.terms;
+    let scalars = terms.scalars;
     let numbers = [
         scalars.in_memory,
         scalars.wide_integer_is_all_or_nothing as u64,
@@ -75,10 +79,12 @@ fn scalars(out: &mut [u8], at: usize, d: u64) -> usize {
 }
 
 fn others(out: &mut [u8], at: usize, d: u64) -> usize {
-    let others = abis::others(d);
-    let pointer = others.return_pointer;
-    let dots = others.variadic;
-    let stack = others.stack_args;
+    let brief = abis::read(d);
+    let terms = brief.terms;
+    let pointer = terms.return_pointer;
+    let dots = terms.variadic;
+    let stack = terms.stack_args;
+    let others = describe::others_of(abis::row(d));
     let narrowed = others.narrow;
     let bits = others.bit_ints;
     let cleaner = others.cleanup;
@@ -166,7 +172,7 @@ fn test_numbers(test: Test) -> [u64; 5] {
     match test {
         Test::Anything => [0, 0, 0, 0, 0],
         Test::Empty => [1, 0, 0, 0, 0],
-        Test::SizeOneOf(a, b, c, d) => [2, a, b, c, d],
+        Test::SizeOneOf(_, a, b, c, d) => [2, a, b, c, d],
         Test::SizeAtMost(limit) => [3, limit, 0, 0, 0],
         Test::Homogeneous(limit) => [4, limit, 0, 0, 0],
         Test::FloatPair => [5, 0, 0, 0, 0],

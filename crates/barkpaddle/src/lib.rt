@@ -3,18 +3,18 @@
 // crates of their own: what the entries of one archive share isn't inlined into any of them (docs/DECISIONS.md).
 ghost use mathlib.Core.Path.{_≡_};
 ghost use mathlib.Core.List.{[]};
-ghost use Rattle.numbers.specs.Numbers.{callFrom, void, scalar, aggregate, inNumbers};
-ghost use Rattle.classify.specs.Answers.{freshAnswer, variadicAnswer, argumentAnswer, argumentWritten};
+ghost use Rattle.numbers.specs.Numbers.{callFrom, void, scalar, aggregate};
+ghost use Rattle.classify.specs.Answers.{freshAnswer, variadicAnswer, Passes};
+use classify::Answer;
 use classify::Call;
-use numbers::Answer;
 use shape::Scalar;
 
 // The start of a call on a description.
 #[no_mangle]
 pub extern "C" fn barkpaddle_fresh(abi: u64) -> Answer
-    ensures { λ r. ⌜ r ≡ inNumbers (freshAnswer abi) ⌝ }
+    ensures { λ r. ⌜ r ≡ freshAnswer abi ⌝ }
 {
-    numbers::in_numbers(Call::fresh(abi))
+    Call::fresh(abi)
 }
 
 // The same call, to a function whose parameters end in dots.
@@ -25,10 +25,10 @@ pub extern "C" fn barkpaddle_variadic(
     float: u64,
     integers_only: u64,
 ) -> Answer
-    ensures { λ r. ⌜ r ≡ inNumbers (variadicAnswer (callFrom abi integer float «integers_only»)) ⌝ }
+    ensures { λ r. ⌜ r ≡ variadicAnswer (callFrom abi integer float «integers_only») ⌝ }
 {
     let call = numbers::call_from(abi, integer, float, integers_only);
-    numbers::in_numbers(call.variadic())
+    call.variadic()
 }
 
 // How the next fixed argument travels: nothing travels.
@@ -40,10 +40,10 @@ pub extern "C" fn barkpaddle_argument_void(
     integers_only: u64,
     slots: &mut [u64],
 ) -> Answer
-    ensures { λ r. ⌜ (r ≡ inNumbers (argumentAnswer (callFrom abi integer float «integers_only») void [] (now (slots .entry)))) × (now (slots .exit) ≡ argumentWritten (callFrom abi integer float «integers_only») void [] (now (slots .entry))) ⌝ }
+    ensures { λ r. ⌜ Passes (callFrom abi integer float «integers_only») void [] (now (slots .entry)) r (now (slots .exit)) ⌝ }
 {
     let call = numbers::call_from(abi, integer, float, integers_only);
-    numbers::in_numbers(call.nothing())
+    call.nothing()
 }
 
 // How the next fixed argument travels: a scalar.
@@ -58,10 +58,10 @@ pub extern "C" fn barkpaddle_argument_scalar(
     align: u64,
     slots: &mut [u64],
 ) -> Answer
-    ensures { λ r. ⌜ (r ≡ inNumbers (argumentAnswer (callFrom abi integer float «integers_only») (scalar kind size align) [] (now (slots .entry)))) × (now (slots .exit) ≡ argumentWritten (callFrom abi integer float «integers_only») (scalar kind size align) [] (now (slots .entry))) ⌝ }
+    ensures { λ r. ⌜ Passes (callFrom abi integer float «integers_only») (scalar kind size align) [] (now (slots .entry)) r (now (slots .exit)) ⌝ }
 {
     let call = numbers::call_from(abi, integer, float, integers_only);
-    numbers::in_numbers(call.argument_scalar(Scalar { kind, size, align }, slots))
+    call.argument_scalar(Scalar { kind, size, align }, slots)
 }
 
 // How the next fixed argument travels: an aggregate, its pieces as words.
@@ -78,9 +78,9 @@ pub extern "C" fn barkpaddle_argument_aggregate(
     words: &[u64],
     slots: &mut [u64],
 ) -> Answer
-    ensures { λ r. ⌜ (r ≡ inNumbers (argumentAnswer (callFrom abi integer float «integers_only») (aggregate size align complex floating) (now (words .entry)) (now (slots .entry)))) × (now (slots .exit) ≡ argumentWritten (callFrom abi integer float «integers_only») (aggregate size align complex floating) (now (words .entry)) (now (slots .entry))) ⌝ }
+    ensures { λ r. ⌜ Passes (callFrom abi integer float «integers_only») (aggregate size align complex floating) (now (words .entry)) (now (slots .entry)) r (now (slots .exit)) ⌝ }
 {
     let call = numbers::call_from(abi, integer, float, integers_only);
     let shape = numbers::shape_from(size, align, complex, floating);
-    numbers::in_numbers(call.argument_aggregate(shape, words, slots))
+    call.argument_aggregate(shape, words, slots)
 }

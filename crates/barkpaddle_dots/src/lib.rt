@@ -2,9 +2,9 @@
 // description, the counts left and the mark, and goes back in the answer.
 ghost use mathlib.Core.Path.{_≡_};
 ghost use mathlib.Core.List.{[]};
-ghost use Rattle.numbers.specs.Numbers.{callFrom, void, scalar, aggregate, inNumbers};
-ghost use Rattle.classify.specs.Answers.{dotsAnswer, dotsWritten};
-use numbers::Answer;
+ghost use Rattle.numbers.specs.Numbers.{callFrom, void, scalar, aggregate};
+ghost use Rattle.classify.specs.Answers.{PassesAfterDots};
+use classify::Answer;
 use shape::Scalar;
 
 // How the next argument after the dots travels: nothing travels.
@@ -16,10 +16,10 @@ pub extern "C" fn barkpaddle_variadic_argument_void(
     integers_only: u64,
     slots: &mut [u64],
 ) -> Answer
-    ensures { λ r. ⌜ (r ≡ inNumbers (dotsAnswer (callFrom abi integer float «integers_only») void [] (now (slots .entry)))) × (now (slots .exit) ≡ dotsWritten (callFrom abi integer float «integers_only») void [] (now (slots .entry))) ⌝ }
+    ensures { λ r. ⌜ PassesAfterDots (callFrom abi integer float «integers_only») void [] (now (slots .entry)) r (now (slots .exit)) ⌝ }
 {
     let call = numbers::call_from(abi, integer, float, integers_only);
-    numbers::in_numbers(call.nothing())
+    call.nothing()
 }
 
 // How the next argument after the dots travels: a scalar.
@@ -34,10 +34,10 @@ pub extern "C" fn barkpaddle_variadic_argument_scalar(
     align: u64,
     slots: &mut [u64],
 ) -> Answer
-    ensures { λ r. ⌜ (r ≡ inNumbers (dotsAnswer (callFrom abi integer float «integers_only») (scalar kind size align) [] (now (slots .entry)))) × (now (slots .exit) ≡ dotsWritten (callFrom abi integer float «integers_only») (scalar kind size align) [] (now (slots .entry))) ⌝ }
+    ensures { λ r. ⌜ PassesAfterDots (callFrom abi integer float «integers_only») (scalar kind size align) [] (now (slots .entry)) r (now (slots .exit)) ⌝ }
 {
     let call = numbers::call_from(abi, integer, float, integers_only);
-    numbers::in_numbers(call.variadic_argument_scalar(Scalar { kind, size, align }, slots))
+    call.variadic_argument_scalar(Scalar { kind, size, align }, slots)
 }
 
 // How the next argument after the dots travels: an aggregate, its pieces as words.
@@ -54,9 +54,9 @@ pub extern "C" fn barkpaddle_variadic_argument_aggregate(
     words: &[u64],
     slots: &mut [u64],
 ) -> Answer
-    ensures { λ r. ⌜ (r ≡ inNumbers (dotsAnswer (callFrom abi integer float «integers_only») (aggregate size align complex floating) (now (words .entry)) (now (slots .entry)))) × (now (slots .exit) ≡ dotsWritten (callFrom abi integer float «integers_only») (aggregate size align complex floating) (now (words .entry)) (now (slots .entry))) ⌝ }
+    ensures { λ r. ⌜ PassesAfterDots (callFrom abi integer float «integers_only») (aggregate size align complex floating) (now (words .entry)) (now (slots .entry)) r (now (slots .exit)) ⌝ }
 {
     let call = numbers::call_from(abi, integer, float, integers_only);
     let shape = numbers::shape_from(size, align, complex, floating);
-    numbers::in_numbers(call.variadic_argument_aggregate(shape, words, slots))
+    call.variadic_argument_aggregate(shape, words, slots)
 }

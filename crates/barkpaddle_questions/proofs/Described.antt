@@ -13,12 +13,15 @@ use Rattle.describe.specs.declared.Banks.{Banks}
 use Rattle.describe.specs.declared.Scalars.{Scalars}
 use Rattle.describe.specs.declared.Others.{Others}
 use Rattle.describe.specs.declared.Rule.{Rule}
-use Rattle.describe.specs.Description.{others}
+use Rattle.describe.specs.Description.{othersOf}
 use Rattle.describe.specs.Codes.{flag, testCode, testNumber, travelCode, shortCode, returnPointerCode, variadicCode, stackArgsCode, narrowCode, bitIntsCode, cleanupCode}
-use Rattle.describe.specs.Row.{encode, wayByte}
+use Rattle.describe.specs.Row.{encode, wayByte, othersFrom}
 use Rattle.describe.proofs.Numbers.{travel-fits}
 use Rattle.describe.proofs.Inverse.{There, returns-there, arguments-there}
+use Rattle.abis.specs.declared.Brief.{Brief}
 use Rattle.abis.specs.Abis.{described, description-count}
+use Rattle.abis.specs.Brief.{briefOf}
+use Rattle.abis.proofs.Rows.{row-others}
 use Rattle.abis.proofs.Lists.{returns-few, arguments-few}
 use Rattle.barkpaddle_questions.specs.declared.descriptions.Description.{Description}
 use Rattle.barkpaddle_questions.specs.declared.descriptions.RuleNumbers.{RuleNumbers}
@@ -26,7 +29,16 @@ use Rattle.barkpaddle_questions.specs.Descriptions.{fieldsOf, noDescript
 
 -- ---- fields
 
-module _ (abi : ℕ) (B : Banks) (eB : B ≡ described abi .banks) (S : Scalars) (eS : S ≡ described abi .scalars) (O : Others) (eO : O ≡ others (described abi)) where
+module _ (abi : ℕ) (brief : Brief) (eb : brief ≡ briefOf (described abi)) (row : List ℕ) (er : row ≡ encode (described abi)) (O : Others) (eo : O ≡ othersFrom row) where
+  abbrev B : Banks
+  B = brief .terms .banks
+
+  abbrev S : Scalars
+  S = brief .terms .scalars
+
+  eO : O ≡ othersOf (described abi)
+  eO = rw (eo, er) (row-others abi)
+
   pub fields : (shared : ℕ) → shared ≡ flag (B .shared)
       → (whole : ℕ) → whole ≡ flag (S .«wide_integer_is_all_or_nothing»)
       → (even : ℕ) → even ≡ flag (S .«wide_integer_starts_even»)
@@ -35,9 +47,9 @@ module _ (abi : ℕ) (B : Banks) (eB : B ≡ described abi .banks) (S : Scalars)
       → (stored : ℕ) → stored ≡ flag (S .«wide_integer_in_memory»)
       → (decimal : ℕ) → decimal ≡ flag (S .«decimal_in_integers»)
       → (quad : ℕ) → quad ≡ flag (S .«quad_returns_by_reference»)
-      → (pointer : ℕ) → pointer ≡ returnPointerCode (O .«return_pointer»)
-      → (variadic : ℕ) → variadic ≡ variadicCode (O .variadic)
-      → (stack : ℕ) → stack ≡ stackArgsCode (O .«stack_args»)
+      → (pointer : ℕ) → pointer ≡ returnPointerCode (brief .terms .«return_pointer»)
+      → (variadic : ℕ) → variadic ≡ variadicCode (brief .terms .variadic)
+      → (stack : ℕ) → stack ≡ stackArgsCode (brief .terms .«stack_args»)
       → (narrow : ℕ) → narrow ≡ narrowCode (O .narrow)
       → (bits : ℕ) → bits ≡ bitIntsCode (O .«bit_ints»)
       → (cleanup : ℕ) → cleanup ≡ cleanupCode (O .cleanup)
@@ -66,7 +78,7 @@ module _ (abi : ℕ) (B : Banks) (eB : B ≡ described abi .banks) (S : Scalars)
         cleanup = cleanup;
       }) (fieldsOf (described abi))
   fields shared e1 whole e2 even e3 drains e4 by e5 stored e6 decimal e7 quad e8 pointer e9 variadic e10 stack e11 narrow e12 bits e13 cleanup e14 =
-      rw (e1, e2, e3, e4, e5, e6, e7, e8, e9, e10, e11, e12, e13, e14, eB, eS, eO)
+      rw (e1, e2, e3, e4, e5, e6, e7, e8, e9, e10, e11, e12, e13, e14, eb, eO)
 
 module _ (abi : ℕ) (r : Description) where
   pub description-none : description-count ≤ abi → r ≡ noDescription → r ≡ descriptionAnswer abi

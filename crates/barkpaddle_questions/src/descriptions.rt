@@ -139,12 +139,14 @@ fn yes_or_no(asked: abis::Asked) -> Told
 fn fields_of(abi: u64) -> Description
     ensures { λ r. ⌜ r ≡ fieldsOf (described abi) ⌝ }
 {
-    let banks = abis::banks(abi);
-    let scalars = abis::scalars(abi);
-    let others = abis::others(abi);
-    let pointer = others.return_pointer;
-    let variadic = others.variadic;
-    let stack = others.stack_args;
+    let brief = abis::read(abi);
+    let others = describe::others_of(abis::row(abi));
+    let terms = brief.terms;
+    let banks = terms.banks;
+    let scalars = terms.scalars;
+    let pointer = terms.return_pointer;
+    let variadic = terms.variadic;
+    let stack = terms.stack_args;
     let narrow = others.narrow;
     let bits = others.bit_ints;
     let cleanup = others.cleanup;

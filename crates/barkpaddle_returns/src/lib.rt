@@ -2,9 +2,9 @@
 // description, the counts left and the mark, and goes back in the answer.
 ghost use mathlib.Core.Path.{_≡_};
 ghost use mathlib.Core.List.{[]};
-ghost use Rattle.numbers.specs.Numbers.{callFrom, void, scalar, aggregate, inNumbers};
-ghost use Rattle.classify.specs.Answers.{returnsAnswer, returnsWritten};
-use numbers::Answer;
+ghost use Rattle.numbers.specs.Numbers.{callFrom, void, scalar, aggregate};
+ghost use Rattle.classify.specs.Answers.{Returns};
+use classify::Answer;
 use shape::Scalar;
 
 // How the return value comes back: nothing travels.
@@ -16,10 +16,10 @@ pub extern "C" fn barkpaddle_return_void(
     integers_only: u64,
     slots: &mut [u64],
 ) -> Answer
-    ensures { λ r. ⌜ (r ≡ inNumbers (returnsAnswer (callFrom abi integer float «integers_only») void [] (now (slots .entry)))) × (now (slots .exit) ≡ returnsWritten (callFrom abi integer float «integers_only») void [] (now (slots .entry))) ⌝ }
+    ensures { λ r. ⌜ Returns (callFrom abi integer float «integers_only») void [] (now (slots .entry)) r (now (slots .exit)) ⌝ }
 {
     let call = numbers::call_from(abi, integer, float, integers_only);
-    numbers::in_numbers(call.nothing())
+    call.nothing()
 }
 
 // How the return value comes back: a scalar.
@@ -34,10 +34,10 @@ pub extern "C" fn barkpaddle_return_scalar(
     align: u64,
     slots: &mut [u64],
 ) -> Answer
-    ensures { λ r. ⌜ (r ≡ inNumbers (returnsAnswer (callFrom abi integer float «integers_only») (scalar kind size align) [] (now (slots .entry)))) × (now (slots .exit) ≡ returnsWritten (callFrom abi integer float «integers_only») (scalar kind size align) [] (now (slots .entry))) ⌝ }
+    ensures { λ r. ⌜ Returns (callFrom abi integer float «integers_only») (scalar kind size align) [] (now (slots .entry)) r (now (slots .exit)) ⌝ }
 {
     let call = numbers::call_from(abi, integer, float, integers_only);
-    numbers::in_numbers(call.returns_scalar(Scalar { kind, size, align }, slots))
+    call.returns_scalar(Scalar { kind, size, align }, slots)
 }
 
 // How the return value comes back: an aggregate, its pieces as words.
@@ -54,9 +54,9 @@ pub extern "C" fn barkpaddle_return_aggregate(
     words: &[u64],
     slots: &mut [u64],
 ) -> Answer
-    ensures { λ r. ⌜ (r ≡ inNumbers (returnsAnswer (callFrom abi integer float «integers_only») (aggregate size align complex floating) (now (words .entry)) (now (slots .entry)))) × (now (slots .exit) ≡ returnsWritten (callFrom abi integer float «integers_only») (aggregate size align complex floating) (now (words .entry)) (now (slots .entry))) ⌝ }
+    ensures { λ r. ⌜ Returns (callFrom abi integer float «integers_only») (aggregate size align complex floating) (now (words .entry)) (now (slots .entry)) r (now (slots .exit)) ⌝ }
 {
     let call = numbers::call_from(abi, integer, float, integers_only);
     let shape = numbers::shape_from(size, align, complex, floating);
-    numbers::in_numbers(call.returns_aggregate(shape, words, slots))
+    call.returns_aggregate(shape, words, slots)
 }

@@ -34,13 +34,13 @@ use denote.Triple.Clauses.{Clauses, closing, ensured, lasts}
 use denote.Triple.Walked.{says, Stays, stay-ref, walkOf, goes-ref, Walks, ends-at, walked, walk-meets}
 use denote.Signature.{plain}
 use Rattle.classify.specs.declared.Call.{Call}
-use Rattle.bridge.specs.declared.Answered.{Answered}
+use Rattle.classify.specs.declared.Answer.{Answer}
 use Rattle.classify.proofs.Call as T
 use Rattle.classify.proofs.Call.Laws as T′
-use Rattle.bridge.proofs.Outcome as O
-use Rattle.bridge.proofs.Outcome.Laws as O′
-use Rattle.bridge.proofs.Answered as N
-use Rattle.bridge.proofs.Answered.Laws as N′
+use Rattle.classify.proofs.Outcome as O
+use Rattle.classify.proofs.Outcome.Laws as O′
+use Rattle.classify.proofs.Answer as N
+use Rattle.classify.proofs.Answer.Laws as N′
 use Rattle.bridge.proofs.variadic_of as value
 use Rattle.bridge.proofs.barkpaddle_bridge_variadic as variadic
 
@@ -57,7 +57,7 @@ function f = record {
       (seq (assign (place 0 []) (rvOpd (copy (place 2 (field 1 ∷ []))))) return)));
 }
 
-module _ (f : Name) (ans : Call → Answered) where
+module _ (f : Name) (ans : Call → Answer) where
   -- the two contracts
   abbrev thin : {M : Type 1} (𝓤 : URA M) → Clauses 𝓤 variadic.ended
   thin 𝓤 κs a = record { ghost = Unit {0}; requires = λ _. emp 𝓤; ensures = λ _ r e. fact 𝓤 ((r ≡ ans (now (a .0)) .outcome) × (now (e .0) ≡ ans (now (a .0)) .next)) }
@@ -87,22 +87,22 @@ module _ (f : Name) (ans : Call → Answered) where
     goes : ent 𝓤 (sem 𝓤 H A (T.the-row .own h (mach h ∷ []))) (Value 𝓤 H A .pre to)
     goes = qed W (‵ (T.the-row .own h (mach h ∷ [])) ∷ []) ∵ nothing ! $ move ! (1 ∷ 0 ∷ []) $ join ! $ nothing ! $ join ! $ frame ! $ done !
 
-    said : (r : Answered) → ent 𝓤 (ensured 𝓤 H A value.ended (full 𝓤) tt (h, tt) tt r) (fact 𝓤 (r ≡ ans h))
+    said : (r : Answer) → ent 𝓤 (ensured 𝓤 H A value.ended (full 𝓤) tt (h, tt) tt r) (fact 𝓤 (r ≡ ans h))
     said r = exE 𝓤 _ (λ ws. snd∗ 𝓤 (sem 𝓤 H A (lasts value.ended tt (h, tt) ws)) (fact 𝓤 (r ≡ ans h)))
 
-    exits : (r : Answered) → r ≡ ans h → Is O.the-row (r .outcome) (LL.vals O.the-type O′.the-laws (r .outcome))
+    exits : (r : Answer) → r ≡ ans h → Is O.the-row (r .outcome) (LL.vals O.the-type O′.the-laws (r .outcome))
         → ent 𝓤 (⋆ 𝓤 H A (‵ (fobs γ (T.the-row .coded .code (r .next))) ∷ ‵ (fbor κ (Body (mem T.the-row) b o γ)) ∷ ‵ (flft κ q) ∷ [])) (Post (LL.val O.the-type O′.the-laws (r .outcome)))
     exits r e is =
         qed W (‵ (fobs γ (T.the-row .coded .code (r .next))) ∷ ‵ (fbor κ (Body (mem T.the-row) b o γ)) ∷ ‵ (flft κ q) ∷ []) ∵
         suffices ! _ (ends-at 𝓤 H A variadic.ended stayed (thin 𝓤) W (((κ, tt), (q, tt), tt, a, (vptr b o ∷ [], tt)), tt) (LL.val O.the-type O′.the-laws (r .outcome)) (r .outcome) (r .next, tt) (tt, tt)) $
-        says ! (ap (λ (x : Answered). x .outcome) e, ap (λ (x : Answered). x .next) e) $ nothing ! $ move ! (3 ∷ 0 ∷ []) $ join ! $ frame ! $
+        says ! (ap (λ (x : Answer). x .outcome) e, ap (λ (x : Answer). x .next) e) $ nothing ! $ move ! (3 ∷ 0 ∷ []) $ join ! $ frame ! $
         nothing ! $ move ! (1 ∷ 2 ∷ []) $ feqI ! (List Val) (vptr b o ∷ []) (vptr b o ∷ []) refl $ fjoin3 ! $ fjoin ! $
         owned ! O.the-row (Is O.the-row) (LL.makes O.the-type O′.the-plain 𝓤 H A) (r .outcome) _ is $ move ! (1 ∷ 0 ∷ []) $ done !
 
-    next-is : (r : Answered) (w : Val) → Is N.the-row r (w ∷ []) → Is T.the-row (r .next) (LL.vals T.the-type T′.the-laws (r .next))
+    next-is : (r : Answer) (w : Val) → Is N.the-row r (w ∷ []) → Is T.the-row (r .next) (LL.vals T.the-type T′.the-laws (r .next))
     next-is r w is = LL.owed N.the-type N′.the-laws r _ is .0
 
-    outcome-is : (r : Answered) (w : Val) → Is N.the-row r (w ∷ []) → Is O.the-row (r .outcome) (LL.vals O.the-type O′.the-laws (r .outcome))
+    outcome-is : (r : Answer) (w : Val) → Is N.the-row r (w ∷ []) → Is O.the-row (r .outcome) (LL.vals O.the-type O′.the-laws (r .outcome))
     outcome-is r w is = LL.owed N.the-type N′.the-laws r _ is .1 .0
 
     module _ (C : Calls 𝓤 H) (Λ : Loops 𝓤 H) (fm : FmC 𝓤 H (W .laws) C) (known : Triple 𝓤 (C f) (Value 𝓤 H A)) where
@@ -119,7 +119,7 @@ module _ (f : Name) (ans : Call → Answered) where
           move ! (1 ∷ []) $ use1 W (raw (Value 𝓤 H A .pre to)) goes $
           -- [what the value form asks; the call's cell; the open borrow; obs; auth; true; true; _3; …]
           calls-at ! fm (Value 𝓤 H A) known to (and-then ! (load ! (from ! (stop !)) (look ! 7 refl)) (no-more !)) (λ w.
-          use1 W (later (some (λ (r : Answered). (‵ ftrue ⊛ ‵ (N.the-row .own r (w ∷ []))) ⊛ raw (ensured 𝓤 H A value.ended (full 𝓤) tt (h, tt) tt r)))) (id⊢ 𝓤 _) $ await ! tt $ pick ! (λ r.
+          use1 W (later (some (λ (r : Answer). (‵ ftrue ⊛ ‵ (N.the-row .own r (w ∷ []))) ⊛ raw (ensured 𝓤 H A value.ended (full 𝓤) tt (h, tt) tt r)))) (id⊢ 𝓤 _) $ await ! tt $ pick ! (λ r.
           split ! $ move ! (1 ∷ []) $ use1 W (raw (fact 𝓤 (r ≡ ans h))) (said r) $ heard ! (r ≡ ans h) (λ e. split ! $ drop ! $ peeks ! N.the-row (Is N.the-row) (shows 𝓤 H A N.the-row) r (w ∷ []) (λ is.
           -- [what the answer owns; the call's cell; the open borrow; obs; auth; true; true; _3; …; room for _2; …; _1; …; room for _0; …]
           land ! (from ! (stop !)) (init ! 9 refl (LL.lawful N.the-type N′.the-laws 𝓤 H A W .typed r _ is .0)) $ rewrite ! 9 (λ (u : Val). ‵ (fat fullShare N′.mir l₂ 0 u)) (ap only (LL.tells N.the-type N′.the-laws r _ is)) refl $

@@ -41,16 +41,18 @@ use denote.Triple.Walked.{says, Stays, stay-ref, stay-none, stay-none-slice, gav
 use denote.Exit.{yes}
 use denote.Signature.{plain}
 use Rattle.classify.specs.declared.Call.{Call}
+use Rattle.classify.specs.declared.Answer.{Answer}
 use Rattle.bridge.specs.declared.What.{What}
-use Rattle.bridge.specs.declared.Answered.{Answered}
+use Rattle.classify.specs.Answers.{Leaves}
+use Rattle.bridge.specs.Lent.{Lends}
 use Rattle.classify.proofs.Call as T
 use Rattle.classify.proofs.Call.Laws as T′
 use Rattle.bridge.proofs.What as K
 use Rattle.bridge.proofs.What.Laws as K′
-use Rattle.bridge.proofs.Outcome as O
-use Rattle.bridge.proofs.Outcome.Laws as O′
-use Rattle.bridge.proofs.Answered as N
-use Rattle.bridge.proofs.Answered.Laws as N′
+use Rattle.classify.proofs.Outcome as O
+use Rattle.classify.proofs.Outcome.Laws as O′
+use Rattle.classify.proofs.Answer as N
+use Rattle.classify.proofs.Answer.Laws as N′
 use Rattle.bridge.proofs.argument_of as value
 use Rattle.bridge.proofs.barkpaddle_bridge_argument as argument
 
@@ -70,20 +72,20 @@ function f = record {
       (seq (assign (place 0 []) (rvOpd (copy (place 5 (field 1 ∷ []))))) return)))));
 }
 
-module _ (f : Name) (ans : Call → What → List ℕ → List ℕ → Answered) (wri : Call → What → List ℕ → List ℕ → List ℕ) where
+module _ (f : Name) (ans : Call → What → List ℕ → List ℕ → Answer) (wri : Call → What → List ℕ → List ℕ → List ℕ) where
   -- the two contracts
   abbrev thin : {M : Type 1} (𝓤 : URA M) → Clauses 𝓤 argument.ended
   thin 𝓤 κs a = record {
     ghost = Unit {0};
     requires = λ _. emp 𝓤;
-    ensures = λ _ r e. fact 𝓤 ((r ≡ ans (now (a .0)) (a .1 .0) (now (a .1 .1 .0)) (now (a .1 .1 .1 .0)) .outcome) × (now (e .0) ≡ ans (now (a .0)) (a .1 .0) (now (a .1 .1 .0)) (now (a .1 .1 .1 .0)) .next) × (now (e .1 .1 .1 .0) ≡ wri (now (a .0)) (a .1 .0) (now (a .1 .1 .0)) (now (a .1 .1 .1 .0))));
+    ensures = λ _ r e. fact 𝓤 (Lends (ans (now (a .0)) (a .1 .0) (now (a .1 .1 .0)) (now (a .1 .1 .1 .0))) (wri (now (a .0)) (a .1 .0) (now (a .1 .1 .0)) (now (a .1 .1 .1 .0))) r (now (e .0)) (now (e .1 .1 .1 .0)));
   }
 
   abbrev full : {M : Type 1} (𝓤 : URA M) → Clauses 𝓤 value.ended
   full 𝓤 κs a = record {
     ghost = Unit {0};
     requires = λ _. emp 𝓤;
-    ensures = λ _ r e. fact 𝓤 ((r ≡ ans (a .0) (a .1 .0) (now (a .1 .1 .0)) (now (a .1 .1 .1 .0))) × (now (e .1 .1 .1 .0) ≡ wri (a .0) (a .1 .0) (now (a .1 .1 .0)) (now (a .1 .1 .1 .0))));
+    ensures = λ _ r e. fact 𝓤 (Leaves (ans (a .0) (a .1 .0) (now (a .1 .1 .0)) (now (a .1 .1 .1 .0))) (wri (a .0) (a .1 .0) (now (a .1 .1 .0)) (now (a .1 .1 .1 .0))) r (now (e .1 .1 .1 .0)));
   }
 
   abbrev stayed : Stays (argument.ended .signature .params) (argument.ended .kept)
@@ -136,24 +138,24 @@ module _ (f : Name) (ans : Call → What → List ℕ → List ℕ → Answered)
         owned ! T.the-row (Is T.the-row) (LL.makes T.the-type T′.the-plain 𝓤 H A) h _ g $ fjoin ! $ move ! (1 ∷ 0 ∷ []) $ join ! $ frame ! $ done !
 
     -- what the value form ensures of its answer and of the buffer's last list
-    abbrev Said : Answered → List ℕ → Type 0
-    Said r zs = (r ≡ ans h n (ws .now) (ss .now)) × (zs ≡ wri h n (ws .now) (ss .now))
+    abbrev Said : Answer → List ℕ → Type 0
+    Said r zs = Leaves (ans h n (ws .now) (ss .now)) (wri h n (ws .now) (ss .now)) r zs
 
-    exits : (r : Answered) (zs : List ℕ) → Said r zs → length zs ≡ length (ss .now) → Is O.the-row (r .outcome) (LL.vals O.the-type O′.the-laws (r .outcome))
+    exits : (r : Answer) (zs : List ℕ) → Said r zs → length zs ≡ length (ss .now) → Is O.the-row (r .outcome) (LL.vals O.the-type O′.the-laws (r .outcome))
         → ent 𝓤 (⋆ 𝓤 H A (‵ (fobs γ (T.the-row .coded .code (r .next))) ∷ ‵ (fbor κ (Body (mem T.the-row) b o γ)) ∷ ‵ (flft κ q) ∷ tokens ∷ ‵ Words ∷ ‵ (finally u64 (ss .name) zs) ∷ [])) (Post (LL.val O.the-type O′.the-laws (r .outcome)))
     exits r zs e l is =
         qed W (‵ (fobs γ (T.the-row .coded .code (r .next))) ∷ ‵ (fbor κ (Body (mem T.the-row) b o γ)) ∷ ‵ (flft κ q) ∷ tokens ∷ ‵ Words ∷ ‵ (finally u64 (ss .name) zs) ∷ []) ∵
         suffices ! _ (ends-at 𝓤 H A argument.ended stayed (thin 𝓤) W (((κ, (κ₁, (κ₂, tt))), (q, (q₁, (q₂, tt))), tt, a, vals), tt) (LL.val O.the-type O′.the-laws (r .outcome)) (r .outcome) (r .next, (tt, (tt, (zs, tt)))) (tt, (tt, (tt, (l, tt))))) $
-        says ! (ap (λ (x : Answered). x .outcome) (e .0), ap (λ (x : Answered). x .next) (e .0), e .1) $ move ! (2 ∷ 3 ∷ []) $ join ! $ frame ! $
+        says ! (record { outcome = ap (λ (x : Answer). x .outcome) (e .answers); call = ap (λ (x : Answer). x .next) (e .answers); writes = e .writes }) $ move ! (2 ∷ 3 ∷ []) $ join ! $ frame ! $
         nothing ! $ move ! (4 ∷ 0 ∷ []) $ fjoin ! $ move ! (3 ∷ 0 ∷ []) $ fjoin ! $ owned ! K.the-row (Is K.the-row) (LL.makes K.the-type K′.the-plain 𝓤 H A) n _ n-is $ fjoin ! $
         move ! (1 ∷ 2 ∷ []) $ feqI ! (List Val) (vptr b o ∷ []) (vptr b o ∷ []) refl $ fjoin3 ! $ fjoin ! $
         owned ! O.the-row (Is O.the-row) (LL.makes O.the-type O′.the-plain 𝓤 H A) (r .outcome) _ is $ move ! (1 ∷ 0 ∷ []) $ done !
 
     -- what whoever holds an answer knows of its two parts
-    next-is : (r : Answered) (w : Val) → Is N.the-row r (w ∷ []) → Is T.the-row (r .next) (LL.vals T.the-type T′.the-laws (r .next))
+    next-is : (r : Answer) (w : Val) → Is N.the-row r (w ∷ []) → Is T.the-row (r .next) (LL.vals T.the-type T′.the-laws (r .next))
     next-is r w is = LL.owed N.the-type N′.the-laws r _ is .0
 
-    outcome-is : (r : Answered) (w : Val) → Is N.the-row r (w ∷ []) → Is O.the-row (r .outcome) (LL.vals O.the-type O′.the-laws (r .outcome))
+    outcome-is : (r : Answer) (w : Val) → Is N.the-row r (w ∷ []) → Is O.the-row (r .outcome) (LL.vals O.the-type O′.the-laws (r .outcome))
     outcome-is r w is = LL.owed N.the-type N′.the-laws r _ is .1 .0
 
     module _ (C : Calls 𝓤 H) (Λ : Loops 𝓤 H) (fm : FmC 𝓤 H (W .laws) C) (known : Triple 𝓤 (C f) (Value 𝓤 H A)) where
@@ -175,7 +177,7 @@ module _ (f : Name) (ans : Call → What → List ℕ → List ℕ → Answered)
           move ! (9 ∷ 2 ∷ 0 ∷ []) $ use3 W (raw (Value 𝓤 H A .pre to)) (goes g) $
           -- [what it asks; true; what words own; the call's cell; what a Call owns; the open borrow; obs; auth; _8; …]
           calls-at ! fm (Value 𝓤 H A) known to (and-then ! (load ! (from ! (stop !)) (look ! 12 refl)) (and-then ! (load ! (from ! (stop !)) (look ! 20 refl)) (and-then ! (load ! (from ! (stop !)) (look ! 18 refl)) (and-then ! (load ! (from ! (stop !)) (look ! 8 refl)) (no-more !))))) (λ w.
-          use1 W (later (some (λ (r : Answered). (tokens ⊛ ‵ (N.the-row .own r (w ∷ []))) ⊛ raw (ensured 𝓤 H A value.ended (full 𝓤) (κ₁, (κ₂, tt)) (h, (n, (ws, (ss, tt)))) tt r)))) (id⊢ 𝓤 _) $ await ! tt $ pick ! (λ r.
+          use1 W (later (some (λ (r : Answer). (tokens ⊛ ‵ (N.the-row .own r (w ∷ []))) ⊛ raw (ensured 𝓤 H A value.ended (full 𝓤) (κ₁, (κ₂, tt)) (h, (n, (ws, (ss, tt)))) tt r)))) (id⊢ 𝓤 _) $ await ! tt $ pick ! (λ r.
           split ! $ move ! (1 ∷ []) $ use1 W (some (λ (zs : Unit {0} × (Unit {0} × (Unit {0} × (List ℕ × Unit {0})))). ‵ (lasts value.ended (κ₁, (κ₂, tt)) (h, (n, (ws, (ss, tt)))) zs) ⊛ raw (fact 𝓤 (Said r (zs .1 .1 .1 .0))))) (id⊢ 𝓤 _) $ pick ! (λ zs.
           split ! $ move ! (1 ∷ []) $ heard ! (Said r (zs .1 .1 .1 .0)) (λ e. fsplit ! $ drop ! $ fsplit ! $ drop ! $ fsplit ! $ drop ! $ fsplit ! $ fsplit ! $ move ! (1 ∷ []) $ feqL ! (λ l.
           move ! (2 ∷ []) $ split ! $ move ! (1 ∷ []) $ peeks ! N.the-row (Is N.the-row) (shows 𝓤 H A N.the-row) r (w ∷ []) (λ is.

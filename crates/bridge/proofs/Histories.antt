@@ -1,4 +1,4 @@
--- A history through the forms over a lent call is one of the value form: the same outcomes, in numbers, and the same call after each operation.
+-- A history through the forms over a lent call is one of the value form: the same outcomes, and the same call after each operation.
 -- So the ledger (REFERENCE 10) holds of it. Assumes nothing.
 use Prim.Native.Nat.{ℕ, _<_}
 use mathlib.Core.Path.{_≡_, refl, ap, sym, _∙_}
@@ -15,8 +15,7 @@ use Rattle.ledger.specs.Ledger.{answerOf, answersFrom, history, Ledger}
 use Rattle.ledger.specs.Performed.{Started}
 use Rattle.ledger.proofs.Ledger.{ledger}
 use Rattle.bridge.specs.declared.What.{What}
-use Rattle.bridge.specs.declared.Answered.{Answered}
-use Rattle.bridge.specs.Lent.{argOf, outcomeIn, lent}
+use Rattle.bridge.specs.Lent.{argOf}
 use Rattle.bridge.proofs.barkpaddle_bridge_variadic as on-mark
 use Rattle.bridge.proofs.barkpaddle_bridge_argument as on-value
 use Rattle.bridge.proofs.Promised.{Marks, Returns, Passes, PassesAfterDots}
@@ -39,7 +38,7 @@ operationOf (after-dots what words out) = values.after-dots (argOf what) words o
 
 -- what one leaves: the call that stands behind the reference afterwards, and the outcome
 abbrev pub After : Type 0
-After = Answered
+After = Answer
 
 -- one that asks about a value, by its form's promise: `c` stands behind the call's reference before, and afterwards the call of `x`, whose outcome
 -- is the answer
@@ -66,19 +65,19 @@ AllLent c (op ∷ ops) (x ∷ past) = Lends c op x × AllLent (x .next) ops past
 
 -- ---- why it holds
 
-both-parts : (x : After) (a : Answer) → x .next ≡ a .next → x .outcome ≡ outcomeIn (a .outcome) → x ≡ lent a
+both-parts : (x : After) (a : Answer) → x .next ≡ a .next → x .outcome ≡ a .outcome → x ≡ a
 both-parts x a n o = rw (← n, ← o)
 
-lends-is : (c : Call) (op : Operation) (x : After) → Lends c op x → x ≡ lent (answerOf (operationOf op) c)
+lends-is : (c : Call) (op : Operation) (x : After) → Lends c op x → x ≡ answerOf (operationOf op) c
 lends-is c mark x p = both-parts x (answerOf values.mark c) (rw (← p .3) (sym (p .4) ∙ p .5 .1)) (rw (← p .3) (p .5 .0))
 lends-is c (return what words out) x p =
-    both-parts x (answerOf (values.return (argOf what) words out) c) (rw (← p .5, ← p .6, ← p .7) (sym (p .8) ∙ p .9 .1)) (rw (← p .5, ← p .6, ← p .7) (p .9 .0))
+    both-parts x (answerOf (values.return (argOf what) words out) c) (rw (← p .5, ← p .6, ← p .7) (sym (p .8) ∙ p .9 .call)) (rw (← p .5, ← p .6, ← p .7) (p .9 .outcome))
 lends-is c (argument what words out) x p =
-    both-parts x (answerOf (values.argument (argOf what) words out) c) (rw (← p .5, ← p .6, ← p .7) (sym (p .8) ∙ p .9 .1)) (rw (← p .5, ← p .6, ← p .7) (p .9 .0))
+    both-parts x (answerOf (values.argument (argOf what) words out) c) (rw (← p .5, ← p .6, ← p .7) (sym (p .8) ∙ p .9 .call)) (rw (← p .5, ← p .6, ← p .7) (p .9 .outcome))
 lends-is c (after-dots what words out) x p =
-    both-parts x (answerOf (values.after-dots (argOf what) words out) c) (rw (← p .5, ← p .6, ← p .7) (sym (p .8) ∙ p .9 .1)) (rw (← p .5, ← p .6, ← p .7) (p .9 .0))
+    both-parts x (answerOf (values.after-dots (argOf what) words out) c) (rw (← p .5, ← p .6, ← p .7) (sym (p .8) ∙ p .9 .call)) (rw (← p .5, ← p .6, ← p .7) (p .9 .outcome))
 
-all-lent-are : (c : Call) (ops : List Operation) (past : List After) → AllLent c ops past → past ≡ map lent (answersFrom c (map operationOf ops))
+all-lent-are : (c : Call) (ops : List Operation) (past : List After) → AllLent c ops past → past ≡ answersFrom c (map operationOf ops)
 unfolding answersFrom
 all-lent-are c [] [] p = refl
 all-lent-are c [] (x ∷ past) p = absurd p
@@ -95,6 +94,6 @@ started-is d a p = p .1 .1
 -- a history of the value form, and its ledger holds after any number of them
 pub ledger-lent : (d : ℕ) → d < descriptions → (first : Answer) → Started d first → (ops : List Operation) (past : List After)
     → AllLent (first .next) ops past
-    → (past ≡ map lent (history d (map operationOf ops))) × ((n : ℕ) → Ledger d (take n (history d (map operationOf ops))))
+    → (past ≡ history d (map operationOf ops)) × ((n : ℕ) → Ledger d (take n (history d (map operationOf ops))))
 ledger-lent d known first s ops past p =
-    (all-lent-are (first .next) ops past p ∙ ap (λ (a : Answer). map lent (answersFrom (a .next) (map operationOf ops))) (started-is d first s), λ n. ledger d known (map operationOf ops) n)
+    (all-lent-are (first .next) ops past p ∙ ap (λ (a : Answer). answersFrom (a .next) (map operationOf ops)) (started-is d first s), λ n. ledger d known (map operationOf ops) n)

@@ -1,4 +1,4 @@
--- The argument that a question stands for, one law for each form, and an answer in numbers. Assumes nothing.
+-- The argument that a question stands for, one law for each form, and what a method leaves where it is asked so. Assumes nothing.
 use mathlib.Core.Path.{_≡_}
 use mathlib.Core.List.{List}
 use borrow.Author.Tests.{eq-eqb, ne-eqb}
@@ -6,13 +6,12 @@ use Prim.Native.Nat.{ℕ}
 use Rattle.shape.specs.declared.Arg as args
 use Rattle.shape.specs.declared.Arg.the-variants.{Void, Scalar, Aggregate}
 use Rattle.shape.specs.declared.Shape.{Shape}
-use Rattle.spend.specs.Ways.{wayNumber}
 use Rattle.classify.specs.declared.Call.{Call}
 use Rattle.classify.specs.declared.Answer.{Answer}
+use Rattle.classify.specs.Answers.{Leaves}
 use Rattle.numbers.specs.Numbers.{shapeFrom}
 use Rattle.bridge.specs.declared.What.{What}
-use Rattle.bridge.specs.declared.Answered.{Answered}
-use Rattle.bridge.specs.Lent.{argOf, lent}
+use Rattle.bridge.specs.Lent.{argOf}
 
 module _ (w : What) where
   pub of-void : w .form ≡ 0 → Void ≡ argOf w
@@ -33,32 +32,8 @@ module _ (w : What) where
       unfolding argOf
       of-unknown h = rw (ne-eqb (w .form) 0 h0, ne-eqb (w .form) 1 h1, ne-eqb (w .form) 2 h)
 
-pub in-numbers : (a : Answer) (n : ℕ) → n ≡ wayNumber (a .outcome .way)
-    → _≡_ {A = Answered}
-    (record {
-      next = a .next;
-      outcome = record {
-        refusal = a .outcome .refusal;
-        way = n;
-        «integers_passed» = a .outcome .spent .«integers_passed»;
-        «integers_given» = a .outcome .spent .«integers_given»;
-        «floats_passed» = a .outcome .spent .«floats_passed»;
-        «floats_given» = a .outcome .spent .«floats_given»;
-        slots = a .outcome .slots;
-      };
-    })
-    (lent a)
-in-numbers a n h = rw h
-
--- An operation on a call and what is asked, from what the method behind it answers and writes. The premises stand in the order in which a search
--- finds them.
-pub told-of : (f : Call → args.Arg → List ℕ → List ℕ → Answer) (r : Answered) (a : Answer) → r ≡ lent a
-    → (k : Call) (w : What) (v : args.Arg) (words out : List ℕ) → a ≡ f k v words out → v ≡ argOf w → r ≡ lent (f k (argOf w) words out)
-told-of f r a er k w v words out ea ev = rw (er, ea, ev)
-
-pub written-of : (f : Call → args.Arg → List ℕ → List ℕ → List ℕ) (after : List ℕ) (k : Call) (w : What) (v : args.Arg) (words out : List ℕ)
-    → after ≡ f k v words out → v ≡ argOf w → after ≡ f k (argOf w) words out
-written-of f after k w v words out e ev = rw (e, ev)
-
-pub marked-of : (f : Call → Answer) (r : Answered) (a : Answer) → r ≡ lent a → (k : Call) → a ≡ f k → r ≡ lent (f k)
-marked-of f r a er k ea = rw (er, ea)
+-- An operation on a call and what is asked, from what the method behind it leaves.
+module _ (answer : Call → args.Arg → List ℕ → List ℕ → Answer) (written : Call → args.Arg → List ℕ → List ℕ → List ℕ) where
+  pub asked : (r : Answer) (after : List ℕ) (k : Call) (w : What) (v : args.Arg) (words out : List ℕ) → Leaves (answer k v words out) (written k v words out) r after
+      → v ≡ argOf w → Leaves (answer k (argOf w) words out) (written k (argOf w) words out) r after
+  asked r after k w v words out e ev = rw (← ev) e

@@ -18,9 +18,9 @@ use borrow.Fn.World.{ArgsD}
 use Rattle.shape.specs.declared.Arg.{Arg}
 use Rattle.classify.specs.declared.Call.{Call}
 use Rattle.classify.specs.declared.Answer.{Answer}
+use Rattle.classify.specs.declared.Outcome.{Outcome}
 use Rattle.classify.specs.Answers.{variadicAnswer, returnsAnswer, returnsWritten, argumentAnswer, argumentWritten, dotsAnswer, dotsWritten}
-use Rattle.bridge.specs.declared.Outcome.{Outcome}
-use Rattle.bridge.specs.Lent.{argOf, outcomeIn}
+use Rattle.bridge.specs.Lent.{argOf, Lends}
 use Rattle.bridge.proofs.barkpaddle_bridge_variadic as variadic
 use Rattle.bridge.proofs.barkpaddle_bridge_returns as returns
 use Rattle.bridge.proofs.barkpaddle_bridge_argument as argument
@@ -28,15 +28,14 @@ use Rattle.bridge.proofs.barkpaddle_bridge_variadic_argument as dots
 
 -- of the mark: the outcome, and the call that stands behind the reference at exit
 abbrev pub Marks : (κs : Lfts 1) → ArgsD variadic.signature κs → Outcome → AtExit variadic.ended κs → Type 0
-Marks κs a r e = (r ≡ outcomeIn (variadicAnswer (now (a .0)) .outcome)) × (now (e .0) ≡ variadicAnswer (now (a .0)) .next)
+Marks κs a r e = (r ≡ variadicAnswer (now (a .0)) .outcome) × (now (e .0) ≡ variadicAnswer (now (a .0)) .next)
 
 -- of an operation on a value, by its two definitions: the outcome, the call at exit, and the words in the slot buffer at exit
 abbrev pub Asks : (Call → Arg → List ℕ → List ℕ → Answer) → (Call → Arg → List ℕ → List ℕ → List ℕ)
     → (κs : Lfts 3) → ArgsD argument.signature κs → Outcome → AtExit argument.ended κs → Type 0
 Asks answer written κs a r e =
-    (r ≡ outcomeIn (answer (now (a .0)) (argOf (a .1 .0)) (now (a .1 .1 .0)) (now (a .1 .1 .1 .0)) .outcome))
-    × (now (e .0) ≡ answer (now (a .0)) (argOf (a .1 .0)) (now (a .1 .1 .0)) (now (a .1 .1 .1 .0)) .next)
-    × (now (e .1 .1 .1 .0) ≡ written (now (a .0)) (argOf (a .1 .0)) (now (a .1 .1 .0)) (now (a .1 .1 .1 .0)))
+    Lends (answer (now (a .0)) (argOf (a .1 .0)) (now (a .1 .1 .0)) (now (a .1 .1 .1 .0)))
+    (written (now (a .0)) (argOf (a .1 .0)) (now (a .1 .1 .0)) (now (a .1 .1 .1 .0))) r (now (e .0)) (now (e .1 .1 .1 .0))
 
 abbrev pub Returns : (κs : Lfts 3) → ArgsD argument.signature κs → Outcome → AtExit argument.ended κs → Type 0
 Returns = Asks returnsAnswer returnsWritten

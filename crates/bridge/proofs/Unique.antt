@@ -13,28 +13,28 @@ variadic-call : (κs : Lfts 1) → OneExit (Marks κs) (λ s. now (s .0))
 variadic-call κs a r q s t p p′ = p .1 ∙ sym (p′ .1)
 
 returns-decides : (κs : Lfts 3) → OneAnswer (Returns κs)
-returns-decides κs a r q s t p p′ = p .0 ∙ sym (p′ .0)
+returns-decides κs a r q s t p p′ = p .outcome ∙ sym (p′ .outcome)
 
 returns-call : (κs : Lfts 3) → OneExit (Returns κs) (λ s. now (s .0))
-returns-call κs a r q s t p p′ = p .1 ∙ sym (p′ .1)
+returns-call κs a r q s t p p′ = p .call ∙ sym (p′ .call)
 
 returns-words : (κs : Lfts 3) → OneExit (Returns κs) (λ s. now (s .1 .1 .1 .0))
-returns-words κs a r q s t p p′ = p .2 ∙ sym (p′ .2)
+returns-words κs a r q s t p p′ = p .writes ∙ sym (p′ .writes)
 
 argument-decides : (κs : Lfts 3) → OneAnswer (Passes κs)
-argument-decides κs a r q s t p p′ = p .0 ∙ sym (p′ .0)
+argument-decides κs a r q s t p p′ = p .outcome ∙ sym (p′ .outcome)
 
 argument-call : (κs : Lfts 3) → OneExit (Passes κs) (λ s. now (s .0))
-argument-call κs a r q s t p p′ = p .1 ∙ sym (p′ .1)
+argument-call κs a r q s t p p′ = p .call ∙ sym (p′ .call)
 
 argument-words : (κs : Lfts 3) → OneExit (Passes κs) (λ s. now (s .1 .1 .1 .0))
-argument-words κs a r q s t p p′ = p .2 ∙ sym (p′ .2)
+argument-words κs a r q s t p p′ = p .writes ∙ sym (p′ .writes)
 
 variadic-argument-decides : (κs : Lfts 3) → OneAnswer (PassesAfterDots κs)
-variadic-argument-decides κs a r q s t p p′ = p .0 ∙ sym (p′ .0)
+variadic-argument-decides κs a r q s t p p′ = p .outcome ∙ sym (p′ .outcome)
 
 variadic-argument-call : (κs : Lfts 3) → OneExit (PassesAfterDots κs) (λ s. now (s .0))
-variadic-argument-call κs a r q s t p p′ = p .1 ∙ sym (p′ .1)
+variadic-argument-call κs a r q s t p p′ = p .call ∙ sym (p′ .call)
 
 variadic-argument-words : (κs : Lfts 3) → OneExit (PassesAfterDots κs) (λ s. now (s .1 .1 .1 .0))
-variadic-argument-words κs a r q s t p p′ = p .2 ∙ sym (p′ .2)
+variadic-argument-words κs a r q s t p p′ = p .writes ∙ sym (p′ .writes)

@@ -1,15 +1,16 @@
--- What a bridge asks and is told, as numbers (REFERENCE 14): the numbers of a question stand for an argument, and an outcome for its numbers.
+-- What a bridge asks, as numbers, and what each form over its lent call leaves (REFERENCE 14).
 use Prim.Native.Nat.{ℕ}
+use mathlib.Core.Path.{_≡_}
+use mathlib.Core.List.{List}
 use mathlib.Core.Bool.{cond}
 use lib.Dec.{eqb}
 use Rattle.shape.specs.declared.Arg.{Arg}
-use Rattle.spend.specs.Ways.{wayNumber}
-use Rattle.classify.specs.declared.Outcome as classified
+use Rattle.classify.specs.declared.Call.{Call}
+use Rattle.classify.specs.declared.Outcome.{Outcome}
 use Rattle.classify.specs.declared.Answer.{Answer}
+use Rattle.classify.specs.Answers.{returnsAnswer, returnsWritten, argumentAnswer, argumentWritten, dotsAnswer, dotsWritten}
 use Rattle.numbers.specs.Numbers as numbers
 use Rattle.bridge.specs.declared.What.{What}
-use Rattle.bridge.specs.declared.Outcome.{Outcome}
-use Rattle.bridge.specs.declared.Answered.{Answered}
 
 -- forms: void, a scalar, an aggregate
 abbrev pub void : ℕ
@@ -33,18 +34,19 @@ argOf w =
     (cond (eqb (w .form) aggregate) (numbers.aggregate (w .size) (w .align) (w .complex) (w .floating))
     (numbers.scalar no-kind 0 0)))
 
--- an outcome in numbers
-abbrev pub outcomeIn : classified.Outcome → Outcome
-outcomeIn o = record {
-  refusal = o .refusal;
-  way = wayNumber (o .way);
-  «integers_passed» = o .spent .«integers_passed»;
-  «integers_given» = o .spent .«integers_given»;
-  «floats_passed» = o .spent .«floats_passed»;
-  «floats_given» = o .spent .«floats_given»;
-  slots = o .slots;
-}
+-- ---- what an operation over a lent call leaves: its outcome, the call behind the reference, and the words of the buffer
 
--- an answer whose outcome is in numbers
-abbrev pub lent : Answer → Answered
-lent a = record { next = a .next; outcome = outcomeIn (a .outcome) }
+pub record Lends (a : Answer) (words : List ℕ) (r : Outcome) (after : Call) (out : List ℕ) : Type 0 where
+  pub outcome : r ≡ a .outcome
+  pub call : after ≡ a .next
+  pub writes : out ≡ words
+
+-- of a call, a question, the words of its pieces and the buffer's words
+abbrev pub LentReturns : Call → What → List ℕ → List ℕ → Outcome → Call → List ℕ → Type 0
+LentReturns c what words out = Lends (returnsAnswer c (argOf what) words out) (returnsWritten c (argOf what) words out)
+
+abbrev pub LentPasses : Call → What → List ℕ → List ℕ → Outcome → Call → List ℕ → Type 0
+LentPasses c what words out = Lends (argumentAnswer c (argOf what) words out) (argumentWritten c (argOf what) words out)
+
+abbrev pub LentPassesAfterDots : Call → What → List ℕ → List ℕ → Outcome → Call → List ℕ → Type 0
+LentPassesAfterDots c what words out = Lends (dotsAnswer c (argOf what) words out) (dotsWritten c (argOf what) words out)

@@ -1,11 +1,13 @@
 // The bridge's forms of a call's operations (docs/REFERENCE.md, 14): the call is lent and updated where it stands, and what is asked and what
 // is answered are numbers. Each form over a lent call is a thin one over a value form, which does all the work.
+use classify::Answer;
 use classify::Call;
+use classify::Outcome;
 use shape::Arg;
 use shape::Scalar;
 ghost use mathlib.Core.Path.{_≡_};
-ghost use Rattle.classify.specs.Answers.{variadicAnswer, returnsAnswer, returnsWritten, argumentAnswer, argumentWritten, dotsAnswer, dotsWritten};
-ghost use Rattle.bridge.specs.Lent.{argOf, outcomeIn, lent};
+ghost use Rattle.classify.specs.Answers.{variadicAnswer, Returns, Passes, PassesAfterDots};
+ghost use Rattle.bridge.specs.Lent.{argOf, LentReturns, LentPasses, LentPassesAfterDots};
 
 // What is asked about: void, a scalar of this kind, size and alignment, or an aggregate of this size and alignment, which is complex and
 // has the floating mode where those aren't 0. An aggregate's pieces stand beside it, as words.
@@ -28,30 +30,12 @@ pub const AGGREGATE: u64 = 2;
 // A kind that no scalar has.
 const NO_KIND: u64 = 5;
 
-// A value form's outcome, in numbers.
-#[repr(C)]
-pub struct Outcome {
-    pub refusal: u64,
-    pub way: u64,
-    pub integers_passed: u64,
-    pub integers_given: u64,
-    pub floats_passed: u64,
-    pub floats_given: u64,
-    pub slots: u64,
-}
-
-// The next call beside the outcome.
-struct Answered {
-    next: Call,
-    outcome: Outcome,
-}
-
 // ---- over a call that is lent
 
 // The same call, to a function whose parameters end in dots.
 #[no_mangle]
 pub extern "C" fn barkpaddle_bridge_variadic(call: &mut Call) -> Outcome
-    ensures { λ r. ⌜ (r ≡ outcomeIn (variadicAnswer (now (call .entry)) .outcome)) × (now (call .exit) ≡ variadicAnswer (now (call .entry)) .next) ⌝ }
+    ensures { λ r. ⌜ (r ≡ variadicAnswer (now (call .entry)) .outcome) × (now (call .exit) ≡ variadicAnswer (now (call .entry)) .next) ⌝ }
 {
     let answer = variadic_of(*call);
     *call = answer.next;
@@ -66,7 +50,7 @@ pub extern "C" fn barkpaddle_bridge_returns(
     words: &[u64],
     slots: &mut [u64],
 ) -> Outcome
-    ensures { λ r. ⌜ (r ≡ outcomeIn (returnsAnswer (now (call .entry)) (argOf what) (now (words .entry)) (now (slots .entry)) .outcome)) × (now (call .exit) ≡ returnsAnswer (now (call .entry)) (argOf what) (now (words .entry)) (now (slots .entry)) .next) × (now (slots .exit) ≡ returnsWritten (now (call .entry)) (argOf what) (now (words .entry)) (now (slots .entry))) ⌝ }
+    ensures { λ r. ⌜ LentReturns (now (call .entry)) what (now (words .entry)) (now (slots .entry)) r (now (call .exit)) (now (slots .exit)) ⌝ }
 {
     let answer = returns_of(*call, what, words, slots);
     *call = answer.next;
@@ -81,7 +65,7 @@ pub extern "C" fn barkpaddle_bridge_argument(
     words: &[u64],
     slots: &mut [u64],
 ) -> Outcome
-    ensures { λ r. ⌜ (r ≡ outcomeIn (argumentAnswer (now (call .entry)) (argOf what) (now (words .entry)) (now (slots .entry)) .outcome)) × (now (call .exit) ≡ argumentAnswer (now (call .entry)) (argOf what) (now (words .entry)) (now (slots .entry)) .next) × (now (slots .exit) ≡ argumentWritten (now (call .entry)) (argOf what) (now (words .entry)) (now (slots .entry))) ⌝ }
+    ensures { λ r. ⌜ LentPasses (now (call .entry)) what (now (words .entry)) (now (slots .entry)) r (now (call .exit)) (now (slots .exit)) ⌝ }
 {
     let answer = argument_of(*call, what, words, slots);
     *call = answer.next;
@@ -96,7 +80,7 @@ pub extern "C" fn barkpaddle_bridge_variadic_argument(
     words: &[u64],
     slots: &mut [u64],
 ) -> Outcome
-    ensures { λ r. ⌜ (r ≡ outcomeIn (dotsAnswer (now (call .entry)) (argOf what) (now (words .entry)) (now (slots .entry)) .outcome)) × (now (call .exit) ≡ dotsAnswer (now (call .entry)) (argOf what) (now (words .entry)) (now (slots .entry)) .next) × (now (slots .exit) ≡ dotsWritten (now (call .entry)) (argOf what) (now (words .entry)) (now (slots .entry))) ⌝ }
+    ensures { λ r. ⌜ LentPassesAfterDots (now (call .entry)) what (now (words .entry)) (now (slots .entry)) r (now (call .exit)) (now (slots .exit)) ⌝ }
 {
     let answer = variadic_argument_of(*call, what, words, slots);
     *call = answer.next;
@@ -105,28 +89,28 @@ pub extern "C" fn barkpaddle_bridge_variadic_argument(
 
 // ---- the value forms
 
-fn variadic_of(call: Call) -> Answered
-    ensures { λ r. ⌜ r ≡ lent (variadicAnswer call) ⌝ }
+fn variadic_of(call: Call) -> Answer
+    ensures { λ r. ⌜ r ≡ variadicAnswer call ⌝ }
 {
-    told(call.variadic())
+    call.variadic()
 }
 
-fn returns_of(call: Call, what: What, words: &[u64], slots: &mut [u64]) -> Answered
-    ensures { λ r. ⌜ (r ≡ lent (returnsAnswer call (argOf what) (now (words .entry)) (now (slots .entry)))) × (now (slots .exit) ≡ returnsWritten call (argOf what) (now (words .entry)) (now (slots .entry))) ⌝ }
+fn returns_of(call: Call, what: What, words: &[u64], slots: &mut [u64]) -> Answer
+    ensures { λ r. ⌜ Returns call (argOf what) (now (words .entry)) (now (slots .entry)) r (now (slots .exit)) ⌝ }
 {
-    told(call.returns(arg_of(what), words, slots))
+    call.returns(arg_of(what), words, slots)
 }
 
-fn argument_of(call: Call, what: What, words: &[u64], slots: &mut [u64]) -> Answered
-    ensures { λ r. ⌜ (r ≡ lent (argumentAnswer call (argOf what) (now (words .entry)) (now (slots .entry)))) × (now (slots .exit) ≡ argumentWritten call (argOf what) (now (words .entry)) (now (slots .entry))) ⌝ }
+fn argument_of(call: Call, what: What, words: &[u64], slots: &mut [u64]) -> Answer
+    ensures { λ r. ⌜ Passes call (argOf what) (now (words .entry)) (now (slots .entry)) r (now (slots .exit)) ⌝ }
 {
-    told(call.argument(arg_of(what), words, slots))
+    call.argument(arg_of(what), words, slots)
 }
 
-fn variadic_argument_of(call: Call, what: What, words: &[u64], slots: &mut [u64]) -> Answered
-    ensures { λ r. ⌜ (r ≡ lent (dotsAnswer call (argOf what) (now (words .entry)) (now (slots .entry)))) × (now (slots .exit) ≡ dotsWritten call (argOf what) (now (words .entry)) (now (slots .entry))) ⌝ }
+fn variadic_argument_of(call: Call, what: What, words: &[u64], slots: &mut [u64]) -> Answer
+    ensures { λ r. ⌜ PassesAfterDots call (argOf what) (now (words .entry)) (now (slots .entry)) r (now (slots .exit)) ⌝ }
 {
-    told(call.variadic_argument(arg_of(what), words, slots))
+    call.variadic_argument(arg_of(what), words, slots)
 }
 
 // A form that isn't known is refused as a scalar of no kind, in the order of the other refusals.
@@ -156,25 +140,4 @@ fn arg_of(what: What) -> Arg
         size: 0,
         align: 0,
     })
-}
-
-fn told(answer: classify::Answer) -> Answered
-    ensures { λ r. ⌜ r ≡ lent answer ⌝ }
-{
-    let next = answer.next;
-    let outcome = answer.outcome;
-    let way = outcome.way;
-    let spent = outcome.spent;
-    Answered {
-        next,
-        outcome: Outcome {
-            refusal: outcome.refusal,
-            way: spend::way_number(way),
-            integers_passed: spent.integers_passed,
-            integers_given: spent.integers_given,
-            floats_passed: spent.floats_passed,
-            floats_given: spent.floats_given,
-            slots: outcome.slots,
-        },
-    }
 }

@@ -1,6 +1,6 @@
 -- The walk of the functions that lend their own copy of a call to a form that asks about a value, and hand back what that leaves:
---     fn f(call: Call, what: What, words: &[u64], slots: &mut [u64]) -> Left
---     { let mut lent = call; let outcome = form(&mut lent, what, words, slots); Left { next: lent, outcome } }
+--     fn f(call: Call, what: What, words: &[u64], slots: &mut [u64]) -> Answer
+--     { let mut lent = call; let outcome = form(&mut lent, what, words, slots); Answer { next: lent, outcome } }
 -- by hand, since the checker covers no reference to a struct, once for every form and the two definitions that its contract names. The copy is lent
 -- for a lifetime that is made for the call and ended after it. Assumes nothing.
 use mathlib.Core.Path.{_≡_, refl, ap, subst}
@@ -43,17 +43,16 @@ use Rattle.shape.specs.declared.Arg.{Arg}
 use Rattle.classify.specs.declared.Call.{Call}
 use Rattle.classify.specs.declared.Answer.{Answer}
 use Rattle.bridge.specs.declared.What.{What}
-use Rattle.bridge.specs.declared.Outcome.{Outcome}
-use Rattle.bridge.specs.Lent.{argOf, outcomeIn}
-use Rattle.bridge_main.specs.declared.Left.{Left}
+use Rattle.classify.specs.declared.Outcome.{Outcome}
+use Rattle.bridge.specs.Lent.{argOf, Lends}
 use Rattle.classify.proofs.Call as T
 use Rattle.classify.proofs.Call.Laws as T′
 use Rattle.bridge.proofs.What as K
 use Rattle.bridge.proofs.What.Laws as K′
-use Rattle.bridge.proofs.Outcome as O
-use Rattle.bridge.proofs.Outcome.Laws as O′
-use Rattle.bridge_main.proofs.Left as N
-use Rattle.bridge_main.proofs.Left.Laws as N′
+use Rattle.classify.proofs.Outcome as O
+use Rattle.classify.proofs.Outcome.Laws as O′
+use Rattle.classify.proofs.Answer as N
+use Rattle.classify.proofs.Answer.Laws as N′
 use Rattle.bridge_main.proofs.Cell.{mach, call-in, call-out}
 use Rattle.bridge.proofs.barkpaddle_bridge_argument as thin
 use Rattle.bridge_main.proofs.argument as argument
@@ -81,14 +80,14 @@ module _ (f : Name) (ans : Call → Arg → List ℕ → List ℕ → Answer) (w
   here 𝓤 κs a = record {
     ghost = Unit {0};
     requires = λ _. emp 𝓤;
-    ensures = λ _ r e. fact 𝓤 ((r .outcome ≡ outcomeIn (ans (a .0) (argOf (a .1 .0)) (now (a .1 .1 .0)) (now (a .1 .1 .1 .0)) .outcome)) × (r .next ≡ ans (a .0) (argOf (a .1 .0)) (now (a .1 .1 .0)) (now (a .1 .1 .1 .0)) .next) × (now (e .1 .1 .1 .0) ≡ wri (a .0) (argOf (a .1 .0)) (now (a .1 .1 .0)) (now (a .1 .1 .1 .0))));
+    ensures = λ _ r e. fact 𝓤 (Lends (ans (a .0) (argOf (a .1 .0)) (now (a .1 .1 .0)) (now (a .1 .1 .1 .0))) (wri (a .0) (argOf (a .1 .0)) (now (a .1 .1 .0)) (now (a .1 .1 .1 .0))) (r .outcome) (r .next) (now (e .1 .1 .1 .0)));
   }
 
   abbrev there : {M : Type 1} (𝓤 : URA M) → Clauses 𝓤 thin.ended
   there 𝓤 κs a = record {
     ghost = Unit {0};
     requires = λ _. emp 𝓤;
-    ensures = λ _ r e. fact 𝓤 ((r ≡ outcomeIn (ans (now (a .0)) (argOf (a .1 .0)) (now (a .1 .1 .0)) (now (a .1 .1 .1 .0)) .outcome)) × (now (e .0) ≡ ans (now (a .0)) (argOf (a .1 .0)) (now (a .1 .1 .0)) (now (a .1 .1 .1 .0)) .next) × (now (e .1 .1 .1 .0) ≡ wri (now (a .0)) (argOf (a .1 .0)) (now (a .1 .1 .0)) (now (a .1 .1 .1 .0))));
+    ensures = λ _ r e. fact 𝓤 (Lends (ans (now (a .0)) (argOf (a .1 .0)) (now (a .1 .1 .0)) (now (a .1 .1 .1 .0))) (wri (now (a .0)) (argOf (a .1 .0)) (now (a .1 .1 .0)) (now (a .1 .1 .1 .0))) r (now (e .0)) (now (e .1 .1 .1 .0)));
   }
 
   abbrev stayed : Stays (argument.ended .signature .params) (argument.ended .kept)
@@ -142,9 +141,9 @@ module _ (f : Name) (ans : Call → Arg → List ℕ → List ℕ → Answer) (w
 
     -- what the form ensures of its outcome, of the call's last value and of the buffer's last list
     abbrev Said : Outcome → Call → List ℕ → Type 0
-    Said r z zs = (r ≡ outcomeIn (ans h (argOf n) (ws .now) (ss .now) .outcome)) × (z ≡ ans h (argOf n) (ws .now) (ss .now) .next) × (zs ≡ wri h (argOf n) (ws .now) (ss .now))
+    Said r z zs = Lends (ans h (argOf n) (ws .now) (ss .now)) (wri h (argOf n) (ws .now) (ss .now)) r z zs
 
-    abbrev left : Call → Outcome → Left
+    abbrev left : Call → Outcome → Answer
     left z r = record { next = z; outcome = r }
 
     left-is : (z : Call) (r : Outcome) → Is T.the-row z (mach z ∷ []) → Is O.the-row r (LL.vals O.the-type O′.the-laws r) → Is N.the-row (left z r) (LL.vals N.the-type N′.the-laws (left z r))

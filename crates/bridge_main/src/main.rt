@@ -1,29 +1,23 @@
 // Performs one long history of operations twice, on a call by value and on a call that is lent, and compares call, outcome and slot buffer after
 // each operation. The history is drawn from a fixed seed: all thirty descriptions, late and repeated marks, and every
 // refusal, which the line that is printed counts.
-use bridge::Outcome;
 use bridge::What;
 use classify::Answer;
 use classify::Call;
+use classify::Outcome;
 use libc::STDOUT_FILENO;
 use shape::Arg;
 use shape::Scalar;
 use shape::Shape;
-use spend::Way;
+use spend::Left;
 ghost use mathlib.Core.Path.{_≡_};
 ghost use Rattle.io.specs.Counts.{Counts};
-ghost use Rattle.classify.specs.Answers.{variadicAnswer, returnsAnswer, returnsWritten, argumentAnswer, argumentWritten, dotsAnswer, dotsWritten};
-ghost use Rattle.bridge.specs.Lent.{argOf, outcomeIn};
+ghost use Rattle.classify.specs.Answers.{variadicAnswer};
+ghost use Rattle.bridge.specs.Lent.{LentReturns, LentPasses, LentPassesAfterDots};
 
 const OPERATIONS: u64 = 60000;
 
 const SEED: u64 = 88172645463325252;
-
-// What one operation leaves.
-struct Left {
-    next: Call,
-    outcome: Outcome,
-}
 
 // The call behind an operation, the seed of the next one, whether the two forms agreed, and which place of the tally it counts in. Where they
 // agreed they left one call.
@@ -91,8 +85,8 @@ fn one(turn: Turn) -> Turn {
     let drawn = draw(turn.seed);
     let call = turn.call;
     let mut words = [0u64; 32];
-    let mut first = [drawn.a; 24];
-    let mut second = [drawn.a; 24];
+    let mut first = [drawn.a; slots::MOST_WORDS];
+    let mut second = [drawn.a; slots::MOST_WORDS];
     fill(&mut words, drawn);
     let n = among(words_of(drawn.c), &words);
     let room = among(room_of(drawn.c), &first);
@@ -147,9 +141,11 @@ fn renewed(call: Call, drawn: Drawn) -> Call {
     if (a >> 20) % 128 == 0 {
         return Call {
             abi: b % 32,
-            integer: (b >> 8) % 12,
-            float: (b >> 16) % 12,
-            integers_only: (b >> 24) % 2 == 1,
+            left: Left {
+                integer: (b >> 8) % 12,
+                float: (b >> 16) % 12,
+                integers_only: (b >> 24) % 2,
+            },
         };
     }
     call
@@ -245,12 +241,12 @@ fn words_of(c: u64) -> u64 {
     n
 }
 
-// How many words the slot buffer has: mostly room for eight slots.
+// How many words the slot buffer has: mostly room for the most slots.
 fn room_of(c: u64) -> u64 {
     if (c >> 40) % 4 == 0 {
-        return (c >> 44) % 25;
+        return (c >> 44) % (slots::MOST_WORDS as u64 + 1);
     }
-    24
+    slots::MOST_WORDS as u64
 }
 
 // So many words, or all where there are fewer.
@@ -336,7 +332,7 @@ fn arg_of(what: What) -> Arg {
 
 // ---- the forms over a lent call
 
-fn lend(op: u64, call: Call, what: What, words: &[u64], slots: &mut [u64]) -> Left {
+fn lend(op: u64, call: Call, what: What, words: &[u64], slots: &mut [u64]) -> Answer {
     if op == 0 {
         return mark(call);
     }
@@ -349,45 +345,45 @@ fn lend(op: u64, call: Call, what: What, words: &[u64], slots: &mut [u64]) -> Le
     after_dots(call, what, words, slots)
 }
 
-fn mark(call: Call) -> Left
-    ensures { λ r. ⌜ (r .outcome ≡ outcomeIn (variadicAnswer call .outcome)) × (r .next ≡ variadicAnswer call .next) ⌝ }
+fn mark(call: Call) -> Answer
+    ensures { λ r. ⌜ (r .outcome ≡ variadicAnswer call .outcome) × (r .next ≡ variadicAnswer call .next) ⌝ }
 {
     let mut lent = call;
     let outcome = bridge::barkpaddle_bridge_variadic(&mut lent);
-    Left {
+    Answer {
         next: lent,
         outcome,
     }
 }
 
-fn returns(call: Call, what: What, words: &[u64], slots: &mut [u64]) -> Left
-    ensures { λ r. ⌜ (r .outcome ≡ outcomeIn (returnsAnswer call (argOf what) (now (words .entry)) (now (slots .entry)) .outcome)) × (r .next ≡ returnsAnswer call (argOf what) (now (words .entry)) (now (slots .entry)) .next) × (now (slots .exit) ≡ returnsWritten call (argOf what) (now (words .entry)) (now (slots .entry))) ⌝ }
+fn returns(call: Call, what: What, words: &[u64], slots: &mut [u64]) -> Answer
+    ensures { λ r. ⌜ LentReturns call what (now (words .entry)) (now (slots .entry)) (r .outcome) (r .next) (now (slots .exit)) ⌝ }
 {
     let mut lent = call;
     let outcome = bridge::barkpaddle_bridge_returns(&mut lent, what, words, slots);
-    Left {
+    Answer {
         next: lent,
         outcome,
     }
 }
 
-fn argument(call: Call, what: What, words: &[u64], slots: &mut [u64]) -> Left
-    ensures { λ r. ⌜ (r .outcome ≡ outcomeIn (argumentAnswer call (argOf what) (now (words .entry)) (now (slots .entry)) .outcome)) × (r .next ≡ argumentAnswer call (argOf what) (now (words .entry)) (now (slots .entry)) .next) × (now (slots .exit) ≡ argumentWritten call (argOf what) (now (words .entry)) (now (slots .entry))) ⌝ }
+fn argument(call: Call, what: What, words: &[u64], slots: &mut [u64]) -> Answer
+    ensures { λ r. ⌜ LentPasses call what (now (words .entry)) (now (slots .entry)) (r .outcome) (r .next) (now (slots .exit)) ⌝ }
 {
     let mut lent = call;
     let outcome = bridge::barkpaddle_bridge_argument(&mut lent, what, words, slots);
-    Left {
+    Answer {
         next: lent,
         outcome,
     }
 }
 
-fn after_dots(call: Call, what: What, words: &[u64], slots: &mut [u64]) -> Left
-    ensures { λ r. ⌜ (r .outcome ≡ outcomeIn (dotsAnswer call (argOf what) (now (words .entry)) (now (slots .entry)) .outcome)) × (r .next ≡ dotsAnswer call (argOf what) (now (words .entry)) (now (slots .entry)) .next) × (now (slots .exit) ≡ dotsWritten call (argOf what) (now (words .entry)) (now (slots .entry))) ⌝ }
+fn after_dots(call: Call, what: What, words: &[u64], slots: &mut [u64]) -> Answer
+    ensures { λ r. ⌜ LentPassesAfterDots call what (now (words .entry)) (now (slots .entry)) (r .outcome) (r .next) (now (slots .exit)) ⌝ }
 {
     let mut lent = call;
     let outcome = bridge::barkpaddle_bridge_variadic_argument(&mut lent, what, words, slots);
-    Left {
+    Answer {
         next: lent,
         outcome,
     }
@@ -395,7 +391,7 @@ fn after_dots(call: Call, what: What, words: &[u64], slots: &mut [u64]) -> Left
 
 // ---- the comparison
 
-fn compared(answer: Answer, left: Left, first: &[u64], second: &[u64], seed: u64) -> Turn {
+fn compared(answer: Answer, left: Answer, first: &[u64], second: &[u64], seed: u64) -> Turn {
     let value = answer.next;
     let lent = left.next;
     let outcome = answer.outcome;
@@ -409,32 +405,24 @@ fn compared(answer: Answer, left: Left, first: &[u64], second: &[u64], seed: u64
 }
 
 fn same_calls(a: Call, b: Call) -> bool {
+    let left = a.left;
+    let other = b.left;
     (a.abi == b.abi)
-        & (a.integer == b.integer)
-        & (a.float == b.float)
-        & ((a.integers_only & b.integers_only) | (!a.integers_only & !b.integers_only))
+        & (left.integer == other.integer)
+        & (left.float == other.float)
+        & (left.integers_only == other.integers_only)
 }
 
-fn same_outcomes(outcome: classify::Outcome, told: Outcome) -> bool {
-    let way = outcome.way;
+fn same_outcomes(outcome: Outcome, told: Outcome) -> bool {
     let spent = outcome.spent;
+    let other = told.spent;
     (outcome.refusal == told.refusal)
-        & (way_number(way) == told.way)
-        & (spent.integers_passed == told.integers_passed)
-        & (spent.integers_given == told.integers_given)
-        & (spent.floats_passed == told.floats_passed)
-        & (spent.floats_given == told.floats_given)
+        & (outcome.way == told.way)
+        & (spent.integers_passed == other.integers_passed)
+        & (spent.integers_given == other.integers_given)
+        & (spent.floats_passed == other.floats_passed)
+        & (spent.floats_given == other.floats_given)
         & (outcome.slots == told.slots)
-}
-
-fn way_number(way: Way) -> u64 {
-    match way {
-        Way::Ignore => 0,
-        Way::Direct => 1,
-        Way::Pieces => 2,
-        Way::Reference => 3,
-        Way::Memory => 4,
-    }
 }
 
 fn same_words(first: &[u64], second: &[u64]) -> bool {

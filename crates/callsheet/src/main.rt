@@ -6,6 +6,9 @@ use sheet::State;
 ghost use Prim.Native.Nat.{_≤_};
 ghost use lib.ListN.{length};
 
+// The records that are held at once. Each has room for a line, so that none of them is left over.
+const RECORDS: usize = 1024;
+
 // What a turn leaves for the next: the state, how many bytes wait, and whether the sheet goes on.
 struct Turn {
     state: State,
@@ -14,10 +17,10 @@ struct Turn {
 }
 
 fn main() {
-    let mut input = [0u8; 49152];
+    let mut input = [0u8; RECORDS * reading::RECORD];
     let mut pieces = [0u64; sheet::PIECES];
-    let mut slots = [0u64; sheet::SLOTS];
-    let mut out = [0u8; 655360];
+    let mut slots = [0u64; slots::MOST_WORDS];
+    let mut out = [0u8; RECORDS * lines::LONGEST];
     run(&mut input, &mut pieces, &mut slots, &mut out);
 }
 

@@ -31,7 +31,8 @@ use Rattle.describe.specs.declared.ReturnPointer.{ReturnPointer}
 use Rattle.describe.specs.declared.ReturnPointer.the-variants.{FirstArgument, FirstArgumentPopped, Dedicated}
 use Rattle.describe.specs.declared.Variadic.{Variadic}
 use Rattle.describe.specs.declared.Variadic.the-variants.{SameAsFixed, AlwaysMemory, BothBanks, IntegersOnly, UnnamedIntegers}
-use Rattle.describe.specs.Description.{Description}
+use Rattle.describe.specs.Description.{Description, termsOf}
+use Rattle.describe.specs.Dots.{dots, dotsOf}
 use Rattle.describe.specs.Questions.{isByReference, returnsByReference}
 use Rattle.spend.specs.declared.Left.{Left}
 use Rattle.spend.specs.declared.Way.{Way}
@@ -39,7 +40,7 @@ use Rattle.spend.specs.declared.Slots.{Slots}
 use Rattle.spend.specs.declared.Decision.{Decision}
 use Rattle.spend.specs.declared.Step as steps
 use Rattle.spend.specs.Ways as made
-use Rattle.spend.specs.Ways.{after, leftAfter}
+use Rattle.spend.specs.Ways.{no-mark, marked, withMark, after, leftAfter}
 use Rattle.spend.specs.Spending as rules
 use Rattle.scalars.specs.Spending as lone
 use Rattle.search.specs.Matches.{matches, sourceOf}
@@ -205,7 +206,7 @@ module _ (arg : args.Arg) (ps : List Piece) (left : Left) where
           by-test (isByReference (D .scalars) (s .size)) _ _ _ _ (λ _. takes-integers reference _ 1 refl refl)
           (λ _. by-test (isFloat (s .kind) && eqb (s .kind) (D .scalars .«in_memory»)) _ _ _ _ (λ _. spends-nothing direct _ refl refl)
           (λ _. by-test ((D .scalars .«wide_integer_in_memory» && eqb (s .kind) integer) && ltb 1 want) _ _ _ _ (λ _. all-passed)
-          (λ _. by-test (left .«integers_only» && isFloat (s .kind)) _ _ _ _
+          (λ _. by-test (marked left && isFloat (s .kind)) _ _ _ _
           (λ _. in-pieces _ (made.cutSlots (s .size) (D .banks .«integer_width»)) _ _ (min want I) 0 refl refl (omega arith))
           (λ _. in-registers s want))))
 
@@ -283,10 +284,10 @@ module _ (D : Description) (returning : Bool) (left : Left) (shape : Shape) (ps 
   Walks p c = Agrees left p (c .decision) (slotsFor c (args.the-variants.Aggregate shape) ps)
 
   step : (rule : Rule) (rest : Passed) (next : Chosen) → Walks rest next → (s : Search) → matches (D .banks) (rule .when) shape ps ≡ s
-      → Walks (rust.tried s D left rule shape returning rest) (spending.decideBy s D returning left rule shape next)
+      → Walks (rust.tried s D left rule shape returning rest) (spending.decideBy s (termsOf D) returning left rule shape next)
   unfolding rust.travel rules.travelOf
   step rule rest next later nothing e = later
-  step rule rest next later (found ss) e = go ((left .«integers_only» && not returning) && ltb 0 (floatsIn ss))
+  step rule rest next later (found ss) e = go ((marked left && not returning) && ltb 0 (floatsIn ss))
     where
       go : (b : Bool)
           → Walks (cond b rest (rust.orElse (rust.travel D left rule ss shape returning) rest))
@@ -298,32 +299,31 @@ module _ (D : Description) (returning : Bool) (left : Left) (shape : Shape) (ps 
           travels (args.the-variants.Aggregate shape) ps left rest next later (rule .when) D (rule .then) (rule .short) shape returning ss
           (sym (source-slots (D .banks) (rule .when) shape ps ss e))
 
-  pub aggregate-agrees : (rules : List Rule) → Walks (rust.apply D left rules shape ps returning) (spending.aggregate D returning left rules shape ps)
+  pub aggregate-agrees : (rules : List Rule) → Walks (rust.apply D left rules shape ps returning) (spending.aggregate (termsOf D) returning left rules shape ps)
   unfolding rust.apply spending.aggregate
   aggregate-agrees [] = spends-nothing (args.the-variants.Aggregate shape) ps left Anything memory _ refl refl
   aggregate-agrees (rule ∷ rules) =
-      step rule (rust.apply D left rules shape ps returning) (spending.aggregate D returning left rules shape ps) (aggregate-agrees rules) _ refl
+      step rule (rust.apply D left rules shape ps returning) (spending.aggregate (termsOf D) returning left rules shape ps) (aggregate-agrees rules) _ refl
 
 -- ---- the operations
 
 pub argument-agrees : (D : Description) (left : Left) (arg : args.Arg) (ps : List Piece)
     → Agrees left (argument D left arg ps) (argumentChoice D left arg ps .decision) (slotsFor (argumentChoice D left arg ps) arg ps)
-unfolding argument argumentChoice
+unfolding argument argumentChoice spending.scalarBy spending.aggregateBy
 argument-agrees D left args.the-variants.Void ps = spends-nothing args.the-variants.Void ps left Anything ignore _ refl refl
 argument-agrees D left (args.the-variants.Scalar s) ps = scalar-argument (args.the-variants.Scalar s) ps left Anything D s
 argument-agrees D left (args.the-variants.Aggregate shape) ps = aggregate-agrees D false left shape ps (D .arguments)
 
 pub returns-agrees : (D : Description) (left : Left) (arg : args.Arg) (ps : List Piece)
     → Agrees left (returns D left arg ps) (returnChoice D left arg ps .decision) (slotsFor (returnChoice D left arg ps) arg ps)
-unfolding returns returnChoice
+unfolding returns returnChoice spending.scalarBy spending.aggregateBy
 returns-agrees D left args.the-variants.Void ps = spends-nothing args.the-variants.Void ps left Anything ignore _ refl refl
 returns-agrees D left (args.the-variants.Scalar s) ps = scalar-return (args.the-variants.Scalar s) ps left Anything D s
 returns-agrees D left (args.the-variants.Aggregate shape) ps = aggregate-agrees D true left shape ps (D .returns)
 
 -- the same pass, where neither side spends
-freely-agrees : (left emptied : Left) (p : Passed) (c : Chosen) (ss : List Slot) → Agrees emptied p (c .decision) ss
-    → Agrees left (passed (p .pass) left) (spending.freely c .decision) ss
-freely-agrees left emptied p c ss a =
+freely-agrees : (left emptied : Left) (p : Passed) (d : Decision) (ss : List Slot) → Agrees emptied p d ss → Agrees left (passed (p .pass) left) (spending.freely d) ss
+freely-agrees left emptied p d ss a =
     record {
       way = a .way;
       slots = a .slots;
@@ -333,20 +333,10 @@ freely-agrees left emptied p c ss a =
       floats = omega arith;
     }
 
-in-memory-agrees : (D : Description) (left : Left) (arg : args.Arg) (ps : List Piece)
-    → Agrees left (rust.inMemoryAlways D left arg ps) (spending.memoryChoice D left arg ps .decision) (slotsFor (spending.memoryChoice D left arg ps) arg ps)
-in-memory-agrees D left args.the-variants.Void ps = spends-nothing args.the-variants.Void ps left Anything ignore _ refl refl
-in-memory-agrees D left (args.the-variants.Scalar s) ps = spends-nothing (args.the-variants.Scalar s) ps left Anything direct _ refl refl
-in-memory-agrees D left (args.the-variants.Aggregate shape) ps =
-    let emptied : Left = leaves 0 0 (left .«integers_only») in
-    freely-agrees left emptied _ (spending.aggregate D false emptied (D .arguments) shape ps) _ (aggregate-agrees D false emptied shape ps (D .arguments))
-
 -- the mark is put back, where it wasn't set
-as-integers-agrees : (D : Description) (left : Left) (arg : args.Arg) (ps : List Piece) → left .«integers_only» ≡ false
-    → Agrees left (rust.asIntegers D left arg ps) (spending.dotsBy UnnamedIntegers D left arg ps .decision)
-    (slotsFor (spending.dotsBy UnnamedIntegers D left arg ps) arg ps)
-as-integers-agrees D left arg ps e =
-    let a = argument-agrees D (leaves (left .integer) (left .float) true) arg ps in
+unmark-agrees : (left : Left) → left .«integers_only» ≡ no-mark → (p : Passed) (d : Decision) (ss : List Slot) → Agrees (withMark left) p d ss
+    → Agrees left (passed (p .pass) (leaves (p .left .integer) (p .left .float) no-mark)) d ss
+unmark-agrees left e p d ss a =
     record {
       way = a .way;
       slots = a .slots;
@@ -356,15 +346,50 @@ as-integers-agrees D left arg ps e =
       floats = a .floats;
     }
 
-pub dots-agrees : (D : Description) (left : Left) (arg : args.Arg) (ps : List Piece) → (D .variadic ≡ UnnamedIntegers → left .«integers_only» ≡ false)
+module _ (D : Description) (left : Left) (arg : args.Arg) (ps : List Piece) where
+  -- the choice after the dots, by what a variadic kind comes to
+  abbrev chosenAfter : Variadic → Chosen
+  chosenAfter v = spending.choice (termsOf D) (D .arguments) false (dotsOf v) left arg ps
+
+  abbrev Dotted : Variadic → Type 0
+  Dotted v = Agrees left (rust.variadicBy v D left arg ps) (chosenAfter v .decision) (slotsFor (chosenAfter v) arg ps)
+
+  as-integers-agrees : left .«integers_only» ≡ no-mark → Dotted UnnamedIntegers
+  unfolding argumentChoice spending.scalarBy spending.aggregateBy
+  as-integers-agrees e = go arg (argument-agrees D (withMark left) arg ps)
+    where
+      go : (x : args.Arg) → Agrees (withMark left) (argument D (withMark left) x ps) (argumentChoice D (withMark left) x ps .decision) (slotsFor (argumentChoice D (withMark left) x ps) x ps)
+          → Agrees left (rust.asIntegers D left x ps) (spending.choice (termsOf D) (D .arguments) false (dotsOf UnnamedIntegers) left x ps .decision)
+          (slotsFor (spending.choice (termsOf D) (D .arguments) false (dotsOf UnnamedIntegers) left x ps) x ps)
+      go args.the-variants.Void a = unmark-agrees left e _ _ _ a
+      go (args.the-variants.Scalar s) a = unmark-agrees left e _ _ _ a
+      go (args.the-variants.Aggregate shape) a = unmark-agrees left e _ _ _ a
+
+-- a kind whose arguments after the dots go as fixed ones do, whether it marks the call or not
+fixed-agrees : (mark : Bool) (D : Description) (left : Left) (arg : args.Arg) (ps : List Piece)
+    → Agrees left (argument D left arg ps) (spending.choice (termsOf D) (D .arguments) false (dots mark false false) left arg ps .decision)
+    (slotsFor (spending.choice (termsOf D) (D .arguments) false (dots mark false false) left arg ps) arg ps)
+unfolding argumentChoice spending.scalarBy spending.aggregateBy
+fixed-agrees mark D left args.the-variants.Void ps = argument-agrees D left args.the-variants.Void ps
+fixed-agrees mark D left (args.the-variants.Scalar s) ps = argument-agrees D left (args.the-variants.Scalar s) ps
+fixed-agrees mark D left (args.the-variants.Aggregate shape) ps = argument-agrees D left (args.the-variants.Aggregate shape) ps
+
+in-memory-agrees : (D : Description) (left : Left) (arg : args.Arg) (ps : List Piece) → Dotted D left arg ps AlwaysMemory
+unfolding spending.scalarBy spending.aggregateBy
+in-memory-agrees D left args.the-variants.Void ps = spends-nothing args.the-variants.Void ps left Anything ignore _ refl refl
+in-memory-agrees D left (args.the-variants.Scalar s) ps = spends-nothing (args.the-variants.Scalar s) ps left Anything direct _ refl refl
+in-memory-agrees D left (args.the-variants.Aggregate shape) ps =
+    let emptied : Left = leaves 0 0 (left .«integers_only») in
+    freely-agrees left emptied _ _ _ (aggregate-agrees D false emptied shape ps (D .arguments))
+
+pub dots-agrees : (D : Description) (left : Left) (arg : args.Arg) (ps : List Piece) → (D .variadic ≡ UnnamedIntegers → left .«integers_only» ≡ no-mark)
     → Agrees left (variadicArgument D left arg ps) (dotsChoice D left arg ps .decision) (slotsFor (dotsChoice D left arg ps) arg ps)
 unfolding variadicArgument dotsChoice
 dots-agrees D left arg ps mark = go (D .variadic) mark
   where
-    go : (v : Variadic) → (v ≡ UnnamedIntegers → left .«integers_only» ≡ false)
-        → Agrees left (rust.variadicBy v D left arg ps) (spending.dotsBy v D left arg ps .decision) (slotsFor (spending.dotsBy v D left arg ps) arg ps)
-    go SameAsFixed h = argument-agrees D left arg ps
+    go : (v : Variadic) → (v ≡ UnnamedIntegers → left .«integers_only» ≡ no-mark) → Dotted D left arg ps v
+    go SameAsFixed h = fixed-agrees false D left arg ps
     go AlwaysMemory h = in-memory-agrees D left arg ps
-    go BothBanks h = argument-agrees D left arg ps
-    go IntegersOnly h = argument-agrees D left arg ps
+    go BothBanks h = fixed-agrees false D left arg ps
+    go IntegersOnly h = fixed-agrees true D left arg ps
     go UnnamedIntegers h = as-integers-agrees D left arg ps (h refl)

@@ -17,7 +17,7 @@ use Rattle.shape.specs.declared.Shape.{Shape}
 use Rattle.shape.specs.Numbers.{integer, single, accepted, most-size}
 use Rattle.shape.specs.Questions.{isFloat, isAllOf}
 use Rattle.shape.specs.Words.{piecesOf}
-use Rattle.checks.proofs.Accepted.{refuse-none, else-none, fits}
+use Rattle.checks.proofs.Accepted.{else-none, fits}
 use Rattle.slots.specs.declared.Slot.{Slot}
 use Rattle.slots.specs.Search.{Search, found, nothing, floatsIn}
 use Rattle.slots.specs.Cut.{ceilDiv, cut}
@@ -32,7 +32,7 @@ use Rattle.describe.specs.declared.Short.{Short}
 use Rattle.describe.specs.declared.Short.the-variants.{Unchanged, Memory, MemoryAndDrain, TryNextRule}
 use Rattle.describe.specs.declared.Variadic.{Variadic}
 use Rattle.describe.specs.declared.Variadic.the-variants.{SameAsFixed, AlwaysMemory, BothBanks, IntegersOnly, UnnamedIntegers}
-use Rattle.describe.specs.Description.{Description}
+use Rattle.describe.specs.Description.{Description, termsOf}
 use Rattle.describe.specs.Questions.{isByReference, returnsByReference}
 use Rattle.describe.proofs.Numbers.{and-left, and-right}
 use Rattle.abis.specs.Abis.{described, descriptions, blank}
@@ -42,13 +42,14 @@ use Rattle.find.proofs.Each.{and-true}
 use Rattle.find.proofs.Finds.{homogeneous-few, pair-few, x87-few, lone-one, mode-slots, complex-slots}
 use Rattle.eightbytes.proofs.Found.{at-most}
 use Rattle.spend.specs.declared.Left.{Left}
+use Rattle.spend.specs.Ways.{marked, withMark}
 use Rattle.spend.specs.Spending.{wantOf}
-use Rattle.search.specs.Matches.{matches}
+use Rattle.search.specs.Matches.{isOneOf, matches}
 use Rattle.classify.specs.declared.Call.{Call}
 use Rattle.classify.specs.Pass.{pieces, slotsOf}
 use Rattle.classify.specs.Classify.{Passed, passed, leaves, lessBoth, isIntegersOnly, scalar, integerCostOf, floatCostOf, shortOf, inRegisters, travelBy, travel, orElse, tried, apply, returnedScalar, returns, argument, inMemoryAlways, variadicBy, variadicArgument}
-use Rattle.classify.specs.Answers as answers
-use Rattle.classify.specs.Answers.{leftOf, isBadCall, callRefusal, argRefusal, refusalOf}
+use Rattle.classify.specs.Answers.{leftRefusal, argRefusal, checked, rowRefusal, refusalBy, refusalOf}
+use Rattle.classify.proofs.Accepted.{sound, call-checked}
 use Rattle.classify.proofs.Sources.{none-found, floats-cut}
 
 abbrev slotCount : Passed → ℕ
@@ -69,7 +70,7 @@ few-cut size width h =
 abbrev fewFound : Test → Bool
 fewFound Anything = true
 fewFound Empty = true
-fewFound (SizeOneOf a b c d) = true
+fewFound (SizeOneOf k a b c d) = true
 fewFound (SizeAtMost limit) = true
 fewFound (Homogeneous limit) = leb limit 8
 fewFound FloatPair = true
@@ -87,7 +88,7 @@ module _ (B : Banks) (shape : Shape) (ps : List Piece) (ss : List Slot) where
   unfolding matches
   few-found Anything t e = no-more (let z : [] ≡ ss = cc in z)
   few-found Empty t e = no-more (none-found _ ss e)
-  few-found (SizeOneOf a b c d) t e = no-more (none-found _ ss e)
+  few-found (SizeOneOf k a b c d) t e = no-more (none-found _ ss e)
   few-found (SizeAtMost limit) t e = no-more (none-found _ ss e)
   few-found (Homogeneous limit) t e = omega (arith, homogeneous-few limit shape ps ss e, leb→le limit 8 t)
   few-found FloatPair t e = omega (arith, pair-few (B .«integer_width») (B .«float_width») ps ss e)
@@ -101,7 +102,7 @@ module _ (B : Banks) (shape : Shape) (ps : List Piece) (ss : List Slot) where
 abbrev sizesUpTo : Test → ℕ → Bool
 sizesUpTo Anything n = false
 sizesUpTo Empty n = false
-sizesUpTo (SizeOneOf a b c d) n = leb a n && (leb b n && (leb c n && leb d n))
+sizesUpTo (SizeOneOf k a b c d) n = leb a n && (leb b n && (leb c n && leb d n))
 sizesUpTo (SizeAtMost limit) n = leb limit n
 sizesUpTo (Homogeneous limit) n = false
 sizesUpTo FloatPair n = false
@@ -120,12 +121,12 @@ unfolding foundIf
 holds true ss ts e = refl
 holds false ss ts e = let z : _≡_ {A = ℕ} 0 1 = cc in absurd (omega arith)
 
-either : (size a n : ℕ) (rest : Bool) → rest || eqb size a ≡ true → a ≤ n → (rest ≡ true → size ≤ n) → size ≤ n
-either size a n rest e h k = go rest (eqb size a) refl refl e
+either : (size a n : ℕ) (counts rest : Bool) → rest || (counts && eqb size a) ≡ true → a ≤ n → (rest ≡ true → size ≤ n) → size ≤ n
+either size a n counts rest e h k = go rest (counts && eqb size a) refl refl e
   where
-    go : (x y : Bool) → rest ≡ x → eqb size a ≡ y → x || y ≡ true → size ≤ n
+    go : (x y : Bool) → rest ≡ x → (counts && eqb size a) ≡ y → x || y ≡ true → size ≤ n
     go true y ex ey t = k ex
-    go false true ex ey t = omega (arith, eqb-true size a ey)
+    go false true ex ey t = omega (arith, eqb-true size a (and-true counts (eqb size a) ey .1))
     go false false ex ey t = let z : _≡_ {A = ℕ} 0 1 = cc in absurd (omega arith)
 
 module _ (B : Banks) (shape : Shape) (ps : List Piece) (ss : List Slot) (n : ℕ) where
@@ -133,7 +134,7 @@ module _ (B : Banks) (shape : Shape) (ps : List Piece) (ss : List Slot) (n : ℕ
   unfolding matches complexFloat
   small Anything t e = absurd t
   small Empty t e = absurd t
-  small (SizeOneOf a b c d) t e =
+  small (SizeOneOf k a b c d) t e =
       let s : ℕ = shape .size in
       let bcd = and-right (leb a n) (leb b n && (leb c n && leb d n)) t in
       let cd = and-right (leb b n) (leb c n && leb d n) bcd in
@@ -141,8 +142,8 @@ module _ (B : Banks) (shape : Shape) (ps : List Piece) (ss : List Slot) (n : ℕ
       let hb : b ≤ n = leb→le b n (and-left (leb b n) (leb c n && leb d n) bcd) in
       let hc : c ≤ n = leb→le c n (and-left (leb c n) (leb d n) cd) in
       let hd : d ≤ n = leb→le d n (and-right (leb c n) (leb d n) cd) in
-      either s d n _ (holds (((eqb s a || eqb s b) || eqb s c) || eqb s d) [] ss e) hd
-      (λ x. either s c n _ x hc (λ y. either s b n _ y hb (λ z. omega (arith, eqb-true s a z))))
+      either s d n (ltb 3 k) _ (holds (isOneOf s k a b c d) [] ss e) hd
+      (λ x. either s c n (ltb 2 k) _ x hc (λ y. either s b n (ltb 1 k) _ y hb (λ z. omega (arith, eqb-true s a (and-true (ltb 0 k) (eqb s a) z .1)))))
   small (SizeAtMost limit) t e = omega (arith, leb→le limit n t, leb-true (shape .size) limit (holds (leb (shape .size) limit) [] ss e))
   small (Homogeneous limit) t e = absurd t
   small FloatPair t e = absurd t
@@ -252,7 +253,7 @@ module _ (D : Description) (left : Left) (shape : Shape) (ps : List Piece) (retu
       → slotCount (tried s D left rule shape returning rest) ≤ 8
   unfolding travel
   tried-few rule rest later t nothing e = later
-  tried-few rule rest later t (found ss) e = go ((left .«integers_only» && not returning) && ltb 0 (floatsIn ss))
+  tried-few rule rest later t (found ss) e = go ((marked left && not returning) && ltb 0 (floatsIn ss))
     where
       go : (b : Bool) → slotCount (cond b rest (orElse (travel D left rule ss shape returning) rest)) ≤ 8
       go true = later
@@ -309,14 +310,14 @@ pick true p q h k = h refl
 pick false p q h k = k
 
 module _ (D : Description) (left : Left) where
-  scalar-few : (s : Scalar) → s .size ≤ most-size → (left .«integers_only» ≡ true → 8 ≤ D .banks .«integer_width») → slotCount (scalar D left s) ≤ 8
+  scalar-few : (s : Scalar) → s .size ≤ most-size → (marked left ≡ true → 8 ≤ D .banks .«integer_width») → slotCount (scalar D left s) ≤ 8
   unfolding scalar
   scalar-few s h wide-enough =
       pick (isByReference (D .scalars) (s .size)) _ _ (λ _. omega arith)
       (pick (isFloat (s .kind) && eqb (s .kind) (D .scalars .«in_memory»)) _ _ (λ _. omega arith)
       (pick ((D .scalars .«wide_integer_in_memory» && eqb (s .kind) integer) && ltb 1 (wantOf (s .size) (D .banks .«integer_width»))) _ _ (λ _. omega arith)
-      (pick (left .«integers_only» && isFloat (s .kind)) _ _
-      (λ e. few-cut (s .size) (D .banks .«integer_width») (omega (arith, wide-enough (and-true (left .«integers_only») (isFloat (s .kind)) e .0))))
+      (pick (marked left && isFloat (s .kind)) _ _
+      (λ e. few-cut (s .size) (D .banks .«integer_width») (omega (arith, wide-enough (and-true (marked left) (isFloat (s .kind)) e .0))))
       (omega arith))))
 
   returned-few : (s : Scalar) → slotCount (returnedScalar D left s) ≤ 8
@@ -324,7 +325,7 @@ module _ (D : Description) (left : Left) where
       pick (not (returnsByReference (D .scalars) (s .size))) _ _ (λ _. omega arith)
       (pick (eqb (s .kind) integer && not (eqb (D .scalars .«wide_integer_returns_in») integer)) _ _ (λ _. omega arith) (omega arith))
 
-  argument-few : T (fewArguments D) → left .integer ≤ D .banks .integer → (left .«integers_only» ≡ true → 8 ≤ D .banks .«integer_width»)
+  argument-few : T (fewArguments D) → left .integer ≤ D .banks .integer → (marked left ≡ true → 8 ≤ D .banks .«integer_width»)
       → (arg : args.Arg) (ps : List Piece) → Small arg → slotCount (argument D left arg ps) ≤ 8
   unfolding argument
   argument-few t fits wide-enough args.the-variants.Void ps h = omega arith
@@ -338,12 +339,12 @@ memory-few D left t (args.the-variants.Aggregate shape) ps =
     apply-few D (leaves 0 0 (left .«integers_only»)) shape ps false (λ _. omega arith) (D .arguments) t
 
 -- a marked call is one whose description marks it
-marked : (only : Bool) (v : Variadic) → only && not (isIntegersOnly v) ≡ false → only ≡ true → marks v ≡ true
-marked only SameAsFixed h e = absurd (let z : true ≡ false = cc in subst T z tt)
-marked only AlwaysMemory h e = absurd (let z : true ≡ false = cc in subst T z tt)
-marked only BothBanks h e = absurd (let z : true ≡ false = cc in subst T z tt)
-marked only IntegersOnly h e = refl
-marked only UnnamedIntegers h e = refl
+marks-it : (only : Bool) (v : Variadic) → only && not (isIntegersOnly v) ≡ false → only ≡ true → marks v ≡ true
+marks-it only SameAsFixed h e = absurd (let z : true ≡ false = cc in subst T z tt)
+marks-it only AlwaysMemory h e = absurd (let z : true ≡ false = cc in subst T z tt)
+marks-it only BothBanks h e = absurd (let z : true ≡ false = cc in subst T z tt)
+marks-it only IntegersOnly h e = refl
+marks-it only UnnamedIntegers h e = refl
 
 -- what comes back, from any call
 pub returns-eight : (d : ℕ) (left : Left) (arg : args.Arg) (ps : List Piece) → length (slotsOf (returns (described d) left arg ps .pass)) ≤ 8
@@ -355,7 +356,7 @@ returns-eight d left (args.the-variants.Aggregate shape) ps =
     (and-left (fewReturns (described d)) (fewArguments (described d) && fewScalars (described d)) (all-few d))
 
 module _ (d : ℕ) (left : Left) (fits : left .integer ≤ described d .banks .integer)
-    (mark : left .«integers_only» && not (isIntegersOnly (described d .variadic)) ≡ false) (arg : args.Arg) (ps : List Piece) (h : Small arg) where
+    (mark : marked left && not (isIntegersOnly (described d .variadic)) ≡ false) (arg : args.Arg) (ps : List Piece) (h : Small arg) where
   rest-few : T (fewArguments (described d) && fewScalars (described d))
   rest-few = and-right (fewReturns (described d)) (fewArguments (described d) && fewScalars (described d)) (all-few d)
 
@@ -368,7 +369,7 @@ module _ (d : ℕ) (left : Left) (fits : left .integer ≤ described d .banks .i
   pub argument-eight : length (slotsOf (argument (described d) left arg ps .pass)) ≤ 8
   argument-eight =
       argument-few (described d) left arguments-few fits
-      (λ e. wide-marked (marked (left .«integers_only») (described d .variadic) mark e)) arg ps h
+      (λ e. wide-marked (marks-it (marked left) (described d .variadic) mark e)) arg ps h
 
   pub dots-eight : length (slotsOf (variadicArgument (described d) left arg ps .pass)) ≤ 8
   unfolding variadicArgument
@@ -380,13 +381,9 @@ module _ (d : ℕ) (left : Left) (fits : left .integer ≤ described d .banks .i
       go BothBanks e = argument-eight
       go IntegersOnly e = argument-eight
       go UnnamedIntegers e =
-          argument-few (described d) (leaves (left .integer) (left .float) true) arguments-few fits (λ _. wide-marked (rw e)) arg ps h
+          argument-few (described d) (withMark left) arguments-few fits (λ _. wide-marked (rw e)) arg ps h
 
 -- ---- an operation that is accepted
-
-either-false : (a b : Bool) → a || b ≡ false → (a ≡ false) × (b ≡ false)
-either-false true b e = absurd (subst T e tt)
-either-false false b e = (refl, e)
 
 small-arg : (arg : args.Arg) (ws : List ℕ) → argRefusal arg ws ≡ accepted → Small arg
 unfolding argRefusal
@@ -395,23 +392,18 @@ small-arg (args.the-variants.Scalar s) ws e = fits s e .size≤
 small-arg (args.the-variants.Aggregate shape) ws e = tt
 
 pub record Eight (c : Call) (arg : args.Arg) (ps : List Piece) : Type 0 where
-  pub returned : length (slotsOf (returns (described (c .abi)) (leftOf c) arg ps .pass)) ≤ 8
-  pub passed-on : length (slotsOf (argument (described (c .abi)) (leftOf c) arg ps .pass)) ≤ 8
-  pub after-dots : length (slotsOf (variadicArgument (described (c .abi)) (leftOf c) arg ps .pass)) ≤ 8
+  pub returned : length (slotsOf (returns (described (c .abi)) (c .left) arg ps .pass)) ≤ 8
+  pub passed-on : length (slotsOf (argument (described (c .abi)) (c .left) arg ps .pass)) ≤ 8
+  pub after-dots : length (slotsOf (variadicArgument (described (c .abi)) (c .left) arg ps .pass)) ≤ 8
 
 pub eight : (c : Call) (arg : args.Arg) (ws : List ℕ) → refusalOf c arg ws ≡ accepted → Eight c arg (piecesOf ws)
-unfolding refusalOf callRefusal
+unfolding refusalOf refusalBy checked
 eight c arg ws e =
     let D : Description = described (c .abi) in
-    let both = else-none (callRefusal c) (argRefusal arg ws) e in
-    let row = refuse-none (leb answers.descriptions (c .abi)) 0 _ (both .0) in
-    let good = refuse-none (isBadCall D c) 1 accepted (row .1) in
-    let counts-mark = either-false _ (c .«integers_only» && not (isIntegersOnly (D .variadic))) (good .0) in
-    let counts = either-false (ltb (D .banks .integer) (c .integer)) (ltb (D .banks .float) (c .float)) (counts-mark .0) in
-    let left-fits : c .integer ≤ D .banks .integer = ltb-false _ _ (counts .0) in
-    let h = small-arg arg ws (both .1) in
+    let s = sound (rowRefusal (c .abi)) D c (call-checked (rowRefusal (c .abi)) D c arg ws e) .1 in
+    let h = small-arg arg ws (else-none (leftRefusal (termsOf D) (c .left)) (argRefusal arg ws) (else-none (rowRefusal (c .abi)) _ e .1) .1) in
     record {
-      returned = returns-eight (c .abi) (leftOf c) arg (piecesOf ws);
-      passed-on = argument-eight (c .abi) (leftOf c) left-fits (counts-mark .1) arg (piecesOf ws) h;
-      after-dots = dots-eight (c .abi) (leftOf c) left-fits (counts-mark .1) arg (piecesOf ws) h;
+      returned = returns-eight (c .abi) (c .left) arg (piecesOf ws);
+      passed-on = argument-eight (c .abi) (c .left) (s .integers) (s .mark-used) arg (piecesOf ws) h;
+      after-dots = dots-eight (c .abi) (c .left) (s .integers) (s .mark-used) arg (piecesOf ws) h;
     }

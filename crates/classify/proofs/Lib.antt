@@ -1,6 +1,7 @@
 pub mod Steps
 pub mod Sources
 pub mod Agree
+pub mod Accepted
 pub mod Ends
 pub mod Walking
 pub mod Operations

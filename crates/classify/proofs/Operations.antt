@@ -1,40 +1,49 @@
 -- The laws of the operations: what decides a value, and from there to the answer and the buffer that are promised. Assumes nothing.
-use Prim.Native.Nat.{ℕ, zero, suc, _-_, _/_, _<_}
+use Prim.Native.Nat.{ℕ, zero, suc, _-_, _/_, _≤_, _<_}
 use mathlib.Core.Path.{_≡_, refl, ap, sym, _∙_}
 use mathlib.Core.List.{List, []}
 use mathlib.Core.Bool.{Bool, true, false, _&&_, _||_, not, cond}
 use native.Mathlib.Omega.{arith}
-use borrow.Author.Tests.{leb-false, ltb-true, le-ltb}
+use borrow.Author.Tests.{le-ltb}
 use lib.Dec.{eqb, leb, ltb}
 use lib.ListN.{length}
 use Rattle.shape.specs.declared.Arg as args
 use Rattle.shape.specs.declared.Scalar.{Scalar}
 use Rattle.shape.specs.declared.Shape.{Shape}
 use Rattle.shape.specs.declared.Piece.{Piece}
-use Rattle.shape.specs.Numbers.{accepted, integer}
+use Rattle.shape.specs.Numbers.{accepted, bad-abi, integer}
 use Rattle.shape.specs.Questions.{isFloat}
 use Rattle.shape.specs.Words.{piecesOf}
 use Rattle.checks.specs.Check.{orElse}
-use Rattle.checks.proofs.Accepted.{refuse-none, else-none}
 use Rattle.slots.specs.Words.{slotSize, written}
-use Rattle.slots.proofs.Words.{written-short}
 use Rattle.describe.specs.declared.Banks.{Banks}
+use Rattle.describe.specs.declared.Dots.{Dots}
+use Rattle.describe.specs.declared.Rule.{Rule}
+use Rattle.describe.specs.declared.Rules.{Rules}
 use Rattle.describe.specs.declared.Scalars.{Scalars}
+use Rattle.describe.specs.declared.Terms.{Terms}
 use Rattle.describe.specs.declared.ReturnPointer.{ReturnPointer}
 use Rattle.describe.specs.declared.ReturnPointer.the-variants.{FirstArgument, FirstArgumentPopped, Dedicated}
 use Rattle.describe.specs.declared.Variadic.{Variadic}
 use Rattle.describe.specs.declared.Variadic.the-variants.{SameAsFixed, AlwaysMemory, BothBanks, IntegersOnly, UnnamedIntegers}
-use Rattle.describe.specs.Description.{Description}
+use Rattle.describe.specs.Description.{Description, termsOf, Ends}
+use Rattle.describe.specs.Dots.{dotsOf, asFixed}
+use Rattle.describe.specs.Row.{packed, listed}
 use Rattle.describe.specs.Questions.{isByReference, returnsByReference}
+use Rattle.abis.specs.declared.Brief.{Brief}
 use Rattle.abis.specs.Abis.{described}
+use Rattle.abis.specs.Brief.{briefOf}
+use Rattle.abis.proofs.Rows.{returns-listed, arguments-listed}
+use Rattle.abis.proofs.Lists.{returns-end, arguments-end}
 use Rattle.spend.specs.declared.Left.{Left}
 use Rattle.spend.specs.declared.Way as ways
 use Rattle.spend.specs.declared.Spent.{Spent}
 use Rattle.spend.specs.declared.Decision.{Decision}
 use Rattle.spend.specs.Ways as made
+use Rattle.spend.specs.Ways.{marked, withMark}
 use Rattle.spend.specs.Spending.{wantOf, byPointer}
 use Rattle.scalars.specs.Spending.{skipOf, integerArgument, inRegisters, scalarArgument, scalarReturn}
-use Rattle.search.specs.Searched.{noSource, noClasses}
+use Rattle.search.specs.Searched.{noClasses}
 use Rattle.writing.specs.Slots.{slotsIn, slotsInScalar}
 use Rattle.writing.proofs.Writing.{nothing-written}
 use Rattle.classify.specs.declared.Call.{Call}
@@ -42,162 +51,96 @@ use Rattle.classify.specs.declared.Answer.{Answer}
 use Rattle.classify.specs.declared.Decided.{Decided}
 use Rattle.classify.specs.Pass as pass
 use Rattle.classify.specs.Classify as rust
-use Rattle.classify.specs.Classify.{Passed, leaves}
+use Rattle.classify.specs.Classify.{Passed}
 use Rattle.classify.specs.Spending as rules
-use Rattle.classify.specs.Answers.{descriptions, leftOf, isBadCall, callRefusal, argRefusal, refusalOf, refused, done, orAnswer, inRoom, answerTo, unlessRefused, writtenTo, voidAnswer, returnsAnswer, returnsWritten, argumentAnswer, argumentWritten, dotsAnswer, dotsWritten}
+use Rattle.classify.specs.Answers.{descriptions, leftRefusal, argRefusal, checked, callRefusalBy, refusalBy, rowRefusal, roomRefusal, refused, done, orAnswer, unlessRefused, answerTo, writtenTo, Leaves, voidAnswerBy, voidAnswer, returnsAnswerBy, returnsWrittenBy, argumentAnswerBy, argumentWrittenBy, dotsAnswerBy, dotsWrittenBy, returnsAnswer, returnsWritten, argumentAnswer, argumentWritten, dotsAnswer, dotsWritten, Returns, Passes, PassesAfterDots}
 use Rattle.classify.specs.Parts as parts
-use Rattle.classify.proofs.Steps.{or-refused}
+use Rattle.classify.proofs.Accepted.{sound, call-checked, unmarked}
+use Rattle.classify.proofs.Steps.{row-there, row-missing, or-refused}
 use Rattle.classify.proofs.Agree.{Agrees, slotsFor, argument-agrees, returns-agrees, dots-agrees}
 
 -- ---- what decides a value
 
-module _ (abi : ℕ) (returning : Bool) (variadic : Variadic) (left : Left) (s : Scalar) (r : Decision) where
-  pub scalar-back : returning ≡ true → (S : Scalars) → S ≡ described abi .scalars → (p : ReturnPointer) → p ≡ described abi .«return_pointer»
-      → r ≡ scalarReturn S p left s → r ≡ parts.scalarBy (described abi) returning variadic left s
-  unfolding parts.scalarBy
-  scalar-back h S eS p ep er = rw (er, eS, ep, h)
+module _ (T : Terms) (returning : Bool) (dots : Dots) (left : Left) (s : Scalar) (r : Decision) where
+  pub scalar-back : returning ≡ true → r ≡ scalarReturn (T .scalars) (T .«return_pointer») left s → r ≡ rules.scalarBy T returning dots left s
+  unfolding rules.scalarBy
+  scalar-back h er = rw (er, h)
 
-  module _ (h : returning ≡ false) (m : Bool) (em : m ≡ parts.isAlwaysMemory variadic) where
-    pub scalar-memory : m ≡ true → r ≡ parts.spendsNothing ways.the-variants.Direct noSource 0 → r ≡ parts.scalarBy (described abi) returning variadic left s
-    unfolding parts.scalarBy
-    scalar-memory z er = rw (er, h, ← em, z)
+  module _ (h : returning ≡ false) where
+    pub scalar-memory : dots .emptied ≡ true → r ≡ made.plain ways.the-variants.Direct made.nothing → r ≡ rules.scalarBy T returning dots left s
+    unfolding rules.scalarBy
+    scalar-memory z er = rw (er, h, z)
 
-    pub scalar-out : m ≡ false → (B : Banks) → B ≡ described abi .banks → (S : Scalars) → S ≡ described abi .scalars
-        → (l : Left) → l ≡ parts.leftFor variadic left → r ≡ scalarArgument B S l s → r ≡ parts.scalarBy (described abi) returning variadic left s
-    unfolding parts.scalarBy
-    scalar-out z B eB S eS l el er = rw (er, eB, eS, el, h, ← em, z)
+    pub scalar-out : dots .emptied ≡ false → (l : Left) → l ≡ rules.leftFor dots left → r ≡ scalarArgument (T .banks) (T .scalars) l s
+        → r ≡ rules.scalarBy T returning dots left s
+    unfolding rules.scalarBy
+    scalar-out z l el er = rw (er, el, h, z)
 
-module _ (abi : ℕ) (returning : Bool) (variadic : Variadic) (left : Left) (shape : Shape) (ps : List Piece)
-    (l : Left) (el : l ≡ parts.leftFor variadic left)
-    (d : Decided) (ed : d ≡ parts.walked (described abi) returning l (parts.rulesOf (described abi) returning) shape ps)
-    (m : Bool) (em : m ≡ parts.isAlwaysMemory variadic) where
-  pub aggregate-memory : m ≡ true → (r : Decided) → r ≡ parts.freelyDecided d → r ≡ parts.aggregateBy (described abi) returning variadic left shape ps
-  unfolding parts.aggregateBy
-  aggregate-memory z r er = rw (er, ed, el, ← em, z)
+module _ (T : Terms) (rules′ : List Rule) (returning : Bool) (dots : Dots) (left : Left) (shape : Shape) (ps : List Piece)
+    (l : Left) (el : l ≡ rules.leftFor dots left) (d : Decided) (ed : d ≡ parts.walked T returning l rules′ shape ps) where
+  pub aggregate-memory : dots .emptied ≡ true → (r : Decided) → r ≡ parts.freelyDecided d → r ≡ parts.aggregateDecided T rules′ returning dots left shape ps
+  unfolding parts.aggregateDecided parts.walked rules.aggregateBy
+  aggregate-memory z r er = rw (er, ed, el, z)
 
-  pub aggregate-out : m ≡ false → d ≡ parts.aggregateBy (described abi) returning variadic left shape ps
-  unfolding parts.aggregateBy
-  aggregate-out z = rw (ed, el, ← em, z)
+  pub aggregate-out : dots .emptied ≡ false → d ≡ parts.aggregateDecided T rules′ returning dots left shape ps
+  unfolding parts.aggregateDecided parts.walked rules.aggregateBy
+  aggregate-out z = rw (ed, el, z)
 
-module _ (variadic : Variadic) (left : Left) where
-  pub left-emptied : variadic ≡ AlwaysMemory → leaves 0 0 (left .«integers_only») ≡ parts.leftFor variadic left
+module _ (dots : Dots) (left : Left) where
+  pub left-emptied : dots .emptied ≡ true → _≡_ {A = Left} (record { integer = 0; float = 0; «integers_only» = left .«integers_only» }) (rules.leftFor dots left)
   left-emptied e = rw e
 
-  pub left-marked : variadic ≡ UnnamedIntegers → leaves (left .integer) (left .float) true ≡ parts.leftFor variadic left
-  left-marked e = rw e
+  module _ (n : dots .emptied ≡ false) where
+    pub left-marked : dots .«integers_only» ≡ true → (r : Left) → r ≡ withMark left → r ≡ rules.leftFor dots left
+    left-marked e r er = rw (er, n, e)
 
--- the choices of Spending.antt
+    pub left-same : dots .«integers_only» ≡ false → left ≡ rules.leftFor dots left
+    left-same e = rw (n, e)
 
-return-choice : (D : Description) (left : Left) (arg : args.Arg) (ps : List Piece)
-    → parts.decideBy D true SameAsFixed left arg ps ≡ parts.decidedBy (rules.returnChoice D left arg ps) arg ps
-unfolding rules.returnChoice parts.scalarBy parts.aggregateBy parts.walked
-return-choice D left args.the-variants.Void ps = refl
-return-choice D left (args.the-variants.Scalar s) ps = refl
-return-choice D left (args.the-variants.Aggregate shape) ps = refl
+pub frees : (d : Decided) (spent : Spent) → spent ≡ made.nothing
+    → _≡_ {A = Decided} (record { decision = record { way = d .decision .way; slots = d .decision .slots; count = d .decision .count; spent = spent }; classes = d .classes }) (parts.freelyDecided d)
+frees d spent e = rw e
 
-dots-choice : (variadic : Variadic) (D : Description) (left : Left) (arg : args.Arg) (ps : List Piece)
-    → parts.decideBy D false variadic left arg ps ≡ parts.decidedBy (rules.dotsBy variadic D left arg ps) arg ps
-unfolding rules.argumentChoice parts.scalarBy parts.aggregateBy parts.walked
-dots-choice SameAsFixed D left args.the-variants.Void ps = refl
-dots-choice SameAsFixed D left (args.the-variants.Scalar s) ps = refl
-dots-choice SameAsFixed D left (args.the-variants.Aggregate shape) ps = refl
-dots-choice BothBanks D left args.the-variants.Void ps = refl
-dots-choice BothBanks D left (args.the-variants.Scalar s) ps = refl
-dots-choice BothBanks D left (args.the-variants.Aggregate shape) ps = refl
-dots-choice IntegersOnly D left args.the-variants.Void ps = refl
-dots-choice IntegersOnly D left (args.the-variants.Scalar s) ps = refl
-dots-choice IntegersOnly D left (args.the-variants.Aggregate shape) ps = refl
-dots-choice UnnamedIntegers D left args.the-variants.Void ps = refl
-dots-choice UnnamedIntegers D left (args.the-variants.Scalar s) ps = refl
-dots-choice UnnamedIntegers D left (args.the-variants.Aggregate shape) ps = refl
-dots-choice AlwaysMemory D left args.the-variants.Void ps = refl
-dots-choice AlwaysMemory D left (args.the-variants.Scalar s) ps = refl
-dots-choice AlwaysMemory D left (args.the-variants.Aggregate shape) ps = refl
+-- ---- what an operation reads of a row
 
--- ---- what an accepted call gives
+module _ (abi : ℕ) (b : Brief) (eb : b ≡ briefOf (described abi)) where
+  pub list-back : (returning : Bool) → returning ≡ true → b .returns ≡ parts.listFor returning b
+  list-back returning h = rw h
 
-or-false : (a b : Bool) → (a || b) ≡ false → b ≡ false
-or-false true b e = absurd (let z : _≡_ {A = ℕ} 0 1 = cc in omega arith)
-or-false false b e = e
+  list-is : (returning : Bool) (list : Rules) → list ≡ parts.listFor returning b → listed list ≡ parts.rulesFor returning (described abi)
+  list-is true list e = rw (e, eb) (returns-listed abi)
+  list-is false list e = rw (e, eb) (arguments-listed abi)
 
-and-not : (a : Bool) → (a && not false) ≡ false → a ≡ false
-and-not true e = e
-and-not false e = refl
-
-module _ (c : Call) (arg : args.Arg) (ws : List ℕ) (n : ℕ) (en : n ≡ refusalOf c arg ws) (z : n ≡ accepted) where
-  good-call : (leb descriptions (c .abi) ≡ false) × (isBadCall (described (c .abi)) c ≡ false)
-  unfolding refusalOf callRefusal
-  good-call =
-      let a = else-none _ _ (sym en ∙ z) in
-      let k = refuse-none (leb descriptions (c .abi)) 0 _ (a .0) in
-      (k .0, refuse-none (isBadCall (described (c .abi)) c) 1 _ (k .1) .0)
-
-  pub known : c .abi < descriptions
-  known = leb-false _ _ (good-call .0)
-
-  unmarked : described (c .abi) .variadic ≡ UnnamedIntegers → c .«integers_only» ≡ false
-  unmarked e =
-      and-not (c .«integers_only»)
-      (or-false (ltb (described (c .abi) .banks .integer) (c .integer) || ltb (described (c .abi) .banks .float) (c .float)) _ (rw e at (good-call .1)))
-
--- ---- from a decision to the answer
-
-module _ (c : Call) (arg : args.Arg) (ws out : List ℕ) (n : ℕ) (en : n ≡ refusalOf c arg ws) (p : Passed) where
-  refused-answer : (spent : Spent) → (n ≡ accepted → ⊥) → (r : Answer) → r ≡ refused c n → r ≡ answerTo c arg ws p spent out
-  unfolding answerTo
-  refused-answer spent h r er = rw (er, ← en) (or-refused n c _ h)
-
-  refused-buffer : (n ≡ accepted → ⊥) → out ≡ writtenTo c arg ws p out
-  unfolding writtenTo
-  refused-buffer h = rw (← en) (same n h)
+  pub list-ends : abi < descriptions → (returning : Bool) (list : Rules) → list ≡ parts.listFor returning b → Ends (listed list)
+  list-ends h returning list e = rw (list-is returning list e) (ends returning)
     where
-      same : (k : ℕ) → (k ≡ accepted → ⊥) → out ≡ unlessRefused k (written (pass.slotsOf (p .pass)) out) out
-      same zero h = absurd (h refl)
-      same (suc k) h = refl
+      ends : (x : Bool) → Ends (parts.rulesFor x (described abi))
+      ends true = returns-end abi h
+      ends false = arguments-end abi h
 
-  module _ (z : n ≡ accepted) (k : rules.Chosen) (agrees : Agrees (leftOf c) p (k .decision) (slotsFor k arg (piecesOf ws))) where
-    accepted-answer : (r : Answer) → r ≡ parts.finished c (k .decision) out → r ≡ answerTo c arg ws p (k .decision .spent) out
-    unfolding answerTo inRoom parts.finished
-    accepted-answer r er = rw (er, ← en, z, agrees .count, agrees .way, agrees .left-is)
+-- ---- a whole operation by terms, from what the code knows
 
-    accepted-buffer : (out′ : List ℕ) → out′ ≡ parts.finishedIn (parts.decidedBy k arg (piecesOf ws)) (piecesOf ws) out → out′ ≡ writtenTo c arg ws p out
-    unfolding writtenTo parts.finishedIn
-    accepted-buffer out′ eo = rw (eo, ← en, z, agrees .slots) (go (ltb (length out / slotSize) (k .decision .count)) refl)
-      where
-        go : (b : Bool) → ltb (length out / slotSize) (k .decision .count) ≡ b
-            → cond b out (written (slotsFor k arg (piecesOf ws)) out) ≡ written (slotsFor k arg (piecesOf ws)) out
-        go true e =
-            let h : length out / slotSize < length (slotsFor k arg (piecesOf ws)) = rw (← agrees .slots, agrees .count) (ltb-true _ _ e) in
-            written-short (slotsFor k arg (piecesOf ws)) out (omega arith)
-        go false e = refl
+kept : (k : ℕ) (new out : List ℕ) → (k ≡ accepted → ⊥) → out ≡ unlessRefused k new out
+kept zero new out h = absurd (h refl)
+kept (suc k) new out h = refl
 
--- ---- the operations
+module _ (T : Terms) (list : List Rule) (returning : Bool) (dots : Dots) (c : Call) (arg : args.Arg) (ws out : List ℕ)
+    (n : ℕ) (en : n ≡ checked T (c .left) arg ws) (r : Answer) where
+  pub by-refused : (n ≡ accepted → ⊥) → r ≡ refused c n → parts.By T list returning dots c arg ws out r out
+  unfolding parts.performed parts.performedIn
+  by-refused h er = record { answers = rw (er, ← en) (or-refused n c _ h); writes = rw (← en) (kept n _ out h) }
 
--- a whole operation, from what the code knows
-module _ (c : Call) (arg : args.Arg) (ws out : List ℕ) (n : ℕ) (en : n ≡ refusalOf c arg ws) where
-  module _ (h : n ≡ accepted → ⊥) (d : Decided) where
-    pub perform-refused : (r : Answer) → r ≡ refused c n → r ≡ parts.performed c d arg ws out
-    unfolding parts.performed
-    perform-refused r er = rw (er, ← en) (or-refused n c _ h)
+  by-done : n ≡ accepted → (after : List ℕ) (d : Decided) → d ≡ parts.decidedFor T list returning dots c arg (piecesOf ws) → parts.Finishes c d (piecesOf ws) out r after
+      → parts.By T list returning dots c arg ws out r after
+  unfolding parts.performed parts.performedIn
+  by-done z after d ed e = record { answers = rw (e .answers, ed, ← en, z); writes = rw (e .writes, ed, ← en, z) }
 
-    pub perform-kept : out ≡ parts.performedIn c d arg ws out
-    unfolding parts.performedIn
-    perform-kept = rw (← en) (kept n h)
-      where
-        kept : (k : ℕ) → (k ≡ accepted → ⊥) → out ≡ unlessRefused k (parts.finishedIn d (piecesOf ws) out) out
-        kept zero z = absurd (z refl)
-        kept (suc k) z = refl
-
-  module _ (z : n ≡ accepted) (returning : Bool) (variadic : Variadic) (left : Left) (el : left ≡ leftOf c) (d : Decided)
-      (ed : d ≡ parts.decideBy (described (c .abi)) returning variadic left arg (piecesOf ws)) (r : Answer) (out′ : List ℕ)
-      (e : (r ≡ parts.finished c (d .decision) out) × (out′ ≡ parts.finishedIn d (piecesOf ws) out)) where
-    pub perform-done : r ≡ parts.performed c (parts.decideBy (described (c .abi)) returning variadic (leftOf c) arg (piecesOf ws)) arg ws out
-    unfolding parts.performed
-    perform-done = rw (e .0, ed, el, ← en, z)
-
-    pub perform-written : out′ ≡ parts.performedIn c (parts.decideBy (described (c .abi)) returning variadic (leftOf c) arg (piecesOf ws)) arg ws out
-    unfolding parts.performedIn
-    perform-written = rw (e .1, ed, el, ← en, z)
+pub aggregate-done : (T : Terms) (list : List Rule) (returning : Bool) (dots : Dots) (c : Call) (shape : Shape) (ws out : List ℕ)
+    (n : ℕ) → n ≡ checked T (c .left) (parts.aggregateArg shape) ws → (r : Answer) → n ≡ accepted → (after : List ℕ) (d : Decided)
+    → d ≡ parts.aggregateDecided T list returning dots (c .left) shape (piecesOf ws) → parts.Finishes c d (piecesOf ws) out r after
+    → parts.By T list returning dots c (parts.aggregateArg shape) ws out r after
+unfolding parts.aggregateDecided
+aggregate-done T list returning dots c shape ws out n en r z after d ed e = by-done T list returning dots c (parts.aggregateArg shape) ws out n en r z after d ed e
 
 -- the slots of a scalar stand in no pieces and no classes
 module _ (cs : List ℕ) (ps : List Piece) where
@@ -235,7 +178,7 @@ module _ (cs : List ℕ) (ps : List Piece) where
       either (isByReference S (s .size)) _ _ (empty _ _)
       (either (isFloat (s .kind) && eqb (s .kind) (S .«in_memory»)) _ _ (empty _ _)
       (either ((S .«wide_integer_in_memory» && eqb (s .kind) integer) && ltb 1 want) _ _ (empty _ _)
-      (either (left .«integers_only» && isFloat (s .kind)) _ _ (record { same = refl }) (registers-alone B S left s want))))
+      (either (marked left && isFloat (s .kind)) _ _ (record { same = refl }) (registers-alone B S left s want))))
 
   pointer-alone : (p : ReturnPointer) (I : ℕ) → Alone (byPointer p I)
   pointer-alone FirstArgument I = empty _ _
@@ -248,101 +191,119 @@ module _ (cs : List ℕ) (ps : List Piece) where
       either (not (returnsByReference S (s .size))) _ _ (empty _ _)
       (either (eqb (s .kind) integer && not (eqb (S .«wide_integer_returns_in») integer)) _ _ (record { same = refl }) (pointer-alone p (left .integer)))
 
-  scalar-alone : (D : Description) (returning : Bool) (variadic : Variadic) (left : Left) (s : Scalar) → Alone (parts.scalarBy D returning variadic left s)
-  unfolding parts.scalarBy
-  scalar-alone D returning variadic left s =
-      either returning _ _ (return-alone (D .scalars) (D .«return_pointer») left s)
-      (either (parts.isAlwaysMemory variadic) _ _ (empty _ _) (argument-alone (D .banks) (D .scalars) (parts.leftFor variadic left) s))
+  scalar-alone : (T : Terms) (returning : Bool) (dots : Dots) (left : Left) (s : Scalar) → Alone (rules.scalarBy T returning dots left s)
+  unfolding rules.scalarBy
+  scalar-alone T returning dots left s =
+      either returning _ _ (return-alone (T .scalars) (T .«return_pointer») left s)
+      (either (dots .emptied) _ _ (empty _ _) (argument-alone (T .banks) (T .scalars) (rules.leftFor dots left) s))
 
   finished-alone : (d : Decision) (out : List ℕ) → Alone d → parts.finishedScalarIn d out ≡ parts.finishedIn (parts.decided d cs) ps out
   unfolding parts.finishedScalarIn parts.finishedIn
   finished-alone d out e = rw (e .same)
 
--- a scalar's operation, from what the code knows
-module _ (c : Call) (s : Scalar) (out : List ℕ) (n : ℕ) (en : n ≡ refusalOf c (parts.scalarArg s) []) (z : n ≡ accepted)
-    (returning : Bool) (variadic : Variadic) (left : Left) (el : left ≡ leftOf c) (d : Decision)
-    (ed : d ≡ parts.scalarBy (described (c .abi)) returning variadic left s) (r : Answer) (out′ : List ℕ)
-    (e : (r ≡ parts.finished c d out) × (out′ ≡ parts.finishedScalarIn d out)) where
-  in-parts : (r ≡ parts.finished c d out) × (out′ ≡ parts.finishedIn (parts.decided d noClasses) [] out)
-  in-parts =
-      (e .0, e .1 ∙ finished-alone noClasses [] d out (rw ed (scalar-alone noClasses [] (described (c .abi)) returning variadic left s)))
+pub scalar-done : (T : Terms) (returning : Bool) (dots : Dots) (c : Call) (s : Scalar) (out : List ℕ)
+    (n : ℕ) → n ≡ checked T (c .left) (parts.scalarArg s) [] → (r : Answer) → n ≡ accepted → (after : List ℕ) (d : Decision)
+    → d ≡ rules.scalarBy T returning dots (c .left) s → parts.FinishesScalar c d out r after
+    → parts.By T [] returning dots c (parts.scalarArg s) [] out r after
+unfolding piecesOf
+scalar-done T returning dots c s out n en r z after d ed e =
+    by-done T [] returning dots c (parts.scalarArg s) [] out n en r z after (parts.decided d noClasses) (rw ed)
+    (record {
+      answers = e .answers;
+      writes = e .writes ∙ finished-alone noClasses [] d out (rw ed (scalar-alone noClasses [] T returning dots (c .left) s));
+    })
 
-  pub scalar-done : r ≡ parts.performed c (parts.decideBy (described (c .abi)) returning variadic (leftOf c) (parts.scalarArg s) []) (parts.scalarArg s) [] out
-  unfolding piecesOf
-  scalar-done = perform-done c (parts.scalarArg s) [] out n en z returning variadic left el (parts.decided d noClasses) (rw ed) r out′ in-parts
+-- ---- on a row
 
-  pub scalar-written : out′ ≡ parts.performedIn c (parts.decideBy (described (c .abi)) returning variadic (leftOf c) (parts.scalarArg s) []) (parts.scalarArg s) [] out
-  unfolding piecesOf
-  scalar-written = perform-written c (parts.scalarArg s) [] out n en z returning variadic left el (parts.decided d noClasses) (rw ed) r out′ in-parts
+module _ (returning after-dots : Bool) (c : Call) (arg : args.Arg) (ws out : List ℕ) (r : Answer) where
+  pub row-refused : descriptions ≤ c .abi → r ≡ refused c bad-abi → parts.OnRow returning after-dots c arg ws out r out
+  unfolding parts.performed parts.performedIn
+  row-refused h er = record { answers = rw (er, row-missing (c .abi) h); writes = rw (row-missing (c .abi) h) }
 
--- and what it comes to, by the rules
-module _ (c : Call) (arg : args.Arg) (ws out : List ℕ) (p : Passed) (k : rules.Chosen)
-    (agrees : refusalOf c arg ws ≡ accepted → Agrees (leftOf c) p (k .decision) (slotsFor k arg (piecesOf ws))) where
-  performed-answer : parts.performed c (parts.decidedBy k arg (piecesOf ws)) arg ws out ≡ answerTo c arg ws p (k .decision .spent) out
-  unfolding parts.performed
-  performed-answer = go (refusalOf c arg ws) refl
+  module _ (h : c .abi < descriptions) (b : Brief) (eb : b ≡ briefOf (described (c .abi))) (dots : Dots) (ed : dots ≡ parts.dotsFor after-dots (b .terms .variadic)) (after : List ℕ) where
+    by-row : (list : List Rule) → list ≡ parts.rulesFor returning (described (c .abi)) → parts.By (b .terms) list returning dots c arg ws out r after
+        → parts.OnRow returning after-dots c arg ws out r after
+    by-row list el e =
+        let ed′ : dots ≡ parts.dotsFor after-dots (described (c .abi) .variadic) = rw eb at ed in
+        let e′ : parts.By (termsOf (described (c .abi))) list returning dots c arg ws out r after = rw eb at e in
+        rw (row-there (c .abi) h, ← ed′, ← el) e′
+
+    pub row-aggregate : (list : Rules) → list ≡ parts.listFor returning b → parts.By (b .terms) (listed list) returning dots c arg ws out r after
+        → parts.OnRow returning after-dots c arg ws out r after
+    row-aggregate list el e = by-row (listed list) (list-is (c .abi) b eb returning list el) e
+
+-- a scalar's rules are no list's
+pub row-scalar : (returning after-dots : Bool) (c : Call) (s : Scalar) (out : List ℕ) (r : Answer) → c .abi < descriptions
+    → (b : Brief) → b ≡ briefOf (described (c .abi)) → (dots : Dots) → dots ≡ parts.dotsFor after-dots (b .terms .variadic) → (after : List ℕ)
+    → parts.By (b .terms) [] returning dots c (parts.scalarArg s) [] out r after
+    → parts.OnRow returning after-dots c (parts.scalarArg s) [] out r after
+unfolding parts.performed parts.performedIn
+row-scalar returning after-dots c s out r h b eb dots ed after e =
+    by-row returning after-dots c (parts.scalarArg s) [] out r h b eb dots ed after (parts.rulesFor returning (described (c .abi))) refl e
+
+-- ---- what decides a value comes to what is promised, where the rules agree with the Rust
+
+module _ (source : ℕ) (D : Description) (c : Call) (arg : args.Arg) (ws out : List ℕ) (p : Passed) (k : rules.Chosen)
+    (agrees : refusalBy source D c arg ws ≡ accepted → Agrees (c .left) p (k .decision) (slotsFor k arg (piecesOf ws))) where
+  abbrev refusal : ℕ
+  refusal = orElse source (checked (termsOf D) (c .left) arg ws)
+
+  answer-is : orAnswer refusal c (parts.finished c (k .decision) out) ≡ answerTo refusal c p (k .decision .spent) out
+  unfolding refusalBy parts.finished answerTo
+  answer-is = go refusal refl
     where
-      go : (n : ℕ) → n ≡ refusalOf c arg ws → orAnswer (refusalOf c arg ws) c (parts.finished c (k .decision) out) ≡ answerTo c arg ws p (k .decision .spent) out
-      go zero e = rw (← e) (accepted-answer c arg ws out zero e p refl k (agrees (sym e)) _ refl)
-      go (suc n) e = rw (← e) (refused-answer c arg ws out (suc n) e p _ (λ (z : suc n ≡ accepted). omega arith) _ refl)
+      go : (n : ℕ) → refusal ≡ n → orAnswer n c (parts.finished c (k .decision) out) ≡ answerTo n c p (k .decision .spent) out
+      go zero e = let a = agrees e in rw (a .count, a .way, a .left-is)
+      go (suc n) e = refl
 
-  performed-buffer : parts.performedIn c (parts.decidedBy k arg (piecesOf ws)) arg ws out ≡ writtenTo c arg ws p out
-  unfolding parts.performedIn
-  performed-buffer = go (refusalOf c arg ws) refl
+  words-are : unlessRefused refusal (parts.finishedIn (parts.decidedBy k arg (piecesOf ws)) (piecesOf ws) out) out ≡ writtenTo refusal p out
+  unfolding refusalBy parts.finishedIn writtenTo
+  words-are = go refusal refl
     where
-      go : (n : ℕ) → n ≡ refusalOf c arg ws
-          → unlessRefused (refusalOf c arg ws) (parts.finishedIn (parts.decidedBy k arg (piecesOf ws)) (piecesOf ws) out) out ≡ writtenTo c arg ws p out
-      go zero e = rw (← e) (accepted-buffer c arg ws out zero e p refl k (agrees (sym e)) _ refl)
-      go (suc n) e = rw (← e) (refused-buffer c arg ws out (suc n) e p (λ (z : suc n ≡ accepted). omega arith))
+      go : (n : ℕ) → refusal ≡ n → unlessRefused n (parts.finishedIn (parts.decidedBy k arg (piecesOf ws)) (piecesOf ws) out) out ≡ writtenTo n p out
+      go zero e = let a = agrees e in rw (a .count, a .slots)
+      go (suc n) e = refl
 
-module _ (c : Call) (arg : args.Arg) (ws out : List ℕ) where
-  abbrev D : Description
-  D = described (c .abi)
+module _ (source : ℕ) (D : Description) (c : Call) (arg : args.Arg) (ws out : List ℕ) (r : Answer) (after : List ℕ) where
+  pub returns-by : Leaves (parts.performed source (termsOf D) (D .returns) true asFixed c arg ws out) (parts.performedIn source (termsOf D) (D .returns) true asFixed c arg ws out) r after
+      → Leaves (returnsAnswerBy source D c arg ws out) (returnsWrittenBy source D c arg ws out) r after
+  unfolding returnsAnswerBy returnsWrittenBy refusalBy rules.returnChoice parts.performed parts.performedIn
+  returns-by e =
+      let k = returns-agrees D (c .left) arg (piecesOf ws) in
+      record { answers = e .answers ∙ answer-is source D c arg ws out _ _ (λ _. k); writes = e .writes ∙ words-are source D c arg ws out _ _ (λ _. k) }
 
-  module _ (r : Answer) (out′ : List ℕ) where
-    module _ (e : (r ≡ parts.performed c (parts.decideBy D true SameAsFixed (leftOf c) arg (piecesOf ws)) arg ws out) × (out′ ≡ parts.performedIn c (parts.decideBy D true SameAsFixed (leftOf c) arg (piecesOf ws)) arg ws out)) where
-      pub returns-answered : r ≡ returnsAnswer c arg ws out
-      unfolding returnsAnswer
-      returns-answered =
-          e .0 ∙ (ap (λ (d : Decided). parts.performed c d arg ws out) (return-choice D (leftOf c) arg (piecesOf ws))
-          ∙ performed-answer c arg ws out _ _ (λ (z : refusalOf c arg ws ≡ accepted). returns-agrees D (leftOf c) arg (piecesOf ws)))
+  pub argument-by : Leaves (parts.performed source (termsOf D) (D .arguments) false asFixed c arg ws out) (parts.performedIn source (termsOf D) (D .arguments) false asFixed c arg ws out) r after
+      → Leaves (argumentAnswerBy source D c arg ws out) (argumentWrittenBy source D c arg ws out) r after
+  unfolding argumentAnswerBy argumentWrittenBy refusalBy rules.argumentChoice parts.performed parts.performedIn
+  argument-by e =
+      let k = argument-agrees D (c .left) arg (piecesOf ws) in
+      record { answers = e .answers ∙ answer-is source D c arg ws out _ _ (λ _. k); writes = e .writes ∙ words-are source D c arg ws out _ _ (λ _. k) }
 
-      pub returns-written : out′ ≡ returnsWritten c arg ws out
-      unfolding returnsWritten
-      returns-written =
-          e .1 ∙ (ap (λ (d : Decided). parts.performedIn c d arg ws out) (return-choice D (leftOf c) arg (piecesOf ws))
-          ∙ performed-buffer c arg ws out _ _ (λ (z : refusalOf c arg ws ≡ accepted). returns-agrees D (leftOf c) arg (piecesOf ws)))
+  agreed : refusalBy source D c arg ws ≡ accepted
+      → Agrees (c .left) (rust.variadicArgument D (c .left) arg (piecesOf ws)) (rules.dotsChoice D (c .left) arg (piecesOf ws) .decision)
+      (slotsFor (rules.dotsChoice D (c .left) arg (piecesOf ws)) arg (piecesOf ws))
+  agreed z = dots-agrees D (c .left) arg (piecesOf ws) (λ e. unmarked D c (sound source D c (call-checked source D c arg ws z) .1) (rw e))
 
-    module _ (e : (r ≡ parts.performed c (parts.decideBy D false SameAsFixed (leftOf c) arg (piecesOf ws)) arg ws out) × (out′ ≡ parts.performedIn c (parts.decideBy D false SameAsFixed (leftOf c) arg (piecesOf ws)) arg ws out)) where
-      pub argument-answered : r ≡ argumentAnswer c arg ws out
-      unfolding argumentAnswer
-      argument-answered =
-          e .0 ∙ (ap (λ (d : Decided). parts.performed c d arg ws out) (dots-choice SameAsFixed D (leftOf c) arg (piecesOf ws))
-          ∙ performed-answer c arg ws out _ _ (λ (z : refusalOf c arg ws ≡ accepted). argument-agrees D (leftOf c) arg (piecesOf ws)))
+  pub dots-by : Leaves (parts.performed source (termsOf D) (D .arguments) false (dotsOf (D .variadic)) c arg ws out) (parts.performedIn source (termsOf D) (D .arguments) false (dotsOf (D .variadic)) c arg ws out) r after
+      → Leaves (dotsAnswerBy source D c arg ws out) (dotsWrittenBy source D c arg ws out) r after
+  unfolding dotsAnswerBy dotsWrittenBy refusalBy rules.dotsChoice parts.performed parts.performedIn
+  dots-by e =
+      record { answers = e .answers ∙ answer-is source D c arg ws out _ _ agreed; writes = e .writes ∙ words-are source D c arg ws out _ _ agreed }
 
-      pub argument-written : out′ ≡ argumentWritten c arg ws out
-      unfolding argumentWritten
-      argument-written =
-          e .1 ∙ (ap (λ (d : Decided). parts.performedIn c d arg ws out) (dots-choice SameAsFixed D (leftOf c) arg (piecesOf ws))
-          ∙ performed-buffer c arg ws out _ _ (λ (z : refusalOf c arg ws ≡ accepted). argument-agrees D (leftOf c) arg (piecesOf ws)))
+-- ---- the operations of a call on a row
 
-    module _ (v : Variadic) (ev : v ≡ D .variadic)
-        (e : (r ≡ parts.performed c (parts.decideBy D false v (leftOf c) arg (piecesOf ws)) arg ws out) × (out′ ≡ parts.performedIn c (parts.decideBy D false v (leftOf c) arg (piecesOf ws)) arg ws out)) where
-      dots-chosen : parts.decideBy D false v (leftOf c) arg (piecesOf ws) ≡ parts.decidedBy (rules.dotsChoice D (leftOf c) arg (piecesOf ws)) arg (piecesOf ws)
-      unfolding rules.dotsChoice
-      dots-chosen = rw ev (dots-choice (D .variadic) D (leftOf c) arg (piecesOf ws))
+module _ (c : Call) (arg : args.Arg) (ws out : List ℕ) (r : Answer) (after : List ℕ) where
+  pub returns-row : parts.OnRow true false c arg ws out r after → Returns c arg ws out r after
+  unfolding returnsAnswer returnsWritten
+  returns-row e = returns-by (rowRefusal (c .abi)) (described (c .abi)) c arg ws out r after e
 
-      pub dots-answered : r ≡ dotsAnswer c arg ws out
-      unfolding dotsAnswer
-      dots-answered =
-          e .0 ∙ (ap (λ (d : Decided). parts.performed c d arg ws out) dots-chosen
-          ∙ performed-answer c arg ws out _ _ (λ (z : refusalOf c arg ws ≡ accepted). dots-agrees D (leftOf c) arg (piecesOf ws) (unmarked c arg ws _ refl z)))
+  pub argument-row : parts.OnRow false false c arg ws out r after → Passes c arg ws out r after
+  unfolding argumentAnswer argumentWritten
+  argument-row e = argument-by (rowRefusal (c .abi)) (described (c .abi)) c arg ws out r after e
 
-      pub dots-written : out′ ≡ dotsWritten c arg ws out
-      unfolding dotsWritten
-      dots-written =
-          e .1 ∙ (ap (λ (d : Decided). parts.performedIn c d arg ws out) dots-chosen
-          ∙ performed-buffer c arg ws out _ _ (λ (z : refusalOf c arg ws ≡ accepted). dots-agrees D (leftOf c) arg (piecesOf ws) (unmarked c arg ws _ refl z)))
+  pub dots-row : parts.OnRow false true c arg ws out r after → PassesAfterDots c arg ws out r after
+  unfolding dotsAnswer dotsWritten
+  dots-row e = dots-by (rowRefusal (c .abi)) (described (c .abi)) c arg ws out r after e
 
 -- ---- the operations, by what is asked about
 
@@ -351,98 +312,68 @@ or-accepted zero = refl
 or-accepted (suc n) = refl
 
 -- void: the call alone is checked, and nothing is spent or written
-module _ (c : Call) (ws out : List ℕ) (returning : Bool) (variadic : Variadic) where
-  void-finished : parts.finished c (rules.ignored .decision) out ≡ done c
-  unfolding parts.finished
-  void-finished =
-      let i : c .integer - 0 - 0 ≡ c .integer = omega arith in
-      let f : c .float - 0 - 0 ≡ c .float = omega arith in
-      rw (le-ltb (length out / slotSize) 0 (omega arith), i, f)
+module _ (source : ℕ) (T : Terms) (list : List Rule) (returning : Bool) (dots : Dots) (c : Call) (ws out : List ℕ) where
+  no-slots : ltb (length out / slotSize) 0 ≡ false
+  no-slots = le-ltb (length out / slotSize) 0 (omega arith)
 
-  void-performed : voidAnswer c ≡ parts.performed c (parts.decideBy (described (c .abi)) returning variadic (leftOf c) args.the-variants.Void (piecesOf ws)) args.the-variants.Void ws out
-  unfolding voidAnswer parts.performed refusalOf argRefusal
-  void-performed = rw (or-accepted, void-finished)
+  void-performed : orAnswer (orElse source (leftRefusal T (c .left))) c (done c) ≡ parts.performed source T list returning dots c args.the-variants.Void ws out
+  unfolding parts.performed parts.finished checked argRefusal
+  void-performed =
+      let i : c .left .integer - 0 - 0 ≡ c .left .integer = omega arith in
+      let f : c .left .float - 0 - 0 ≡ c .left .float = omega arith in
+      rw (or-accepted, no-slots, i, f)
 
-  void-kept : out ≡ parts.performedIn c (parts.decideBy (described (c .abi)) returning variadic (leftOf c) args.the-variants.Void (piecesOf ws)) args.the-variants.Void ws out
-  unfolding parts.performedIn parts.finishedIn slotsIn refusalOf argRefusal
-  void-kept = rw or-accepted (same (callRefusal c))
+  void-kept : out ≡ parts.performedIn source T list returning dots c args.the-variants.Void ws out
+  unfolding parts.performedIn parts.finishedIn slotsIn checked argRefusal
+  void-kept = rw (or-accepted, no-slots) (same (orElse source (leftRefusal T (c .left))))
     where
-      same : (n : ℕ) → out ≡ unlessRefused n (cond (ltb (length out / slotSize) 0) out (written [] out)) out
-      same zero = rw (le-ltb (length out / slotSize) 0 (omega arith)) (nothing-written out)
+      same : (n : ℕ) → out ≡ unlessRefused n (written [] out) out
+      same zero = nothing-written out
       same (suc n) = refl
-
-  abbrev Void-is : (r : Answer) → Type 0
-  Void-is r = (r ≡ parts.performed c (parts.decideBy (described (c .abi)) returning variadic (leftOf c) args.the-variants.Void (piecesOf ws)) args.the-variants.Void ws out) × (out ≡ parts.performedIn c (parts.decideBy (described (c .abi)) returning variadic (leftOf c) args.the-variants.Void (piecesOf ws)) args.the-variants.Void ws out)
-
-  void-is : (r : Answer) → r ≡ voidAnswer c → Void-is r
-  void-is r er = (er ∙ void-performed, void-kept)
-
--- a scalar has no pieces
-wordless-passed : (v : Variadic) (D : Description) (left : Left) (s : Scalar) (ps qs : List Piece)
-    → rust.variadicBy v D left (args.the-variants.Scalar s) ps ≡ rust.variadicBy v D left (args.the-variants.Scalar s) qs
-unfolding rust.argument
-wordless-passed SameAsFixed D left s ps qs = refl
-wordless-passed AlwaysMemory D left s ps qs = refl
-wordless-passed BothBanks D left s ps qs = refl
-wordless-passed IntegersOnly D left s ps qs = refl
-wordless-passed UnnamedIntegers D left s ps qs = refl
-
-wordless-choice : (v : Variadic) (D : Description) (left : Left) (s : Scalar) (ps qs : List Piece)
-    → rules.dotsBy v D left (args.the-variants.Scalar s) ps ≡ rules.dotsBy v D left (args.the-variants.Scalar s) qs
-unfolding rules.argumentChoice
-wordless-choice SameAsFixed D left s ps qs = refl
-wordless-choice AlwaysMemory D left s ps qs = refl
-wordless-choice BothBanks D left s ps qs = refl
-wordless-choice IntegersOnly D left s ps qs = refl
-wordless-choice UnnamedIntegers D left s ps qs = refl
 
 module _ (c : Call) (arg : args.Arg) (ws out : List ℕ) (r : Answer) where
   module _ (e : arg ≡ args.the-variants.Void) (er : r ≡ voidAnswer c) where
-    pub returns-void : (r ≡ returnsAnswer c arg ws out) × (out ≡ returnsWritten c arg ws out)
-    returns-void =
-        let k = void-is c ws out true SameAsFixed r er in
-        rw e (returns-answered c args.the-variants.Void ws out r out k, returns-written c args.the-variants.Void ws out r out k)
+    void-row : (returning after-dots : Bool) → parts.OnRow returning after-dots c args.the-variants.Void ws out r out
+    unfolding voidAnswer voidAnswerBy callRefusalBy
+    void-row returning after-dots = record { answers = er ∙ void-performed _ _ _ returning _ c ws out; writes = void-kept _ _ _ returning _ c ws out }
 
-    pub argument-void : (r ≡ argumentAnswer c arg ws out) × (out ≡ argumentWritten c arg ws out)
-    argument-void =
-        let k = void-is c ws out false SameAsFixed r er in
-        rw e (argument-answered c args.the-variants.Void ws out r out k, argument-written c args.the-variants.Void ws out r out k)
+    pub returns-void : Returns c arg ws out r out
+    returns-void = rw e (returns-row c args.the-variants.Void ws out r out (void-row true false))
 
-    pub dots-void : (r ≡ dotsAnswer c arg ws out) × (out ≡ dotsWritten c arg ws out)
-    dots-void =
-        let k = void-is c ws out false (described (c .abi) .variadic) r er in
-        rw e (dots-answered c args.the-variants.Void ws out r out _ refl k, dots-written c args.the-variants.Void ws out r out _ refl k)
+    pub argument-void : Passes c arg ws out r out
+    argument-void = rw e (argument-row c args.the-variants.Void ws out r out (void-row false false))
 
-  module _ (s : Scalar) (e : arg ≡ args.the-variants.Scalar s) (out′ : List ℕ) where
-    pub returns-scalar : (r ≡ returnsAnswer c (parts.scalarArg s) [] out) × (out′ ≡ returnsWritten c (parts.scalarArg s) [] out)
-        → (r ≡ returnsAnswer c arg ws out) × (out′ ≡ returnsWritten c arg ws out)
-    unfolding returnsAnswer returnsWritten answerTo writtenTo refusalOf argRefusal rust.returns rules.returnChoice
+    pub dots-void : PassesAfterDots c arg ws out r out
+    dots-void = rw e (dots-row c args.the-variants.Void ws out r out (void-row false true))
+
+  -- a scalar has no pieces
+  module _ (s : Scalar) (e : arg ≡ args.the-variants.Scalar s) (after : List ℕ) where
+    pub returns-scalar : Returns c (parts.scalarArg s) [] out r after → Returns c arg ws out r after
+    unfolding returnsAnswer returnsWritten returnsAnswerBy returnsWrittenBy refusalBy checked argRefusal rust.returns rules.returnChoice
     returns-scalar k = rw e k
 
-    pub argument-scalar : (r ≡ argumentAnswer c (parts.scalarArg s) [] out) × (out′ ≡ argumentWritten c (parts.scalarArg s) [] out)
-        → (r ≡ argumentAnswer c arg ws out) × (out′ ≡ argumentWritten c arg ws out)
-    unfolding argumentAnswer argumentWritten answerTo writtenTo refusalOf argRefusal rust.argument rules.argumentChoice
+    pub argument-scalar : Passes c (parts.scalarArg s) [] out r after → Passes c arg ws out r after
+    unfolding argumentAnswer argumentWritten argumentAnswerBy argumentWrittenBy refusalBy checked argRefusal rust.argument rules.argumentChoice
     argument-scalar k = rw e k
 
-    pub dots-scalar : (r ≡ dotsAnswer c (parts.scalarArg s) [] out) × (out′ ≡ dotsWritten c (parts.scalarArg s) [] out)
-        → (r ≡ dotsAnswer c arg ws out) × (out′ ≡ dotsWritten c arg ws out)
-    unfolding dotsAnswer dotsWritten answerTo writtenTo refusalOf argRefusal rust.variadicArgument rules.dotsChoice
-    dots-scalar k =
-        rw (
-          e,
-          wordless-passed (described (c .abi) .variadic) (described (c .abi)) (leftOf c) s (piecesOf ws) (piecesOf []),
-          wordless-choice (described (c .abi) .variadic) (described (c .abi)) (leftOf c) s (piecesOf ws) (piecesOf []),
-        ) k
+    pub dots-scalar : PassesAfterDots c (parts.scalarArg s) [] out r after → PassesAfterDots c arg ws out r after
+    unfolding dotsAnswer dotsWritten dotsAnswerBy dotsWrittenBy refusalBy checked argRefusal rust.argument rust.variadicArgument rules.dotsChoice
+    dots-scalar k = rw (e, wordless (described (c .abi) .variadic) (described (c .abi)) (c .left)) k
+      where
+        wordless : (v : Variadic) (D : Description) (left : Left)
+            → rust.variadicBy v D left (args.the-variants.Scalar s) (piecesOf ws) ≡ rust.variadicBy v D left (args.the-variants.Scalar s) (piecesOf [])
+        wordless SameAsFixed D left = refl
+        wordless AlwaysMemory D left = refl
+        wordless BothBanks D left = refl
+        wordless IntegersOnly D left = refl
+        wordless UnnamedIntegers D left = refl
 
-  module _ (shape : Shape) (e : arg ≡ args.the-variants.Aggregate shape) (out′ : List ℕ) where
-    pub returns-aggregate : (r ≡ returnsAnswer c (parts.aggregateArg shape) ws out) × (out′ ≡ returnsWritten c (parts.aggregateArg shape) ws out)
-        → (r ≡ returnsAnswer c arg ws out) × (out′ ≡ returnsWritten c arg ws out)
+  module _ (shape : Shape) (e : arg ≡ args.the-variants.Aggregate shape) (after : List ℕ) where
+    pub returns-aggregate : Returns c (parts.aggregateArg shape) ws out r after → Returns c arg ws out r after
     returns-aggregate k = rw e k
 
-    pub argument-aggregate : (r ≡ argumentAnswer c (parts.aggregateArg shape) ws out) × (out′ ≡ argumentWritten c (parts.aggregateArg shape) ws out)
-        → (r ≡ argumentAnswer c arg ws out) × (out′ ≡ argumentWritten c arg ws out)
+    pub argument-aggregate : Passes c (parts.aggregateArg shape) ws out r after → Passes c arg ws out r after
     argument-aggregate k = rw e k
 
-    pub dots-aggregate : (r ≡ dotsAnswer c (parts.aggregateArg shape) ws out) × (out′ ≡ dotsWritten c (parts.aggregateArg shape) ws out)
-        → (r ≡ dotsAnswer c arg ws out) × (out′ ≡ dotsWritten c arg ws out)
+    pub dots-aggregate : PassesAfterDots c (parts.aggregateArg shape) ws out r after → PassesAfterDots c arg ws out r after
     dots-aggregate k = rw e k

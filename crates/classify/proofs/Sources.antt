@@ -30,7 +30,7 @@ pub source-slots : (B : Banks) (when : Test) (shape : Shape) (ps : List Piece) (
 unfolding matches slotsIn
 source-slots B Anything shape ps ss e = cc
 source-slots B Empty shape ps ss e = none-found _ ss e
-source-slots B (SizeOneOf a b c d) shape ps ss e = none-found _ ss e
+source-slots B (SizeOneOf k a b c d) shape ps ss e = none-found _ ss e
 source-slots B (SizeAtMost limit) shape ps ss e = none-found _ ss e
 source-slots B (Homogeneous limit) shape ps ss e = sym (homogeneous-slots limit shape ps ss e)
 source-slots B FloatPair shape ps ss e = sym (pair-slots (B .«integer_width») (B .«float_width») ps ss e)

@@ -13,137 +13,160 @@ use Rattle.shape.specs.declared.Shape.{Shape}
 use Rattle.shape.specs.declared.Piece.{Piece}
 use Rattle.shape.specs.Numbers.{accepted, bad-abi, bad-call, no-room}
 use Rattle.shape.specs.Words.{piecesOf}
-use Rattle.checks.specs.Check.{scalarRefusal, shapeRefusal}
+use Rattle.checks.specs.Check.{orElse, scalarRefusal, shapeRefusal}
 use Rattle.checks.proofs.Check.{else-first}
 use Rattle.slots.specs.Words.{slotSize, written}
-use Rattle.describe.specs.declared.Banks.{Banks}
-use Rattle.describe.specs.declared.Rules.{Rules}
+use Rattle.describe.specs.declared.Dots.{Dots}
+use Rattle.describe.specs.declared.Terms.{Terms}
 use Rattle.describe.specs.declared.Variadic.{Variadic}
-use Rattle.describe.specs.Description.{Description}
-use Rattle.describe.specs.Row.{packed}
+use Rattle.describe.specs.declared.Variadic.the-variants.{SameAsFixed, AlwaysMemory, BothBanks, IntegersOnly, UnnamedIntegers}
+use Rattle.describe.specs.Description.{termsOf}
+use Rattle.describe.specs.Dots.{dotsOf}
+use Rattle.describe.specs.Row.{listed}
+use Rattle.abis.specs.declared.Brief.{Brief}
 use Rattle.abis.specs.Abis.{described}
+use Rattle.abis.specs.Brief.{briefOf}
+use Rattle.abis.proofs.Rows.{arguments-listed}
 use Rattle.spend.specs.declared.Left.{Left}
 use Rattle.spend.specs.declared.Decision.{Decision}
-use Rattle.spend.specs.Ways.{leftAfter}
+use Rattle.spend.specs.declared.Spent.{Spent}
+use Rattle.spend.specs.declared.Way.the-variants.{Ignore}
+use Rattle.spend.specs.Ways.{nothing, marked, withMark, wayNumber, leftAfter}
 use Rattle.writing.specs.Slots.{slotsIn, slotsInScalar}
-use Rattle.memory.specs.InMemory.{inMemory}
+use Rattle.memory.specs.InMemory.{inMemoryBy}
 use Rattle.classify.specs.declared.Call.{Call}
 use Rattle.classify.specs.declared.Answer.{Answer}
 use Rattle.classify.specs.declared.InMemory.{InMemory}
 use Rattle.classify.specs.declared.Decided.{Decided}
-use Rattle.classify.specs.Classify.{leaves, variadic, isIntegersOnly}
-use Rattle.classify.specs.Answers.{descriptions, leftOf, callOf, answered, callRefusal, argRefusal, refusalOf, refused, done, orAnswer, freshAnswer, variadicAnswer, voidAnswer, orAlign, inMemoryAnswer}
+use Rattle.classify.specs.Classify.{isIntegersOnly}
+use Rattle.classify.specs.Answers.{descriptions, callWith, unmarked, answered, leftRefusal, argRefusal, checked, callRefusalBy, refusalBy, rowRefusal, refused, done, orAnswer, unlessRefused, Leaves, freshAnswer, variadicAnswerBy, variadicAnswer, voidAnswerBy, voidAnswer, orAlign, inMemoryAnswerBy, inMemoryAnswer}
 use Rattle.classify.specs.Parts as parts
+
+-- ---- a row
+
+pub row-there : (abi : ℕ) → abi < descriptions → rowRefusal abi ≡ accepted
+unfolding rowRefusal
+row-there abi h = rw (lt-leb _ _ h)
+
+pub row-missing : (abi : ℕ) → descriptions ≤ abi → rowRefusal abi ≡ bad-abi
+unfolding rowRefusal
+row-missing abi h = rw (le-leb _ _ h)
 
 -- ---- check
 
-module _ (c : Call) where
-  pub call-abi : descriptions ≤ c .abi → bad-abi ≡ callRefusal c
-  unfolding callRefusal
-  call-abi h = rw (le-leb _ _ h)
+-- the Rust's test of a variadic kind, and what the kind comes to
+mark-is : (v : Variadic) → isIntegersOnly v ≡ dotsOf v .mark
+mark-is SameAsFixed = refl
+mark-is AlwaysMemory = refl
+mark-is BothBanks = refl
+mark-is IntegersOnly = refl
+mark-is UnnamedIntegers = refl
 
-  module _ (h : c .abi < descriptions) (B : Banks) (eb : B ≡ described (c .abi) .banks) (v : Variadic) (ev : v ≡ described (c .abi) .variadic) (marks : Bool) (em : marks ≡ isIntegersOnly v) where
-    pub call-bad : ((ltb (B .integer) (c .integer) || ltb (B .float) (c .float)) || (c .«integers_only» && not marks)) ≡ true → bad-call ≡ callRefusal c
-    unfolding callRefusal
-    call-bad t = rw (lt-leb _ _ h, ← ev, ← em, ← eb, t)
+module _ (T : Terms) (left : Left) (dots : Dots) (ed : dots ≡ dotsOf (T .variadic)) where
+  abbrev isBad : Bool
+  isBad = (ltb (T .banks .integer) (left .integer) || ltb (T .banks .float) (left .float)) || (marked left && not (dots .mark))
 
-    pub call-good : ((ltb (B .integer) (c .integer) || ltb (B .float) (c .float)) || (c .«integers_only» && not marks)) ≡ false → accepted ≡ callRefusal c
-    unfolding callRefusal
-    call-good t = rw (lt-leb _ _ h, ← ev, ← em, ← eb, t)
+  pub left-bad : isBad ≡ true → bad-call ≡ leftRefusal T left
+  unfolding leftRefusal
+  left-bad t = rw (mark-is (T .variadic), ← ed, t)
 
-module _ (c : Call) (arg : args.Arg) (ws : List ℕ) (r : ℕ) (er : r ≡ callRefusal c) where
-  pub refusal-call : (r ≡ accepted → ⊥) → r ≡ refusalOf c arg ws
-  unfolding refusalOf
-  refusal-call h = rw (← er) (else-first _ _ h)
+  pub left-good : isBad ≡ false → accepted ≡ leftRefusal T left
+  unfolding leftRefusal
+  left-good t = rw (mark-is (T .variadic), ← ed, t)
 
-module _ (c : Call) (s : Scalar) (r : ℕ) (er : r ≡ callRefusal c) where
-  pub refusal-scalar : r ≡ accepted → (q : ℕ) → q ≡ scalarRefusal s → q ≡ refusalOf c (parts.scalarArg s) []
-  unfolding refusalOf argRefusal
-  refusal-scalar z q eq = rw (← er, z, eq)
+module _ (T : Terms) (left : Left) (r : ℕ) (er : r ≡ leftRefusal T left) where
+  pub checked-left : (arg : args.Arg) (ws : List ℕ) → (r ≡ accepted → ⊥) → r ≡ checked T left arg ws
+  unfolding checked
+  checked-left arg ws h = rw (← er) (else-first _ _ h)
 
-module _ (c : Call) (shape : Shape) (ws : List ℕ) (r : ℕ) (er : r ≡ callRefusal c) where
-  pub refusal-shape : r ≡ accepted → (q : ℕ) → q ≡ shapeRefusal shape ws → q ≡ refusalOf c (parts.aggregateArg shape) ws
-  unfolding refusalOf argRefusal
-  refusal-shape z q eq = rw (← er, z, eq)
+  pub checked-scalar : r ≡ accepted → (s : Scalar) (q : ℕ) → q ≡ scalarRefusal s → q ≡ checked T left (parts.scalarArg s) []
+  unfolding checked argRefusal
+  checked-scalar z s q eq = rw (← er, z, eq)
 
--- ---- fresh and variadic
+  pub checked-shape : r ≡ accepted → (shape : Shape) (ws : List ℕ) (q : ℕ) → q ≡ shapeRefusal shape ws → q ≡ checked T left (parts.aggregateArg shape) ws
+  unfolding checked argRefusal
+  checked-shape z shape ws q eq = rw (← er, z, eq)
 
-pub fresh-refused : (abi : ℕ) → descriptions ≤ abi → (r : Answer) → r ≡ refused (callOf 0 (leaves 0 0 false)) bad-abi → r ≡ freshAnswer abi
+-- ---- fresh, the mark and void
+
+pub fresh-refused : (abi : ℕ) → descriptions ≤ abi → (c : Call) → c ≡ unmarked 0 0 0 → (r : Answer) → r ≡ refused c bad-abi → r ≡ freshAnswer abi
 unfolding freshAnswer
-fresh-refused abi h r er = rw (er, le-leb _ _ h)
+fresh-refused abi h c ec r er = rw (er, ec, le-leb _ _ h)
 
-pub fresh-done : (abi : ℕ) → abi < descriptions → (B : Banks) → B ≡ described abi .banks → (r : Answer)
-    → r ≡ done (callOf abi (leaves (B .integer) (B .float) false)) → r ≡ freshAnswer abi
+pub fresh-done : (abi : ℕ) → abi < descriptions → (b : Brief) → b ≡ briefOf (described abi) → (c : Call) → c ≡ unmarked abi (b .terms .banks .integer) (b .terms .banks .float)
+    → (r : Answer) → r ≡ done c → r ≡ freshAnswer abi
 unfolding freshAnswer
-fresh-done abi h B eb r er = rw (er, eb, lt-leb _ _ h)
+fresh-done abi h b eb c ec r er = rw (er, ec, eb, lt-leb _ _ h)
 
 pub or-refused : (n : ℕ) (c : Call) (rest : Answer) → (n ≡ accepted → ⊥) → refused c n ≡ orAnswer n c rest
 or-refused zero c rest h = absurd (h refl)
 or-refused (suc n) c rest h = refl
 
-module _ (c : Call) (n : ℕ) (en : n ≡ callRefusal c) (r : Answer) where
-  pub mark-refused : (n ≡ accepted → ⊥) → r ≡ refused c n → r ≡ variadicAnswer c
-  unfolding variadicAnswer
-  mark-refused h er = rw (er, ← en) (or-refused n c _ h)
+module _ (c : Call) (r : Answer) where
+  pub mark-missing : descriptions ≤ c .abi → r ≡ refused c bad-abi → r ≡ variadicAnswer c
+  unfolding variadicAnswer variadicAnswerBy callRefusalBy
+  mark-missing h er = rw (er, row-missing (c .abi) h)
 
-  pub mark-done : n ≡ accepted → (v : Variadic) → v ≡ described (c .abi) .variadic → (b : Bool) → b ≡ isIntegersOnly v
-      → r ≡ done (callOf (c .abi) (leaves (c .integer) (c .float) (b || c .«integers_only»))) → r ≡ variadicAnswer c
-  unfolding variadicAnswer
-  mark-done z v ev b eb er = rw (er, eb, ev, ← en, z)
+  pub void-missing : descriptions ≤ c .abi → r ≡ refused c bad-abi → r ≡ voidAnswer c
+  unfolding voidAnswer voidAnswerBy callRefusalBy
+  void-missing h er = rw (er, row-missing (c .abi) h)
 
-module _ (c : Call) (n : ℕ) (en : n ≡ callRefusal c) (r : Answer) where
-  pub void-refused : (n ≡ accepted → ⊥) → r ≡ refused c n → r ≡ voidAnswer c
-  unfolding voidAnswer
-  void-refused h er = rw (er, ← en) (or-refused n c _ h)
+  module _ (h : c .abi < descriptions) (b : Brief) (eb : b ≡ briefOf (described (c .abi))) (n : ℕ) (en : n ≡ leftRefusal (b .terms) (c .left)) where
+    told : n ≡ leftRefusal (termsOf (described (c .abi))) (c .left)
+    told = rw eb at en
 
-  pub void-done : n ≡ accepted → r ≡ done c → r ≡ voidAnswer c
-  unfolding voidAnswer
-  void-done z er = rw (er, ← en, z)
+    pub mark-refused : (n ≡ accepted → ⊥) → r ≡ refused c n → r ≡ variadicAnswer c
+    unfolding variadicAnswer variadicAnswerBy callRefusalBy
+    mark-refused z er = rw (er, row-there (c .abi) h, ← told) (or-refused n c _ z)
 
--- ---- rules
+    pub mark-done : n ≡ accepted → (left : Left) → left ≡ parts.markedBy (b .terms .variadic) (c .left) → r ≡ done (callWith (c .abi) left) → r ≡ variadicAnswer c
+    unfolding variadicAnswer variadicAnswerBy callRefusalBy
+    mark-done z left el er = rw (er, el, eb, row-there (c .abi) h, mark-is, ← told, z)
 
-module _ (D : Description) (returning : Bool) (r : Rules) where
-  pub rules-back : returning ≡ true → r ≡ packed (D .returns) → r ≡ packed (parts.rulesOf D returning)
-  rules-back h er = rw (er, h)
+    pub void-refused : (n ≡ accepted → ⊥) → r ≡ refused c n → r ≡ voidAnswer c
+    unfolding voidAnswer voidAnswerBy callRefusalBy
+    void-refused z er = rw (er, row-there (c .abi) h, ← told) (or-refused n c _ z)
 
-  pub rules-out : returning ≡ false → r ≡ packed (D .arguments) → r ≡ packed (parts.rulesOf D returning)
-  rules-out h er = rw (er, h)
+    pub void-done : n ≡ accepted → r ≡ done c → r ≡ voidAnswer c
+    unfolding voidAnswer voidAnswerBy callRefusalBy
+    void-done z er = rw (er, row-there (c .abi) h, ← told, z)
+
+module _ (v : Variadic) (left : Left) (dots : Dots) (ed : dots ≡ dotsOf v) where
+  pub marks : dots .mark ≡ true → (r : Left) → r ≡ withMark left → r ≡ parts.markedBy v left
+  marks h r er = rw (er, ← ed, h)
+
+  pub marks-nothing : dots .mark ≡ false → left ≡ parts.markedBy v left
+  marks-nothing h = rw (← ed, h)
 
 -- ---- the writing and the answer
 
-module _ (d : Decision) (out : List ℕ) (room : ℕ) (er : room ≡ length out / slotSize) where
-  pub short-scalar : room < d .count → out ≡ parts.finishedScalarIn d out
-  unfolding parts.finishedScalarIn
-  short-scalar h = rw (← er, lt-ltb _ _ h)
+pub refuses : (c : Call) (n way : ℕ) → way ≡ wayNumber Ignore → (spent : Spent) → spent ≡ nothing
+    → _≡_ {A = Answer} (record { next = c; outcome = record { refusal = n; way = way; spent = spent; slots = 0 } }) (refused c n)
+refuses c n way ew spent es = rw (ew, es)
 
-  pub fit-scalar : d .count ≤ room → (out′ : List ℕ) → out′ ≡ written (slotsInScalar (d .slots)) out → out′ ≡ parts.finishedScalarIn d out
-  unfolding parts.finishedScalarIn
-  fit-scalar h out′ e = rw (e, ← er, le-ltb _ _ h)
+pub accepts : (c : Call) (d : Decision) (left : Left) → left ≡ leftAfter (c .left) (d .spent) → (way : ℕ) → way ≡ wayNumber (d .way)
+    → _≡_ {A = Answer} (record { next = callWith (c .abi) left; outcome = record { refusal = accepted; way = way; spent = d .spent; slots = d .count } }) (parts.accepted c d)
+accepts c d left el way ew = rw (el, ew)
 
-pub accepts : (c : Call) (d : Decision) (before : Left) → before ≡ leftOf c → (left : Left) → left ≡ leftAfter before (d .spent)
-    → _≡_ {A = Answer} (answered (callOf (c .abi) left) accepted (d .way) (d .spent) (d .count)) (parts.accepted c d)
-accepts c d before eb left el = rw (el, eb)
+module _ (out : List ℕ) (room : ℕ) (er : room ≡ length out / slotSize) (c : Call) (r : Answer) where
+  module _ (d : Decision) where
+    pub scalar-short : room < d .count → r ≡ refused c no-room → parts.FinishesScalar c d out r out
+    unfolding parts.finished parts.finishedScalarIn
+    scalar-short h e = record { answers = rw (e, ← er, lt-ltb _ _ h); writes = rw (← er, lt-ltb _ _ h) }
 
-module _ (c : Call) (d : Decision) (out : List ℕ) (room : ℕ) (er : room ≡ length out / slotSize) (r : Answer) where
-  pub short-answer : room < d .count → r ≡ refused c no-room → r ≡ parts.finished c d out
-  unfolding parts.finished
-  short-answer h e = rw (e, ← er, lt-ltb _ _ h)
+    pub scalar-fits : d .count ≤ room → r ≡ parts.accepted c d → (after : List ℕ) → after ≡ written (slotsInScalar (d .slots)) out → parts.FinishesScalar c d out r after
+    unfolding parts.finished parts.finishedScalarIn
+    scalar-fits h e after ew = record { answers = rw (e, ← er, le-ltb _ _ h); writes = rw (ew, ← er, le-ltb _ _ h) }
 
-  pub fit-answer : d .count ≤ room → r ≡ parts.accepted c d → r ≡ parts.finished c d out
-  unfolding parts.finished
-  fit-answer h e = rw (e, ← er, le-ltb _ _ h)
+  module _ (d : Decided) (ps : List Piece) where
+    pub slots-short : room < d .decision .count → r ≡ refused c no-room → parts.Finishes c d ps out r out
+    unfolding parts.finished parts.finishedIn
+    slots-short h e = record { answers = rw (e, ← er, lt-ltb _ _ h); writes = rw (← er, lt-ltb _ _ h) }
 
-module _ (d : Decided) (ps : List Piece) (out : List ℕ) (room : ℕ) (er : room ≡ length out / slotSize) where
-  pub short-buffer : room < d .decision .count → out ≡ parts.finishedIn d ps out
-  unfolding parts.finishedIn
-  short-buffer h = rw (← er, lt-ltb _ _ h)
-
-  pub fit-buffer : d .decision .count ≤ room → (out′ : List ℕ) → out′ ≡ written (slotsIn (d .decision .slots) (d .classes) ps) out → out′ ≡ parts.finishedIn d ps out
-  unfolding parts.finishedIn
-  fit-buffer h out′ e = rw (e, ← er, le-ltb _ _ h)
-
-pub frees : (d : Decided) (n : Decision) → n ≡ parts.spendsNothing (d .decision .way) (d .decision .slots) (d .decision .count) → parts.decided n (d .classes) ≡ parts.freelyDecided d
-frees d n en = rw en
+    pub slots-fit : d .decision .count ≤ room → r ≡ parts.accepted c (d .decision) → (after : List ℕ) → after ≡ written (slotsIn (d .decision .slots) (d .classes) ps) out
+        → parts.Finishes c d ps out r after
+    unfolding parts.finished parts.finishedIn
+    slots-fit h e after ew = record { answers = rw (e, ← er, le-ltb _ _ h); writes = rw (ew, ← er, le-ltb _ _ h) }
 
 -- ---- in_memory
 
@@ -151,12 +174,20 @@ or-unaligned : (n align : ℕ) → (n ≡ accepted → ⊥) → _≡_ {A = InMem
 or-unaligned zero align h = absurd (h refl)
 or-unaligned (suc n) align h = refl
 
-module _ (c : Call) (shape : Shape) (ws : List ℕ) (n : ℕ) (en : n ≡ refusalOf c (parts.aggregateArg shape) ws) where
-  pub memory-refused : (n ≡ accepted → ⊥) → _≡_ {A = InMemory} (record { refusal = n; align = 0 }) (inMemoryAnswer c shape ws)
-  unfolding inMemoryAnswer
-  memory-refused h = rw (← en) (or-unaligned n _ h)
+module _ (c : Call) (shape : Shape) (ws : List ℕ) where
+  pub memory-missing : descriptions ≤ c .abi → _≡_ {A = InMemory} (record { refusal = bad-abi; align = 0 }) (inMemoryAnswer c shape ws)
+  unfolding inMemoryAnswer inMemoryAnswerBy refusalBy
+  memory-missing h = rw (row-missing (c .abi) h)
 
-  pub memory-answered : n ≡ accepted → (a : ℕ) → a ≡ inMemory (described (c .abi)) shape (piecesOf ws)
-      → _≡_ {A = InMemory} (record { refusal = accepted; align = a }) (inMemoryAnswer c shape ws)
-  unfolding inMemoryAnswer
-  memory-answered z a ea = rw (← en, z, ea)
+  module _ (h : c .abi < descriptions) (b : Brief) (eb : b ≡ briefOf (described (c .abi))) (n : ℕ) (en : n ≡ checked (b .terms) (c .left) (parts.aggregateArg shape) ws) where
+    checks : n ≡ checked (termsOf (described (c .abi))) (c .left) (parts.aggregateArg shape) ws
+    checks = rw eb at en
+
+    pub memory-refused : (n ≡ accepted → ⊥) → _≡_ {A = InMemory} (record { refusal = n; align = 0 }) (inMemoryAnswer c shape ws)
+    unfolding inMemoryAnswer inMemoryAnswerBy refusalBy
+    memory-refused z = rw (row-there (c .abi) h, ← checks) (or-unaligned n _ z)
+
+    pub memory-answered : n ≡ accepted → (a : ℕ) → a ≡ inMemoryBy (b .terms) (listed (b .arguments)) shape (piecesOf ws)
+        → _≡_ {A = InMemory} (record { refusal = accepted; align = a }) (inMemoryAnswer c shape ws)
+    unfolding inMemoryAnswer inMemoryAnswerBy refusalBy
+    memory-answered z a ea = rw (row-there (c .abi) h, ea, eb, arguments-listed (c .abi), ← checks, z)

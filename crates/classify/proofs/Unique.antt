@@ -27,61 +27,61 @@ variadic-decides : (κs : Lfts 0) → OneAnswer (variadic.Post κs)
 variadic-decides κs a r q s t p p′ = p ∙ sym p′
 
 returns-decides : (κs : Lfts 2) → OneAnswer (returns.Post κs)
-returns-decides κs a r q s t p p′ = p .0 ∙ sym (p′ .0)
+returns-decides κs a r q s t p p′ = p .answers ∙ sym (p′ .answers)
 
 returns-words : (κs : Lfts 2) → OneExit (returns.Post κs) (λ s. now (s .1 .1 .1 .0))
-returns-words κs a r q s t p p′ = p .1 ∙ sym (p′ .1)
+returns-words κs a r q s t p p′ = p .writes ∙ sym (p′ .writes)
 
 argument-decides : (κs : Lfts 2) → OneAnswer (argument.Post κs)
-argument-decides κs a r q s t p p′ = p .0 ∙ sym (p′ .0)
+argument-decides κs a r q s t p p′ = p .answers ∙ sym (p′ .answers)
 
 argument-words : (κs : Lfts 2) → OneExit (argument.Post κs) (λ s. now (s .1 .1 .1 .0))
-argument-words κs a r q s t p p′ = p .1 ∙ sym (p′ .1)
+argument-words κs a r q s t p p′ = p .writes ∙ sym (p′ .writes)
 
 variadic-argument-decides : (κs : Lfts 2) → OneAnswer (variadic-argument.Post κs)
-variadic-argument-decides κs a r q s t p p′ = p .0 ∙ sym (p′ .0)
+variadic-argument-decides κs a r q s t p p′ = p .answers ∙ sym (p′ .answers)
 
 variadic-argument-words : (κs : Lfts 2) → OneExit (variadic-argument.Post κs) (λ s. now (s .1 .1 .1 .0))
-variadic-argument-words κs a r q s t p p′ = p .1 ∙ sym (p′ .1)
+variadic-argument-words κs a r q s t p p′ = p .writes ∙ sym (p′ .writes)
 
 nothing-decides : (κs : Lfts 0) → OneAnswer (nothing.Post κs)
 nothing-decides κs a r q s t p p′ = p ∙ sym p′
 
 returns-scalar-decides : (κs : Lfts 1) → OneAnswer (returns-scalar.Post κs)
-returns-scalar-decides κs a r q s t p p′ = p .0 ∙ sym (p′ .0)
+returns-scalar-decides κs a r q s t p p′ = p .answers ∙ sym (p′ .answers)
 
 returns-scalar-words : (κs : Lfts 1) → OneExit (returns-scalar.Post κs) (λ s. now (s .1 .1 .0))
-returns-scalar-words κs a r q s t p p′ = p .1 ∙ sym (p′ .1)
+returns-scalar-words κs a r q s t p p′ = p .writes ∙ sym (p′ .writes)
 
 returns-aggregate-decides : (κs : Lfts 2) → OneAnswer (returns-aggregate.Post κs)
-returns-aggregate-decides κs a r q s t p p′ = p .0 ∙ sym (p′ .0)
+returns-aggregate-decides κs a r q s t p p′ = p .answers ∙ sym (p′ .answers)
 
 returns-aggregate-words : (κs : Lfts 2) → OneExit (returns-aggregate.Post κs) (λ s. now (s .1 .1 .1 .0))
-returns-aggregate-words κs a r q s t p p′ = p .1 ∙ sym (p′ .1)
+returns-aggregate-words κs a r q s t p p′ = p .writes ∙ sym (p′ .writes)
 
 argument-scalar-decides : (κs : Lfts 1) → OneAnswer (argument-scalar.Post κs)
-argument-scalar-decides κs a r q s t p p′ = p .0 ∙ sym (p′ .0)
+argument-scalar-decides κs a r q s t p p′ = p .answers ∙ sym (p′ .answers)
 
 argument-scalar-words : (κs : Lfts 1) → OneExit (argument-scalar.Post κs) (λ s. now (s .1 .1 .0))
-argument-scalar-words κs a r q s t p p′ = p .1 ∙ sym (p′ .1)
+argument-scalar-words κs a r q s t p p′ = p .writes ∙ sym (p′ .writes)
 
 argument-aggregate-decides : (κs : Lfts 2) → OneAnswer (argument-aggregate.Post κs)
-argument-aggregate-decides κs a r q s t p p′ = p .0 ∙ sym (p′ .0)
+argument-aggregate-decides κs a r q s t p p′ = p .answers ∙ sym (p′ .answers)
 
 argument-aggregate-words : (κs : Lfts 2) → OneExit (argument-aggregate.Post κs) (λ s. now (s .1 .1 .1 .0))
-argument-aggregate-words κs a r q s t p p′ = p .1 ∙ sym (p′ .1)
+argument-aggregate-words κs a r q s t p p′ = p .writes ∙ sym (p′ .writes)
 
 variadic-argument-scalar-decides : (κs : Lfts 1) → OneAnswer (variadic-argument-scalar.Post κs)
-variadic-argument-scalar-decides κs a r q s t p p′ = p .0 ∙ sym (p′ .0)
+variadic-argument-scalar-decides κs a r q s t p p′ = p .answers ∙ sym (p′ .answers)
 
 variadic-argument-scalar-words : (κs : Lfts 1) → OneExit (variadic-argument-scalar.Post κs) (λ s. now (s .1 .1 .0))
-variadic-argument-scalar-words κs a r q s t p p′ = p .1 ∙ sym (p′ .1)
+variadic-argument-scalar-words κs a r q s t p p′ = p .writes ∙ sym (p′ .writes)
 
 variadic-argument-aggregate-decides : (κs : Lfts 2) → OneAnswer (variadic-argument-aggregate.Post κs)
-variadic-argument-aggregate-decides κs a r q s t p p′ = p .0 ∙ sym (p′ .0)
+variadic-argument-aggregate-decides κs a r q s t p p′ = p .answers ∙ sym (p′ .answers)
 
 variadic-argument-aggregate-words : (κs : Lfts 2) → OneExit (variadic-argument-aggregate.Post κs) (λ s. now (s .1 .1 .1 .0))
-variadic-argument-aggregate-words κs a r q s t p p′ = p .1 ∙ sym (p′ .1)
+variadic-argument-aggregate-words κs a r q s t p p′ = p .writes ∙ sym (p′ .writes)
 
 in-memory-decides : (κs : Lfts 1) → OneAnswer (in-memory.Post κs)
 in-memory-decides κs a r q s t p p′ = p ∙ sym p′

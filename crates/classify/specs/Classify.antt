@@ -32,13 +32,18 @@ use Rattle.describe.specs.declared.Variadic.the-variants.{SameAsFixed, AlwaysMe
 use Rattle.describe.specs.Description.{Description}
 use Rattle.describe.specs.Questions.{isByReference, returnsByReference}
 use Rattle.spend.specs.declared.Left.{Left}
+use Rattle.spend.specs.Ways.{no-mark, marked, withMark}
 use Rattle.spend.specs.Spending.{wantOf}
 use Rattle.search.specs.Matches.{matches}
 use Rattle.classify.specs.Pass.{Pass, ignore, direct, pieces, reference, memory}
 
--- what a call has left: integers, floats, and the integers-only mark
-abbrev pub leaves : ℕ → ℕ → Bool → Left
+-- what a call has left: integers, floats, and the integers-only mark, which is set where it isn't 0
+abbrev pub leaves : ℕ → ℕ → ℕ → Left
 leaves i f only = record { integer = i; float = f; «integers_only» = only }
+
+-- the same, without the mark
+abbrev pub counts : ℕ → ℕ → Left
+counts i f = leaves i f no-mark
 
 -- how a value travels, and what the call has left then
 pub record Passed : Type 0 where
@@ -59,7 +64,7 @@ lessBoth n m left = leaves (left .integer - n) (left .float - m) (left .«intege
 
 -- the start of a call, with every argument register still to spend
 abbrev pub call : Description → Left
-call D = leaves (D .banks .integer) (D .banks .float) false
+call D = counts (D .banks .integer) (D .banks .float)
 
 -- whether floats of a variadic function's call go in integer registers alone, for the named arguments too
 abbrev pub isIntegersOnly : Variadic → Bool
@@ -71,7 +76,7 @@ isIntegersOnly UnnamedIntegers = false
 
 -- the same call, to a variadic function
 abbrev pub variadic : Description → Left → Left
-variadic D left = leaves (left .integer) (left .float) (isIntegersOnly (D .variadic) || left .«integers_only»)
+variadic D left = cond (isIntegersOnly (D .variadic)) (withMark left) left
 
 -- ---- scalar
 
@@ -103,7 +108,7 @@ scalar D left s =
     (cond (isFloat (s .kind) && eqb (s .kind) (D .scalars .«in_memory»)) (passed direct left)
     (cond ((D .scalars .«wide_integer_in_memory» && eqb (s .kind) integer) && ltb 1 want)
     (passed direct (leaves 0 (left .float) (left .«integers_only»)))
-    (cond (left .«integers_only» && isFloat (s .kind)) (passed (pieces (cut (s .size) (D .banks .«integer_width»))) (less want left))
+    (cond (marked left && isFloat (s .kind)) (passed (pieces (cut (s .size) (D .banks .«integer_width»))) (less want left))
     (passed direct (afterScalar D left s want)))))
 
 -- ---- travel
@@ -165,7 +170,7 @@ orElse none rest = rest
 abbrev pub tried : Search → Description → Left → Rule → Shape → Bool → Passed → Passed
 tried nothing D left rule shape returning rest = rest
 tried (found ss) D left rule shape returning rest =
-    cond ((left .«integers_only» && not returning) && ltb 0 (floatsIn ss)) rest (orElse (travel D left rule ss shape returning) rest)
+    cond ((marked left && not returning) && ltb 0 (floatsIn ss)) rest (orElse (travel D left rule ss shape returning) rest)
 
 -- the first rule whose test matches, with what it costs. Every list ends with a rule that decides (REFERENCE 5.6), so the empty list is never
 -- come to
@@ -205,8 +210,8 @@ inMemoryAlways D left (args.the-variants.Aggregate shape) ps =
 -- after the dots, where such an argument is integers-only for itself alone
 abbrev pub asIntegers : Description → Left → args.Arg → List Piece → Passed
 asIntegers D left arg ps =
-    let p : Passed = argument D (leaves (left .integer) (left .float) true) arg ps in
-    passed (p .pass) (leaves (p .left .integer) (p .left .float) false)
+    let p : Passed = argument D (withMark left) arg ps in
+    passed (p .pass) (counts (p .left .integer) (p .left .float))
 
 -- how the next argument after the dots travels
 abbrev pub variadicBy : Variadic → Description → Left → args.Arg → List Piece → Passed

@@ -1,79 +1,37 @@
--- What the parts of an operation answer one another: the walk, and the answer. These say how the code goes about it;
--- what an operation means is in Classify.antt and Spending.antt, and proofs/Agree.antt has this meet that.
-use Prim.Native.Nat.{ℕ, _/_}
+-- What the parts of an operation answer one another: the walk with the classes beside it, the writing, and the answer. These say how the code
+-- goes about it; what an operation means is in Classify.antt and Spending.antt, and proofs/Agree.antt has this meet that.
+use Prim.Native.Nat.{ℕ}
 use mathlib.Core.List.{List}
-use mathlib.Core.Bool.{Bool, true, false, cond}
-use lib.Dec.{ltb}
+use mathlib.Core.Bool.{Bool, cond}
 use lib.ListN.{length}
 use Rattle.shape.specs.declared.Arg as args
 use Rattle.shape.specs.declared.Piece.{Piece}
 use Rattle.shape.specs.declared.Scalar.{Scalar}
 use Rattle.shape.specs.declared.Shape.{Shape}
-use Rattle.shape.specs.Words.{piecesOf}
 use Rattle.shape.specs.Numbers as numbers
-use Rattle.slots.specs.Words.{slotSize, written}
+use Rattle.shape.specs.Words.{piecesOf}
+use Rattle.checks.specs.Check.{orElse}
+use Rattle.slots.specs.Words.{written}
+use Rattle.describe.specs.declared.Dots.{Dots}
 use Rattle.describe.specs.declared.Rule.{Rule}
+use Rattle.describe.specs.declared.Rules.{Rules}
+use Rattle.describe.specs.declared.Terms.{Terms}
 use Rattle.describe.specs.declared.Test.{Test}
 use Rattle.describe.specs.declared.Variadic.{Variadic}
-use Rattle.describe.specs.declared.Variadic.the-variants.{SameAsFixed, AlwaysMemory, BothBanks, IntegersOnly, UnnamedIntegers}
-use Rattle.describe.specs.Description.{Description}
+use Rattle.describe.specs.Description.{Description, termsOf}
+use Rattle.describe.specs.Dots.{asFixed, dotsOf}
+use Rattle.abis.specs.declared.Brief.{Brief}
+use Rattle.abis.specs.Abis.{described}
 use Rattle.spend.specs.declared.Left.{Left}
-use Rattle.spend.specs.declared.Way.{Way}
-use Rattle.spend.specs.declared.Way as ways
-use Rattle.spend.specs.declared.Source as sources
 use Rattle.spend.specs.declared.Decision.{Decision}
-use Rattle.spend.specs.Ways as made
-use Rattle.scalars.specs.Spending.{scalarArgument, scalarReturn}
-use Rattle.search.specs.Searched.{noClasses, classesBy, noSource}
+use Rattle.spend.specs.Ways.{withMark, leftAfter}
+use Rattle.search.specs.Searched.{noClasses, classesBy}
 use Rattle.writing.specs.Slots.{slotsIn, slotsInScalar}
 use Rattle.classify.specs.declared.Call.{Call}
 use Rattle.classify.specs.declared.Answer.{Answer}
 use Rattle.classify.specs.declared.Decided.{Decided}
-use Rattle.classify.specs.Classify.{leaves}
-use Rattle.classify.specs.Spending.{Chosen, ignored, aggregate}
-use Rattle.classify.specs.Answers.{leftOf, answered, callOf, refused, refusalOf, orAnswer, unlessRefused}
-
--- ---- the walk
-
-abbrev pub rulesOf : Description → Bool → List Rule
-rulesOf D returning = cond returning (D .returns) (D .arguments)
-
-abbrev pub decided : Decision → List ℕ → Decided
-decided decision classes = record { decision = decision; classes = classes }
-
-unfoldable pub walked : Description → Bool → Left → List Rule → Shape → List Piece → Decided
-walked D returning left rules shape ps =
-    decided (aggregate D returning left rules shape ps .decision) (classesBy (aggregate D returning left rules shape ps .when) shape ps)
-
--- the classes beside what decides a value
-abbrev pub argClasses : args.Arg → Test → List Piece → List ℕ
-argClasses args.the-variants.Void test ps = noClasses
-argClasses (args.the-variants.Scalar s) test ps = noClasses
-argClasses (args.the-variants.Aggregate shape) test ps = classesBy test shape ps
-
-abbrev pub decidedBy : Chosen → args.Arg → List Piece → Decided
-decidedBy c arg ps = decided (c .decision) (argClasses arg (c .when) ps)
-
-abbrev pub spendsNothing : Way → sources.Source → ℕ → Decision
-spendsNothing way source count = record { way = way; slots = source; count = count; spent = made.nothing }
-
-abbrev pub freelyDecided : Decided → Decided
-freelyDecided d = decided (spendsNothing (d .decision .way) (d .decision .slots) (d .decision .count)) (d .classes)
-
--- what an argument finds left after the dots: emptied banks where it is always in memory, integers-only where unnamed are integers
-abbrev pub leftFor : Variadic → Left → Left
-leftFor SameAsFixed left = left
-leftFor AlwaysMemory left = leaves 0 0 (left .«integers_only»)
-leftFor BothBanks left = left
-leftFor IntegersOnly left = left
-leftFor UnnamedIntegers left = leaves (left .integer) (left .float) true
-
-abbrev pub isAlwaysMemory : Variadic → Bool
-isAlwaysMemory SameAsFixed = false
-isAlwaysMemory AlwaysMemory = true
-isAlwaysMemory BothBanks = false
-isAlwaysMemory IntegersOnly = false
-isAlwaysMemory UnnamedIntegers = false
+use Rattle.classify.specs.Spending.{Chosen, aggregate, freely, aggregateBy, choice}
+use Rattle.classify.specs.Answers.{callWith, checked, rowRefusal, roomRefusal, answered, orAnswer, unlessRefused, Leaves}
 
 abbrev pub scalarArg : Scalar → args.Arg
 scalarArg s = args.the-variants.Scalar s
@@ -81,41 +39,87 @@ scalarArg s = args.the-variants.Scalar s
 abbrev pub aggregateArg : Shape → args.Arg
 aggregateArg shape = args.the-variants.Aggregate shape
 
--- what decides a return, a fixed argument (variadic as SameAsFixed) and one after the dots
-unfoldable pub scalarBy : Description → Bool → Variadic → Left → Scalar → Decision
-scalarBy D returning variadic left s =
-    cond returning (scalarReturn (D .scalars) (D .«return_pointer») left s)
-    (cond (isAlwaysMemory variadic) (spendsNothing ways.the-variants.Direct noSource 0)
-    (scalarArgument (D .banks) (D .scalars) (leftFor variadic left) s))
+-- ---- what decides a value, with the classes beside it
 
-unfoldable pub aggregateBy : Description → Bool → Variadic → Left → Shape → List Piece → Decided
-aggregateBy D returning variadic left shape ps =
-    cond (isAlwaysMemory variadic) (freelyDecided (walked D returning (leftFor variadic left) (rulesOf D returning) shape ps))
-    (walked D returning (leftFor variadic left) (rulesOf D returning) shape ps)
+abbrev pub decided : Decision → List ℕ → Decided
+decided decision classes = record { decision = decision; classes = classes }
 
-abbrev pub decideBy : Description → Bool → Variadic → Left → args.Arg → List Piece → Decided
-decideBy D returning variadic left args.the-variants.Void ps = decided (ignored .decision) noClasses
-decideBy D returning variadic left (args.the-variants.Scalar s) ps = decided (scalarBy D returning variadic left s) noClasses
-decideBy D returning variadic left (args.the-variants.Aggregate shape) ps = aggregateBy D returning variadic left shape ps
+abbrev pub argClasses : args.Arg → Test → List Piece → List ℕ
+argClasses args.the-variants.Void test ps = noClasses
+argClasses (args.the-variants.Scalar s) test ps = noClasses
+argClasses (args.the-variants.Aggregate shape) test ps = classesBy test shape ps
+
+abbrev pub decidedBy : Chosen → args.Arg → List Piece → Decided
+decidedBy k arg ps = decided (k .decision) (argClasses arg (k .when) ps)
+
+unfoldable pub walked : Terms → Bool → Left → List Rule → Shape → List Piece → Decided
+walked T returning left rules shape ps = decidedBy (aggregate T returning left rules shape ps) (aggregateArg shape) ps
+
+abbrev pub freelyDecided : Decided → Decided
+freelyDecided d = decided (freely (d .decision)) (d .classes)
+
+unfoldable pub aggregateDecided : Terms → List Rule → Bool → Dots → Left → Shape → List Piece → Decided
+aggregateDecided T rules returning dots left shape ps = decidedBy (aggregateBy T rules returning dots left shape ps) (aggregateArg shape) ps
 
 -- ---- the writing and the answer
 
 abbrev pub accepted : Call → Decision → Answer
-accepted c d = answered (callOf (c .abi) (made.leftAfter (leftOf c) (d .spent))) numbers.accepted (d .way) (d .spent) (d .count)
+accepted c d = answered (callWith (c .abi) (leftAfter (c .left) (d .spent))) numbers.accepted (d .way) (d .spent) (d .count)
 
 unfoldable pub finished : Call → Decision → List ℕ → Answer
-finished c d out = cond (ltb (length out / slotSize) (d .count)) (refused c numbers.no-room) (accepted c d)
+finished c d out = orAnswer (roomRefusal (d .count) out) c (accepted c d)
 
 unfoldable pub finishedIn : Decided → List Piece → List ℕ → List ℕ
-finishedIn d ps out =
-    cond (ltb (length out / slotSize) (d .decision .count)) out (written (slotsIn (d .decision .slots) (d .classes) ps) out)
+finishedIn d ps out = unlessRefused (roomRefusal (d .decision .count) out) (written (slotsIn (d .decision .slots) (d .classes) ps) out) out
 
 unfoldable pub finishedScalarIn : Decision → List ℕ → List ℕ
-finishedScalarIn d out = cond (ltb (length out / slotSize) (d .count)) out (written (slotsInScalar (d .slots)) out)
+finishedScalarIn d out = unlessRefused (roomRefusal (d .count) out) (written (slotsInScalar (d .slots)) out) out
 
--- a whole operation, from what decides it
-unfoldable pub performed : Call → Decided → args.Arg → List ℕ → List ℕ → Answer
-performed c d arg ws out = orAnswer (refusalOf c arg ws) c (finished c (d .decision) out)
+abbrev pub Finishes : Call → Decided → List Piece → List ℕ → Answer → List ℕ → Type 0
+Finishes c d ps out r after = Leaves (finished c (d .decision) out) (finishedIn d ps out) r after
 
-unfoldable pub performedIn : Call → Decided → args.Arg → List ℕ → List ℕ → List ℕ
-performedIn c d arg ws out = unlessRefused (refusalOf c arg ws) (finishedIn d (piecesOf ws) out) out
+abbrev pub FinishesScalar : Call → Decision → List ℕ → Answer → List ℕ → Type 0
+FinishesScalar c d out r after = Leaves (finished c d out) (finishedScalarIn d out) r after
+
+-- ---- a whole operation, by terms and a list, and what their source refuses
+
+abbrev pub decidedFor : Terms → List Rule → Bool → Dots → Call → args.Arg → List Piece → Decided
+decidedFor T rules returning dots c arg ps = decidedBy (choice T rules returning dots (c .left) arg ps) arg ps
+
+unfoldable pub performed : ℕ → Terms → List Rule → Bool → Dots → Call → args.Arg → List ℕ → List ℕ → Answer
+performed source T rules returning dots c arg ws out =
+    orAnswer (orElse source (checked T (c .left) arg ws)) c (finished c (decidedFor T rules returning dots c arg (piecesOf ws) .decision) out)
+
+unfoldable pub performedIn : ℕ → Terms → List Rule → Bool → Dots → Call → args.Arg → List ℕ → List ℕ → List ℕ
+performedIn source T rules returning dots c arg ws out =
+    unlessRefused (orElse source (checked T (c .left) arg ws)) (finishedIn (decidedFor T rules returning dots c arg (piecesOf ws)) (piecesOf ws) out) out
+
+abbrev pub By : Terms → List Rule → Bool → Dots → Call → args.Arg → List ℕ → List ℕ → Answer → List ℕ → Type 0
+By T rules returning dots c arg ws out r after =
+    Leaves (performed numbers.accepted T rules returning dots c arg ws out) (performedIn numbers.accepted T rules returning dots c arg ws out) r after
+
+-- ---- and on a row
+
+abbrev pub listFor : Bool → Brief → Rules
+listFor returning brief = cond returning (brief .returns) (brief .arguments)
+
+abbrev pub rulesFor : Bool → Description → List Rule
+rulesFor returning D = cond returning (D .returns) (D .arguments)
+
+abbrev pub dotsFor : Bool → Variadic → Dots
+dotsFor after-dots variadic = cond after-dots (dotsOf variadic) asFixed
+
+abbrev pub markedBy : Variadic → Left → Left
+markedBy variadic left = cond (dotsOf variadic .mark) (withMark left) left
+
+abbrev pub performedOn : Description → Bool → Bool → Call → args.Arg → List ℕ → List ℕ → Answer
+performedOn D returning after-dots c arg ws out =
+    performed (rowRefusal (c .abi)) (termsOf D) (rulesFor returning D) returning (dotsFor after-dots (D .variadic)) c arg ws out
+
+abbrev pub performedInOn : Description → Bool → Bool → Call → args.Arg → List ℕ → List ℕ → List ℕ
+performedInOn D returning after-dots c arg ws out =
+    performedIn (rowRefusal (c .abi)) (termsOf D) (rulesFor returning D) returning (dotsFor after-dots (D .variadic)) c arg ws out
+
+abbrev pub OnRow : Bool → Bool → Call → args.Arg → List ℕ → List ℕ → Answer → List ℕ → Type 0
+OnRow returning after-dots c arg ws out r after =
+    Leaves (performedOn (described (c .abi)) returning after-dots c arg ws out) (performedInOn (described (c .abi)) returning after-dots c arg ws out) r after

@@ -7,21 +7,24 @@ use lib.Dec.{ltb}
 use lib.ListN.{length}
 use Rattle.shape.specs.declared.Arg as args
 use Rattle.shape.specs.declared.Piece.{Piece}
+use Rattle.shape.specs.declared.Scalar.{Scalar}
 use Rattle.shape.specs.declared.Shape.{Shape}
 use Rattle.slots.specs.declared.Slot.{Slot}
 use Rattle.slots.specs.Search.{Search, found, nothing, floatsIn}
 use Rattle.describe.specs.declared.Rule.{Rule}
 use Rattle.describe.specs.declared.Test.{Test}
 use Rattle.describe.specs.declared.Test.the-variants.{Anything}
-use Rattle.describe.specs.declared.Variadic.{Variadic}
-use Rattle.describe.specs.declared.Variadic.the-variants.{SameAsFixed, AlwaysMemory, BothBanks, IntegersOnly, UnnamedIntegers}
-use Rattle.describe.specs.Description.{Description}
+use Rattle.describe.specs.declared.Terms.{Terms}
+use Rattle.describe.specs.declared.Dots.{Dots}
+use Rattle.describe.specs.Description.{Description, termsOf}
+use Rattle.describe.specs.Dots.{asFixed, dotsOf}
 use Rattle.spend.specs.declared.Left.{Left}
 use Rattle.spend.specs.declared.Way as ways
 use Rattle.spend.specs.declared.Slots.{Slots}
 use Rattle.spend.specs.declared.Decision.{Decision}
 use Rattle.spend.specs.declared.Step as steps
 use Rattle.spend.specs.Ways as made
+use Rattle.spend.specs.Ways.{marked, withMark}
 use Rattle.spend.specs.Spending.{travelOf}
 use Rattle.scalars.specs.Spending.{scalarArgument, scalarReturn}
 use Rattle.search.specs.Matches.{matches, sourceOf}
@@ -43,51 +46,57 @@ orNext (steps.the-variants.Decided d) test rest = chosen d test
 orNext steps.the-variants.TryNextRule test rest = rest
 
 -- a rule whose test came back: nothing moves on, and so does, under integers-only, an argument's rule that found a float slot
-abbrev pub decideBy : Search → Description → Bool → Left → Rule → Shape → Chosen → Chosen
-decideBy nothing D returning left rule shape rest = rest
-decideBy (found ss) D returning left rule shape rest =
-    cond ((left .«integers_only» && not returning) && ltb 0 (floatsIn ss)) rest
-    (orNext (travelOf (D .banks) (D .«return_pointer») returning left rule (shape .size) (slotsOf (rule .when) (shape .size) ss)) (rule .when) rest)
+abbrev pub decideBy : Search → Terms → Bool → Left → Rule → Shape → Chosen → Chosen
+decideBy nothing T returning left rule shape rest = rest
+decideBy (found ss) T returning left rule shape rest =
+    cond ((marked left && not returning) && ltb 0 (floatsIn ss)) rest
+    (orNext (travelOf (T .banks) (T .«return_pointer») returning left rule (shape .size) (slotsOf (rule .when) (shape .size) ss)) (rule .when) rest)
 
 -- an aggregate: the first rule that matches. Every list ends with a rule that decides (REFERENCE 5.6), so the empty list is never come to
-unfoldable pub aggregate : Description → Bool → Left → List Rule → Shape → List Piece → Chosen
-aggregate D returning left [] shape ps = chosen (made.plain ways.the-variants.Memory made.nothing) Anything
-aggregate D returning left (rule ∷ rules) shape ps =
-    decideBy (matches (D .banks) (rule .when) shape ps) D returning left rule shape (aggregate D returning left rules shape ps)
+unfoldable pub aggregate : Terms → Bool → Left → List Rule → Shape → List Piece → Chosen
+aggregate T returning left [] shape ps = chosen (made.plain ways.the-variants.Memory made.nothing) Anything
+aggregate T returning left (rule ∷ rules) shape ps =
+    decideBy (matches (T .banks) (rule .when) shape ps) T returning left rule shape (aggregate T returning left rules shape ps)
 
 -- void is Ignore and spends nothing
 abbrev pub ignored : Chosen
 ignored = chosen (made.plain ways.the-variants.Ignore made.nothing) Anything
 
-unfoldable pub returnChoice : Description → Left → args.Arg → List Piece → Chosen
-returnChoice D left args.the-variants.Void ps = ignored
-returnChoice D left (args.the-variants.Scalar s) ps = chosen (scalarReturn (D .scalars) (D .«return_pointer») left s) Anything
-returnChoice D left (args.the-variants.Aggregate shape) ps = aggregate D true left (D .returns) shape ps
+-- what a value finds left (REFERENCE 9.5): after the dots its banks may be emptied, or the mark set for it alone
+abbrev pub leftFor : Dots → Left → Left
+leftFor dots left =
+    cond (dots .emptied) (record { integer = 0; float = 0; «integers_only» = left .«integers_only» })
+    (cond (dots .«integers_only») (withMark left) left)
 
-unfoldable pub argumentChoice : Description → Left → args.Arg → List Piece → Chosen
-argumentChoice D left args.the-variants.Void ps = ignored
-argumentChoice D left (args.the-variants.Scalar s) ps = chosen (scalarArgument (D .banks) (D .scalars) left s) Anything
-argumentChoice D left (args.the-variants.Aggregate shape) ps = aggregate D false left (D .arguments) shape ps
+-- a scalar that comes back; one that always is in memory is Direct and spends nothing; any other argument
+unfoldable pub scalarBy : Terms → Bool → Dots → Left → Scalar → Decision
+scalarBy T returning dots left s =
+    cond returning (scalarReturn (T .scalars) (T .«return_pointer») left s)
+    (cond (dots .emptied) (made.plain ways.the-variants.Direct made.nothing)
+    (scalarArgument (T .banks) (T .scalars) (leftFor dots left) s))
 
 -- the same decision, spending nothing
-abbrev pub freely : Chosen → Chosen
-freely c = chosen (record { way = c .decision .way; slots = c .decision .slots; count = c .decision .count; spent = made.nothing }) (c .when)
+abbrev pub freely : Decision → Decision
+freely d = record { way = d .way; slots = d .slots; count = d .count; spent = made.nothing }
 
--- after the dots, always in memory: void is Ignore, a scalar is Direct and an aggregate is classified on emptied banks, spending nothing
-abbrev pub memoryChoice : Description → Left → args.Arg → List Piece → Chosen
-memoryChoice D left args.the-variants.Void ps = ignored
-memoryChoice D left (args.the-variants.Scalar s) ps = chosen (made.plain ways.the-variants.Direct made.nothing) Anything
-memoryChoice D left (args.the-variants.Aggregate shape) ps =
-    freely (aggregate D false (record { integer = 0; float = 0; «integers_only» = left .«integers_only» }) (D .arguments) shape ps)
+-- an aggregate, by what it finds left; one that finds its banks emptied spends nothing
+unfoldable pub aggregateBy : Terms → List Rule → Bool → Dots → Left → Shape → List Piece → Chosen
+aggregateBy T rules returning dots left shape ps =
+    let k : Chosen = aggregate T returning (leftFor dots left) rules shape ps in
+    cond (dots .emptied) (chosen (freely (k .decision)) (k .when)) k
 
--- after the dots, integers-only for this argument alone
-abbrev pub dotsBy : Variadic → Description → Left → args.Arg → List Piece → Chosen
-dotsBy SameAsFixed D left arg ps = argumentChoice D left arg ps
-dotsBy BothBanks D left arg ps = argumentChoice D left arg ps
-dotsBy IntegersOnly D left arg ps = argumentChoice D left arg ps
-dotsBy UnnamedIntegers D left arg ps =
-    argumentChoice D (record { integer = left .integer; float = left .float; «integers_only» = true }) arg ps
-dotsBy AlwaysMemory D left arg ps = memoryChoice D left arg ps
+-- any value, by terms and a list
+abbrev pub choice : Terms → List Rule → Bool → Dots → Left → args.Arg → List Piece → Chosen
+choice T rules returning dots left args.the-variants.Void ps = ignored
+choice T rules returning dots left (args.the-variants.Scalar s) ps = chosen (scalarBy T returning dots left s) Anything
+choice T rules returning dots left (args.the-variants.Aggregate shape) ps = aggregateBy T rules returning dots left shape ps
+
+-- what comes back, a fixed argument, and one after the dots
+unfoldable pub returnChoice : Description → Left → args.Arg → List Piece → Chosen
+returnChoice D left arg ps = choice (termsOf D) (D .returns) true asFixed left arg ps
+
+unfoldable pub argumentChoice : Description → Left → args.Arg → List Piece → Chosen
+argumentChoice D left arg ps = choice (termsOf D) (D .arguments) false asFixed left arg ps
 
 unfoldable pub dotsChoice : Description → Left → args.Arg → List Piece → Chosen
-dotsChoice D left arg ps = dotsBy (D .variadic) D left arg ps
+dotsChoice D left arg ps = choice (termsOf D) (D .arguments) false (dotsOf (D .variadic)) left arg ps

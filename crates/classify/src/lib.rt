@@ -1,6 +1,9 @@
 // One call and its operations: a return value, an argument, an argument after the dots, and the mark of a variadic function (docs/REFERENCE.md, 9).
 // A call is a value, and each operation hands back the next one. Anyone can hand in any numbers: every operation checks for itself.
+use abis::Brief;
+use describe::Dots;
 use describe::Rules;
+use describe::Terms;
 use describe::Variadic;
 use shape::Arg;
 use shape::Scalar;
@@ -9,40 +12,39 @@ use slots::Found;
 use spend::Decision;
 use spend::Left;
 use spend::Slots;
-use spend::Source;
 use spend::Spent;
 use spend::Step;
 use spend::Way;
 ghost use mathlib.Core.Path.{_≡_};
 ghost use mathlib.Core.List.{[]};
-ghost use Prim.Native.Nat.{_<_};
 ghost use Rattle.shape.specs.Words.{piecesOf};
-ghost use Rattle.describe.specs.Row.{packed};
-ghost use Rattle.abis.specs.Abis.{described};
-ghost use Rattle.classify.specs.Classify.{isIntegersOnly};
+ghost use Rattle.describe.specs.Description.{Ends};
+ghost use Rattle.describe.specs.Row.{listed};
+ghost use Rattle.spend.specs.Ways as ways;
 ghost use Rattle.classify.specs.Spending as rules;
-ghost use Rattle.classify.specs.Answers.{descriptions, leftOf, callRefusal, refusalOf, freshAnswer, voidAnswer, variadicAnswer, returnsAnswer, returnsWritten, argumentAnswer, argumentWritten, dotsAnswer, dotsWritten, inMemoryAnswer};
+ghost use Rattle.classify.specs.Answers.{freshAnswer, voidAnswer, variadicAnswer, inMemoryAnswer, Returns, Passes, PassesAfterDots};
 ghost use Rattle.classify.specs.Answers as answers;
 ghost use Rattle.classify.specs.Parts as parts;
 
-// The registers that one call has left: its description, integers, floats, and whether floats go in integer registers alone.
+// One call: the number of its description, and what it has left.
 #[repr(C)]
 pub struct Call {
     pub abi: u64,
-    pub integer: u64,
-    pub float: u64,
-    pub integers_only: bool,
+    pub left: Left,
 }
 
-// How the value travels, what it passes over and is given, and how many slots were written; or the refusal, with every other number 0.
+// The number of the way that the value travels, what it passes over and is given, and how many slots were written; or the refusal, with every
+// other number 0. Methods, exported entries and the forms over a lent call all have this one.
+#[repr(C)]
 pub struct Outcome {
     pub refusal: u64,
-    pub way: Way,
+    pub way: u64,
     pub spent: Spent,
     pub slots: u64,
 }
 
 // The next call beside the outcome. A refusal hands back the call that it was handed.
+#[repr(C)]
 pub struct Answer {
     pub next: Call,
     pub outcome: Outcome,
@@ -60,45 +62,38 @@ impl Call {
         ensures { λ r. ⌜ r ≡ freshAnswer abi ⌝ }
     {
         if abi >= abis::DESCRIPTIONS {
-            return refused(
-                Call {
-                    abi: 0,
-                    integer: 0,
-                    float: 0,
-                    integers_only: false,
-                },
-                shape::BAD_ABI,
-            );
+            return refused(unmarked(0, 0, 0), shape::BAD_ABI);
         }
-        let banks = abis::banks(abi);
-        done(Call {
-            abi,
-            integer: banks.integer,
-            float: banks.float,
-            integers_only: false,
-        })
+        let brief = abis::read(abi);
+        let terms = brief.terms;
+        let banks = terms.banks;
+        done(unmarked(abi, banks.integer, banks.float))
     }
 
     // The same call, to a function whose parameters end in dots.
     pub fn variadic(self) -> Answer
         ensures { λ r. ⌜ r ≡ variadicAnswer self ⌝ }
     {
-        let refusal = check_call(self);
+        if self.abi >= abis::DESCRIPTIONS {
+            return refused(self, shape::BAD_ABI);
+        }
+        let brief = abis::read(self.abi);
+        let terms = brief.terms;
+        let left = self.left;
+        let refusal = check_left(terms, left);
         if refusal != shape::ACCEPTED {
             return refused(self, refusal);
         }
+        let variadic = terms.variadic;
         done(Call {
             abi: self.abi,
-            integer: self.integer,
-            float: self.float,
-            integers_only: integers_only_when_variadic(abis::variadic(self.abi))
-                | self.integers_only,
+            left: marked(variadic, left),
         })
     }
 
     // How the return value comes back. It is asked first, since an address for it may spend an argument register.
     pub fn returns(self, arg: Arg, words: &[u64], out: &mut [u64]) -> Answer
-        ensures { λ r. ⌜ (r ≡ returnsAnswer self arg (now (words .entry)) (now (out .entry))) × (now (out .exit) ≡ returnsWritten self arg (now (words .entry)) (now (out .entry))) ⌝ }
+        ensures { λ r. ⌜ Returns self arg (now (words .entry)) (now (out .entry)) r (now (out .exit)) ⌝ }
     {
         match arg {
             Arg::Void => self.nothing(),
@@ -109,7 +104,7 @@ impl Call {
 
     // How the next fixed argument travels.
     pub fn argument(self, arg: Arg, words: &[u64], out: &mut [u64]) -> Answer
-        ensures { λ r. ⌜ (r ≡ argumentAnswer self arg (now (words .entry)) (now (out .entry))) × (now (out .exit) ≡ argumentWritten self arg (now (words .entry)) (now (out .entry))) ⌝ }
+        ensures { λ r. ⌜ Passes self arg (now (words .entry)) (now (out .entry)) r (now (out .exit)) ⌝ }
     {
         match arg {
             Arg::Void => self.nothing(),
@@ -120,7 +115,7 @@ impl Call {
 
     // How the next argument after the dots travels.
     pub fn variadic_argument(self, arg: Arg, words: &[u64], out: &mut [u64]) -> Answer
-        ensures { λ r. ⌜ (r ≡ dotsAnswer self arg (now (words .entry)) (now (out .entry))) × (now (out .exit) ≡ dotsWritten self arg (now (words .entry)) (now (out .entry))) ⌝ }
+        ensures { λ r. ⌜ PassesAfterDots self arg (now (words .entry)) (now (out .entry)) r (now (out .exit)) ⌝ }
     {
         match arg {
             Arg::Void => self.nothing(),
@@ -133,7 +128,11 @@ impl Call {
     pub fn nothing(self) -> Answer
         ensures { λ r. ⌜ r ≡ voidAnswer self ⌝ }
     {
-        let refusal = check_call(self);
+        if self.abi >= abis::DESCRIPTIONS {
+            return refused(self, shape::BAD_ABI);
+        }
+        let brief = abis::read(self.abi);
+        let refusal = check_left(brief.terms, self.left);
         if refusal != shape::ACCEPTED {
             return refused(self, refusal);
         }
@@ -142,53 +141,61 @@ impl Call {
 
     // The three operations for a scalar.
     pub fn returns_scalar(self, s: Scalar, out: &mut [u64]) -> Answer
-        ensures { λ r. ⌜ (r ≡ returnsAnswer self (parts.scalarArg s) [] (now (out .entry))) × (now (out .exit) ≡ returnsWritten self (parts.scalarArg s) [] (now (out .entry))) ⌝ }
+        ensures { λ r. ⌜ Returns self (parts.scalarArg s) [] (now (out .entry)) r (now (out .exit)) ⌝ }
     {
-        perform_scalar(self, true, Variadic::SameAsFixed, s, out)
+        perform_scalar(self, true, false, s, out)
     }
 
     pub fn argument_scalar(self, s: Scalar, out: &mut [u64]) -> Answer
-        ensures { λ r. ⌜ (r ≡ argumentAnswer self (parts.scalarArg s) [] (now (out .entry))) × (now (out .exit) ≡ argumentWritten self (parts.scalarArg s) [] (now (out .entry))) ⌝ }
+        ensures { λ r. ⌜ Passes self (parts.scalarArg s) [] (now (out .entry)) r (now (out .exit)) ⌝ }
     {
-        perform_scalar(self, false, Variadic::SameAsFixed, s, out)
+        perform_scalar(self, false, false, s, out)
     }
 
     pub fn variadic_argument_scalar(self, s: Scalar, out: &mut [u64]) -> Answer
-        ensures { λ r. ⌜ (r ≡ dotsAnswer self (parts.scalarArg s) [] (now (out .entry))) × (now (out .exit) ≡ dotsWritten self (parts.scalarArg s) [] (now (out .entry))) ⌝ }
+        ensures { λ r. ⌜ PassesAfterDots self (parts.scalarArg s) [] (now (out .entry)) r (now (out .exit)) ⌝ }
     {
-        perform_scalar(self, false, abis::variadic(self.abi), s, out)
+        perform_scalar(self, false, true, s, out)
     }
 
     // The three operations for an aggregate.
     pub fn returns_aggregate(self, shape: Shape, words: &[u64], out: &mut [u64]) -> Answer
-        ensures { λ r. ⌜ (r ≡ returnsAnswer self (parts.aggregateArg shape) (now (words .entry)) (now (out .entry))) × (now (out .exit) ≡ returnsWritten self (parts.aggregateArg shape) (now (words .entry)) (now (out .entry))) ⌝ }
+        ensures { λ r. ⌜ Returns self (parts.aggregateArg shape) (now (words .entry)) (now (out .entry)) r (now (out .exit)) ⌝ }
     {
-        perform_aggregate(self, true, Variadic::SameAsFixed, shape, words, out)
+        perform_aggregate(self, true, false, shape, words, out)
     }
 
     pub fn argument_aggregate(self, shape: Shape, words: &[u64], out: &mut [u64]) -> Answer
-        ensures { λ r. ⌜ (r ≡ argumentAnswer self (parts.aggregateArg shape) (now (words .entry)) (now (out .entry))) × (now (out .exit) ≡ argumentWritten self (parts.aggregateArg shape) (now (words .entry)) (now (out .entry))) ⌝ }
+        ensures { λ r. ⌜ Passes self (parts.aggregateArg shape) (now (words .entry)) (now (out .entry)) r (now (out .exit)) ⌝ }
     {
-        perform_aggregate(self, false, Variadic::SameAsFixed, shape, words, out)
+        perform_aggregate(self, false, false, shape, words, out)
     }
 
     pub fn variadic_argument_aggregate(self, shape: Shape, words: &[u64], out: &mut [u64]) -> Answer
-        ensures { λ r. ⌜ (r ≡ dotsAnswer self (parts.aggregateArg shape) (now (words .entry)) (now (out .entry))) × (now (out .exit) ≡ dotsWritten self (parts.aggregateArg shape) (now (words .entry)) (now (out .entry))) ⌝ }
+        ensures { λ r. ⌜ PassesAfterDots self (parts.aggregateArg shape) (now (words .entry)) (now (out .entry)) r (now (out .exit)) ⌝ }
     {
-        perform_aggregate(self, false, abis::variadic(self.abi), shape, words, out)
+        perform_aggregate(self, false, true, shape, words, out)
     }
 
     // What a fixed argument that travels as Memory is aligned to in the argument area.
     pub fn in_memory(self, shape: Shape, words: &[u64]) -> InMemory
         ensures { λ r. ⌜ r ≡ inMemoryAnswer self shape (now (words .entry)) ⌝ }
     {
-        let refusal = check_aggregate(self, shape, words);
+        if self.abi >= abis::DESCRIPTIONS {
+            return InMemory {
+                refusal: shape::BAD_ABI,
+                align: 0,
+            };
+        }
+        let brief = abis::read(self.abi);
+        let terms = brief.terms;
+        let refusal = check_aggregate(terms, self.left, shape, words);
         if refusal != shape::ACCEPTED {
             return InMemory { refusal, align: 0 };
         }
         InMemory {
             refusal: shape::ACCEPTED,
-            align: memory::align(self.abi, shape, words),
+            align: memory::align(terms, brief.arguments, shape, words),
         }
     }
 
@@ -199,102 +206,160 @@ impl Call {
     }
 
     pub fn integer_left(self) -> u64
-        ensures { λ r. ⌜ r ≡ self .integer ⌝ }
+        ensures { λ r. ⌜ r ≡ self .left .integer ⌝ }
     {
-        self.integer
+        let left = self.left;
+        left.integer
     }
 
     pub fn float_left(self) -> u64
-        ensures { λ r. ⌜ r ≡ self .float ⌝ }
+        ensures { λ r. ⌜ r ≡ self .left .float ⌝ }
     {
-        self.float
+        let left = self.left;
+        left.float
     }
 }
 
-// One operation, in its parts: check, decide, then room, writing and the answer. A fixed argument and a return are variadic as
-// SameAsFixed, an argument after the dots as its description says. A scalar's way is apart from an aggregate's, whose walk it doesn't need.
+// ---- an operation, by the number of its description: that is read, once, or refused. A scalar's way is apart from an aggregate's, whose walk
+// it doesn't need.
+
 fn perform_scalar(
     call: Call,
     returning: bool,
-    variadic: Variadic,
+    after_dots: bool,
     s: Scalar,
     out: &mut [u64],
 ) -> Answer
-    ensures { λ r. ⌜ (r ≡ parts.performed call (parts.decideBy (described (call .abi)) returning variadic (leftOf call) (parts.scalarArg s) []) (parts.scalarArg s) [] (now (out .entry))) × (now (out .exit) ≡ parts.performedIn call (parts.decideBy (described (call .abi)) returning variadic (leftOf call) (parts.scalarArg s) []) (parts.scalarArg s) [] (now (out .entry))) ⌝ }
+    ensures { λ r. ⌜ parts.OnRow returning «after_dots» call (parts.scalarArg s) [] (now (out .entry)) r (now (out .exit)) ⌝ }
 {
-    let refusal = check_scalar(call, s);
-    if refusal != shape::ACCEPTED {
-        return refused(call, refusal);
+    if call.abi >= abis::DESCRIPTIONS {
+        return refused(call, shape::BAD_ABI);
     }
-    let decision = decide_scalar(call.abi, returning, variadic, left_of(call), s);
-    finish_scalar(call, decision, out)
+    let brief = abis::read(call.abi);
+    let terms = brief.terms;
+    let variadic = terms.variadic;
+    let dots = dots_for(after_dots, variadic);
+    scalar_by(terms, returning, dots, call, s, out)
 }
 
 fn perform_aggregate(
     call: Call,
     returning: bool,
-    variadic: Variadic,
+    after_dots: bool,
     shape: Shape,
     words: &[u64],
     out: &mut [u64],
 ) -> Answer
-    ensures { λ r. ⌜ (r ≡ parts.performed call (parts.decideBy (described (call .abi)) returning variadic (leftOf call) (parts.aggregateArg shape) (piecesOf (now (words .entry)))) (parts.aggregateArg shape) (now (words .entry)) (now (out .entry))) × (now (out .exit) ≡ parts.performedIn call (parts.decideBy (described (call .abi)) returning variadic (leftOf call) (parts.aggregateArg shape) (piecesOf (now (words .entry)))) (parts.aggregateArg shape) (now (words .entry)) (now (out .entry))) ⌝ }
+    ensures { λ r. ⌜ parts.OnRow returning «after_dots» call (parts.aggregateArg shape) (now (words .entry)) (now (out .entry)) r (now (out .exit)) ⌝ }
 {
-    let refusal = check_aggregate(call, shape, words);
+    if call.abi >= abis::DESCRIPTIONS {
+        return refused(call, shape::BAD_ABI);
+    }
+    let brief = abis::read(call.abi);
+    let terms = brief.terms;
+    let list = list_for(returning, brief);
+    let variadic = terms.variadic;
+    let dots = dots_for(after_dots, variadic);
+    aggregate_by(terms, list, returning, dots, call, shape, words, out)
+}
+
+// One of the two lists.
+fn list_for(returning: bool, brief: Brief) -> Rules
+    ensures { λ r. ⌜ r ≡ parts.listFor returning brief ⌝ }
+{
+    if returning {
+        return brief.returns;
+    }
+    brief.arguments
+}
+
+// An argument after the dots does what its description's variadic kind comes to, any other value what a fixed argument does.
+fn dots_for(after_dots: bool, variadic: Variadic) -> Dots
+    ensures { λ r. ⌜ r ≡ parts.dotsFor «after_dots» variadic ⌝ }
+{
+    if after_dots {
+        return describe::dots_of(variadic);
+    }
+    describe::as_fixed()
+}
+
+// ---- an operation, by a description's terms and one of its lists, in its parts: check, decide, then room, writing and the answer
+
+fn scalar_by(
+    terms: Terms,
+    returning: bool,
+    dots: Dots,
+    call: Call,
+    s: Scalar,
+    out: &mut [u64],
+) -> Answer
+    ensures { λ r. ⌜ parts.By terms [] returning dots call (parts.scalarArg s) [] (now (out .entry)) r (now (out .exit)) ⌝ }
+{
+    let left = call.left;
+    let refusal = check_scalar(terms, left, s);
     if refusal != shape::ACCEPTED {
         return refused(call, refusal);
     }
-    let decided = decide_aggregate(call.abi, returning, variadic, left_of(call), shape, words);
+    let decision = decide_scalar(terms, returning, dots, left, s);
+    finish_scalar(call, decision, out)
+}
+
+fn aggregate_by(
+    terms: Terms,
+    list: Rules,
+    returning: bool,
+    dots: Dots,
+    call: Call,
+    shape: Shape,
+    words: &[u64],
+    out: &mut [u64],
+) -> Answer
+    requires { ⌜ Ends (listed list) ⌝ }
+    ensures { λ r. ⌜ parts.By terms (listed list) returning dots call (parts.aggregateArg shape) (now (words .entry)) (now (out .entry)) r (now (out .exit)) ⌝ }
+{
+    let left = call.left;
+    let refusal = check_aggregate(terms, left, shape, words);
+    if refusal != shape::ACCEPTED {
+        return refused(call, refusal);
+    }
+    let decided = decide_aggregate(terms, list, returning, dots, left, shape, words);
     finish(call, decided, words, out)
 }
 
 // ---- check
 
-fn check_scalar(call: Call, s: Scalar) -> u64
-    ensures { λ r. ⌜ r ≡ refusalOf call (parts.scalarArg s) [] ⌝ }
+fn check_scalar(terms: Terms, left: Left, s: Scalar) -> u64
+    ensures { λ r. ⌜ r ≡ answers.checked terms left (parts.scalarArg s) [] ⌝ }
 {
-    let refusal = check_call(call);
+    let refusal = check_left(terms, left);
     if refusal != shape::ACCEPTED {
         return refusal;
     }
     checks::check_scalar(s)
 }
 
-fn check_aggregate(call: Call, shape: Shape, words: &[u64]) -> u64
-    ensures { λ r. ⌜ r ≡ refusalOf call (parts.aggregateArg shape) (now (words .entry)) ⌝ }
+fn check_aggregate(terms: Terms, left: Left, shape: Shape, words: &[u64]) -> u64
+    ensures { λ r. ⌜ r ≡ answers.checked terms left (parts.aggregateArg shape) (now (words .entry)) ⌝ }
 {
-    let refusal = check_call(call);
+    let refusal = check_left(terms, left);
     if refusal != shape::ACCEPTED {
         return refusal;
     }
     checks::check_shape(shape, words)
 }
 
-// A description that isn't there, a count above its bank's start, or a mark that the description doesn't use.
-fn check_call(call: Call) -> u64
-    ensures { λ r. ⌜ r ≡ callRefusal call ⌝ }
+// A count above its bank's start, or a mark that the description doesn't use.
+fn check_left(terms: Terms, left: Left) -> u64
+    ensures { λ r. ⌜ r ≡ answers.leftRefusal terms left ⌝ }
 {
-    if call.abi >= abis::DESCRIPTIONS {
-        return shape::BAD_ABI;
-    }
-    let banks = abis::banks(call.abi);
-    let marks = integers_only_when_variadic(abis::variadic(call.abi));
-    if (banks.integer < call.integer) | (banks.float < call.float) | (call.integers_only & !marks) {
+    let banks = terms.banks;
+    let variadic = terms.variadic;
+    let dots = describe::dots_of(variadic);
+    let is_marked = left.integers_only != spend::NO_MARK;
+    if (banks.integer < left.integer) | (banks.float < left.float) | (is_marked & !dots.mark) {
         return shape::BAD_CALL;
     }
     shape::ACCEPTED
-}
-
-fn integers_only_when_variadic(variadic: Variadic) -> bool
-    ensures { λ r. ⌜ r ≡ isIntegersOnly variadic ⌝ }
-{
-    match variadic {
-        Variadic::SameAsFixed => false,
-        Variadic::AlwaysMemory => false,
-        Variadic::BothBanks => false,
-        Variadic::IntegersOnly => true,
-        Variadic::UnnamedIntegers => false,
-    }
 }
 
 // ---- decide
@@ -305,129 +370,106 @@ struct Decided {
     classes: [u8; 8],
 }
 
-fn decide_scalar(abi: u64, returning: bool, variadic: Variadic, left: Left, s: Scalar) -> Decision
-    ensures { λ r. ⌜ r ≡ parts.scalarBy (described abi) returning variadic left s ⌝ }
+fn decide_scalar(terms: Terms, returning: bool, dots: Dots, left: Left, s: Scalar) -> Decision
+    ensures { λ r. ⌜ r ≡ rules.scalarBy terms returning dots left s ⌝ }
 {
     if returning {
-        return scalars::scalar_return(abis::scalars(abi), abis::return_pointer(abi), left, s);
+        let pointer = terms.return_pointer;
+        return scalars::scalar_return(terms.scalars, pointer, left, s);
     }
-    if always_memory(variadic) {
-        return spends_nothing(Way::Direct, Source::Empty, 0);
+    if dots.emptied {
+        return spend::integers(Way::Direct, 0, 0);
     }
-    scalars::scalar_argument(
-        abis::banks(abi),
-        abis::scalars(abi),
-        left_for(variadic, left),
-        s,
-    )
+    scalars::scalar_argument(terms.banks, terms.scalars, left_for(dots, left), s)
 }
 
 fn decide_aggregate(
-    abi: u64,
+    terms: Terms,
+    list: Rules,
     returning: bool,
-    variadic: Variadic,
+    dots: Dots,
     left: Left,
     shape: Shape,
     words: &[u64],
 ) -> Decided
-    requires { ⌜ abi < descriptions ⌝ }
-    ensures { λ r. ⌜ r ≡ parts.aggregateBy (described abi) returning variadic left shape (piecesOf (now (words .entry))) ⌝ }
+    requires { ⌜ Ends (listed list) ⌝ }
+    ensures { λ r. ⌜ r ≡ parts.aggregateDecided terms (listed list) returning dots left shape (piecesOf (now (words .entry))) ⌝ }
 {
-    let decided = walk(abi, returning, left_for(variadic, left), shape, words);
-    if always_memory(variadic) {
+    let decided = walk(terms, list, returning, left_for(dots, left), shape, words);
+    if dots.emptied {
         return freely(decided);
     }
     decided
 }
 
-// Always in memory: nothing is spent.
-fn always_memory(variadic: Variadic) -> bool
-    ensures { λ r. ⌜ r ≡ parts.isAlwaysMemory variadic ⌝ }
+// What a value finds left: banks that are emptied for it, or the mark set for it alone.
+fn left_for(dots: Dots, left: Left) -> Left
+    ensures { λ r. ⌜ r ≡ rules.leftFor dots left ⌝ }
 {
-    match variadic {
-        Variadic::SameAsFixed => false,
-        Variadic::AlwaysMemory => true,
-        Variadic::BothBanks => false,
-        Variadic::IntegersOnly => false,
-        Variadic::UnnamedIntegers => false,
-    }
-}
-
-// What such an argument finds left: in memory an aggregate is classified on emptied banks, and unnamed integers are integers-only.
-fn left_for(variadic: Variadic, left: Left) -> Left
-    ensures { λ r. ⌜ r ≡ parts.leftFor variadic left ⌝ }
-{
-    match variadic {
-        Variadic::SameAsFixed => left,
-        Variadic::AlwaysMemory => Left {
+    if dots.emptied {
+        return Left {
             integer: 0,
             float: 0,
             integers_only: left.integers_only,
-        },
-        Variadic::BothBanks => left,
-        Variadic::IntegersOnly => left,
-        Variadic::UnnamedIntegers => Left {
-            integer: left.integer,
-            float: left.float,
-            integers_only: true,
-        },
+        };
     }
+    if dots.integers_only {
+        return with_mark(left);
+    }
+    left
 }
 
+// The same decision, spending nothing.
 fn freely(decided: Decided) -> Decided
     ensures { λ r. ⌜ r ≡ parts.freelyDecided decided ⌝ }
 {
     let decision = decided.decision;
     let way = decision.way;
-    let source = decision.slots;
+    let slots = decision.slots;
     let classes = decided.classes;
     Decided {
-        decision: spends_nothing(way, source, decision.count),
+        decision: Decision {
+            way,
+            slots,
+            count: decision.count,
+            spent: nothing_spent(),
+        },
         classes,
     }
 }
 
-fn spends_nothing(way: Way, slots: Source, count: u64) -> Decision
-    ensures { λ r. ⌜ r ≡ parts.spendsNothing way slots count ⌝ }
+// The rule walk: the first rule whose test finds something, and that isn't skipped or short, decides. The list is taken apart as two numbers,
+// and there is no answer behind the loop: a list ends with a rule that decides.
+fn walk(
+    terms: Terms,
+    list: Rules,
+    returning: bool,
+    left: Left,
+    shape: Shape,
+    words: &[u64],
+) -> Decided
+    requires { ⌜ Ends (listed list) ⌝ }
+    ensures { λ r. ⌜ r ≡ parts.walked terms returning left (listed list) shape (piecesOf (now (words .entry))) ⌝ }
 {
-    Decision {
-        way,
-        slots,
-        count,
-        spent: Spent {
-            integers_passed: 0,
-            integers_given: 0,
-            floats_passed: 0,
-            floats_given: 0,
-        },
-    }
-}
-
-// The rule walk: the first rule whose test finds something, and that isn't skipped or short, decides. The list is read once, as two numbers.
-// There is no answer behind the loop: each list of rules ends with one that decides.
-fn walk(abi: u64, returning: bool, left: Left, shape: Shape, words: &[u64]) -> Decided
-    requires { ⌜ abi < descriptions ⌝ }
-    ensures { λ r. ⌜ r ≡ parts.walked (described abi) returning left (parts.rulesOf (described abi) returning) shape (piecesOf (now (words .entry))) ⌝ }
-{
-    let banks = abis::banks(abi);
-    let mut rules = rules_of(abi, returning);
+    let mut rules = list;
     loop {
         let these = rules;
         let later = rules::later_rules(rules);
         rules = later;
         let when = rules::first_test(these);
-        let searched = search::search(banks, when, shape, words);
+        let searched = search::search(terms.banks, when, shape, words);
         let found = searched.found;
         let Found::Slots { count, floats } = found else {
             continue;
         };
-        if left.integers_only & !returning & (floats > 0) {
+        if (left.integers_only != spend::NO_MARK) & !returning & (floats > 0) {
             continue;
         }
         let source = searched.source;
+        let pointer = terms.return_pointer;
         let step = spend::travel(
-            banks,
-            abis::return_pointer(abi),
+            terms.banks,
+            pointer,
             returning,
             left,
             rules::first_rule(these),
@@ -446,20 +488,10 @@ fn walk(abi: u64, returning: bool, left: Left, shape: Shape, words: &[u64]) -> D
     }
 }
 
-// One of the two lists of a description.
-fn rules_of(abi: u64, returning: bool) -> Rules
-    ensures { λ r. ⌜ r ≡ packed (parts.rulesOf (described abi) returning) ⌝ }
-{
-    if returning {
-        return lists::return_rules(abi);
-    }
-    lists::argument_rules(abi)
-}
-
 // ---- room and writing, and the answer
 
 fn finish_scalar(call: Call, decision: Decision, out: &mut [u64]) -> Answer
-    ensures { λ r. ⌜ (r ≡ parts.finished call decision (now (out .entry))) × (now (out .exit) ≡ parts.finishedScalarIn decision (now (out .entry))) ⌝ }
+    ensures { λ r. ⌜ parts.FinishesScalar call decision (now (out .entry)) r (now (out .exit)) ⌝ }
 {
     if decision.count > slots::room(out.len()) as u64 {
         return refused(call, shape::NO_ROOM);
@@ -470,7 +502,7 @@ fn finish_scalar(call: Call, decision: Decision, out: &mut [u64]) -> Answer
 }
 
 fn finish(call: Call, decided: Decided, words: &[u64], out: &mut [u64]) -> Answer
-    ensures { λ r. ⌜ (r ≡ parts.finished call (decided .decision) (now (out .entry))) × (now (out .exit) ≡ parts.finishedIn decided (piecesOf (now (words .entry))) (now (out .entry))) ⌝ }
+    ensures { λ r. ⌜ parts.Finishes call decided (piecesOf (now (words .entry))) (now (out .entry)) r (now (out .exit)) ⌝ }
 {
     let decision = decided.decision;
     if decision.count > slots::room(out.len()) as u64 {
@@ -488,17 +520,14 @@ fn accept(call: Call, decision: Decision) -> Answer
 {
     let spent = decision.spent;
     let travels = decision.way;
-    let left = spend::left_after(left_of(call), spent);
     Answer {
         next: Call {
             abi: call.abi,
-            integer: left.integer,
-            float: left.float,
-            integers_only: left.integers_only,
+            left: spend::left_after(call.left, spent),
         },
         outcome: Outcome {
             refusal: shape::ACCEPTED,
-            way: travels,
+            way: spend::way_number(travels),
             spent,
             slots: decision.count,
         },
@@ -512,13 +541,8 @@ fn refused(call: Call, refusal: u64) -> Answer
         next: call,
         outcome: Outcome {
             refusal,
-            way: Way::Ignore,
-            spent: Spent {
-                integers_passed: 0,
-                integers_given: 0,
-                floats_passed: 0,
-                floats_given: 0,
-            },
+            way: spend::way_number(Way::Ignore),
+            spent: nothing_spent(),
             slots: 0,
         },
     }
@@ -531,12 +555,49 @@ fn done(call: Call) -> Answer
     refused(call, shape::ACCEPTED)
 }
 
-fn left_of(call: Call) -> Left
-    ensures { λ r. ⌜ r ≡ leftOf call ⌝ }
+fn nothing_spent() -> Spent
+    ensures { λ r. ⌜ r ≡ ways.nothing ⌝ }
+{
+    Spent {
+        integers_passed: 0,
+        integers_given: 0,
+        floats_passed: 0,
+        floats_given: 0,
+    }
+}
+
+// ---- calls
+
+fn unmarked(abi: u64, integer: u64, float: u64) -> Call
+    ensures { λ r. ⌜ r ≡ answers.unmarked abi integer float ⌝ }
+{
+    Call {
+        abi,
+        left: Left {
+            integer,
+            float,
+            integers_only: spend::NO_MARK,
+        },
+    }
+}
+
+// What a call to a variadic function has left: marked, where the kind says so.
+fn marked(variadic: Variadic, left: Left) -> Left
+    ensures { λ r. ⌜ r ≡ parts.markedBy variadic left ⌝ }
+{
+    let dots = describe::dots_of(variadic);
+    if dots.mark {
+        return with_mark(left);
+    }
+    left
+}
+
+fn with_mark(left: Left) -> Left
+    ensures { λ r. ⌜ r ≡ ways.withMark left ⌝ }
 {
     Left {
-        integer: call.integer,
-        float: call.float,
-        integers_only: call.integers_only,
+        integer: left.integer,
+        float: left.float,
+        integers_only: spend::MARK,
     }
 }

@@ -22,17 +22,17 @@ use Rattle.shape.specs.Words.{piecesOf}
 use Rattle.slots.specs.declared.Slot.{Slot}
 use Rattle.slots.specs.Words.{slotSize}
 use Rattle.abis.specs.Abis.{described}
+use Rattle.spend.specs.Ways.{wayFrom}
 use Rattle.classify.specs.declared.Call.{Call}
+use Rattle.classify.specs.declared.Outcome.{Outcome}
 use Rattle.classify.specs.declared.Answer.{Answer}
 use Rattle.classify.specs.Pass.{slotsOf}
 use Rattle.classify.specs.Classify as rust
 use Rattle.classify.specs.Spending as rules
-use Rattle.classify.specs.Answers.{leftOf, refusalOf, variadicAnswer, returnsAnswer, returnsWritten, argumentAnswer, argumentWritten, dotsAnswer, dotsWritten}
+use Rattle.classify.specs.Answers.{refusalOf, variadicAnswer, returnsAnswer, returnsWritten, argumentAnswer, argumentWritten, dotsAnswer, dotsWritten}
 use Rattle.ledger.specs.Ledger.{Operation, history, Ledger}
 use Rattle.ledger.specs.Performed.{Started, AllPerformed}
 use Rattle.ledger.specs.Twelve.{twelve, answerTo, expected}
-use Rattle.bridge.specs.declared.Outcome as bridge
-use Rattle.bridge.specs.Lent.{lent}
 use Rattle.bridge.proofs.barkpaddle_bridge_variadic as on-mark
 use Rattle.bridge.proofs.barkpaddle_bridge_argument as on-value
 use Rattle.bridge.proofs.Promised.{Marks, Returns, Passes, PassesAfterDots}
@@ -76,11 +76,11 @@ mark-refused = refusing.mark-refused
 
 -- the same of the forms over a lent call: `Marks`, `Returns`, `Passes` and `PassesAfterDots` are their contracts, and where the outcome refuses, the
 -- call and the words behind the references are afterwards those that stood there
-pub lent-mark-refused : (κs : Lfts 1) (a : ArgsD on-mark.signature κs) (r : bridge.Outcome) (e : AtExit on-mark.ended κs) → Marks κs a r e
+pub lent-mark-refused : (κs : Lfts 1) (a : ArgsD on-mark.signature κs) (r : Outcome) (e : AtExit on-mark.ended κs) → Marks κs a r e
     → (r .refusal ≡ accepted → ⊥) → now (e .0) ≡ now (a .0)
 lent-mark-refused = kept.variadic-refused
 
-module _ (κs : Lfts 3) (a : ArgsD on-value.signature κs) (r : bridge.Outcome) (e : AtExit on-value.ended κs) where
+module _ (κs : Lfts 3) (a : ArgsD on-value.signature κs) (r : Outcome) (e : AtExit on-value.ended κs) where
   pub lent-return-refused : Returns κs a r e → (r .refusal ≡ accepted → ⊥) → (now (e .0) ≡ now (a .0)) × (now (e .1 .1 .1 .0) ≡ now (a .1 .1 .1 .0))
   lent-return-refused = kept.returns-refused κs a r e
 
@@ -95,20 +95,20 @@ module _ (κs : Lfts 3) (a : ArgsD on-value.signature κs) (r : bridge.Outcome) 
 -- where the checks refuse nothing and the slots have room. `AsRust` says: the way, the slots at the front of the buffer with all later words as
 -- they were, and the counts left are the Rust's; what is passed over and given is by the rules
 pub return-as-rust : (c : Call) (arg : Arg) (words out : List ℕ) → refusalOf c arg words ≡ accepted
-    → length (slotsOf (rust.returns (described (c .abi)) (leftOf c) arg (piecesOf words) .pass)) ≤ length out / slotSize
-    → AsRust c out (rust.returns (described (c .abi)) (leftOf c) arg (piecesOf words)) (rules.returnChoice (described (c .abi)) (leftOf c) arg (piecesOf words))
+    → length (slotsOf (rust.returns (described (c .abi)) (c .left) arg (piecesOf words) .pass)) ≤ length out / slotSize
+    → AsRust c out (rust.returns (described (c .abi)) (c .left) arg (piecesOf words)) (rules.returnChoice (described (c .abi)) (c .left) arg (piecesOf words))
     (returnsAnswer c arg words out) (returnsWritten c arg words out)
 return-as-rust = answering.return-as-rust
 
 pub argument-as-rust : (c : Call) (arg : Arg) (words out : List ℕ) → refusalOf c arg words ≡ accepted
-    → length (slotsOf (rust.argument (described (c .abi)) (leftOf c) arg (piecesOf words) .pass)) ≤ length out / slotSize
-    → AsRust c out (rust.argument (described (c .abi)) (leftOf c) arg (piecesOf words)) (rules.argumentChoice (described (c .abi)) (leftOf c) arg (piecesOf words))
+    → length (slotsOf (rust.argument (described (c .abi)) (c .left) arg (piecesOf words) .pass)) ≤ length out / slotSize
+    → AsRust c out (rust.argument (described (c .abi)) (c .left) arg (piecesOf words)) (rules.argumentChoice (described (c .abi)) (c .left) arg (piecesOf words))
     (argumentAnswer c arg words out) (argumentWritten c arg words out)
 argument-as-rust = answering.argument-as-rust
 
 pub dots-as-rust : (c : Call) (arg : Arg) (words out : List ℕ) → refusalOf c arg words ≡ accepted
-    → length (slotsOf (rust.variadicArgument (described (c .abi)) (leftOf c) arg (piecesOf words) .pass)) ≤ length out / slotSize
-    → AsRust c out (rust.variadicArgument (described (c .abi)) (leftOf c) arg (piecesOf words)) (rules.dotsChoice (described (c .abi)) (leftOf c) arg (piecesOf words))
+    → length (slotsOf (rust.variadicArgument (described (c .abi)) (c .left) arg (piecesOf words) .pass)) ≤ length out / slotSize
+    → AsRust c out (rust.variadicArgument (described (c .abi)) (c .left) arg (piecesOf words)) (rules.dotsChoice (described (c .abi)) (c .left) arg (piecesOf words))
     (dotsAnswer c arg words out) (dotsWritten c arg words out)
 dots-as-rust = answering.dots-as-rust
 
@@ -132,16 +132,16 @@ pub argument-is-aapcs64 : (c : Call) → c .abi ≡ 1 → (shape : Shape) (words
     → (natural : ℕ) → natural ≤ mostNatural shape (piecesOf words) → argumentAnswer c (Aggregate shape) words out .outcome .refusal ≡ accepted
     → row-1.Answers (argumentAnswer c (Aggregate shape) words out) out (argumentWritten c (Aggregate shape) words out)
     (λ (slots : List Slot).
-    told (leftOf c) (argumentAnswer c (Aggregate shape) words out .outcome .way) slots (leftOf (argumentAnswer c (Aggregate shape) words out .next))
-    ≡ some (parameter (stateOf (leftOf c)) (composite natural shape (piecesOf words))))
+    told (c .left) (wayFrom (argumentAnswer c (Aggregate shape) words out .outcome .way)) slots (argumentAnswer c (Aggregate shape) words out .next .left)
+    ≡ some (parameter (stateOf (c .left)) (composite natural shape (piecesOf words))))
 argument-is-aapcs64 c e shape words out d natural n h = row-1.argument-answered c e shape words out d natural n h
 
 pub result-is-aapcs64 : (c : Call) → c .abi ≡ 1 → (shape : Shape) (words out : List ℕ) → aapcs64.Domain shape (piecesOf words)
     → (natural : ℕ) → natural ≤ mostNatural shape (piecesOf words) → returnsAnswer c (Aggregate shape) words out .outcome .refusal ≡ accepted
     → row-1.Answers (returnsAnswer c (Aggregate shape) words out) out (returnsWritten c (Aggregate shape) words out)
     (λ (slots : List Slot).
-    toldResult (described 1 .«return_pointer») (returnsAnswer c (Aggregate shape) words out .outcome .way) slots (leftOf (returnsAnswer c (Aggregate shape) words out .next))
-    ≡ some (result (stateOf (leftOf c)) (composite natural shape (piecesOf words))))
+    toldResult (described 1 .«return_pointer») (wayFrom (returnsAnswer c (Aggregate shape) words out .outcome .way)) slots (returnsAnswer c (Aggregate shape) words out .next .left)
+    ≡ some (result (stateOf (c .left)) (composite natural shape (piecesOf words))))
 result-is-aapcs64 c e shape words out d natural n h = row-1.returns-answered c e shape words out d natural n h
 
 -- Methods.antt beside this file says these four of the methods themselves: `argument-method-is-psabi`, `result-method-is-psabi`,
@@ -161,10 +161,10 @@ pub every-register-once-performed : (d : ℕ) → d < 30 → (first : Answer) �
 every-register-once-performed = ledger-performed
 
 -- and of one call that is lent to each operation in turn: `AllLent` says that each form's contract is met on the call as the one before left it.
--- The outcomes, in numbers, and the calls are those of a history, and its ledger holds
+-- The outcomes and the calls are those of a history, and its ledger holds
 pub every-register-once-lent : (d : ℕ) → d < 30 → (first : Answer) → Started d first → (ops : List lending.Operation) (past : List lending.After)
     → lending.AllLent (first .next) ops past
-    → (past ≡ map lent (history d (map lending.operationOf ops))) × ((n : ℕ) → Ledger d (take n (history d (map lending.operationOf ops))))
+    → (past ≡ history d (map lending.operationOf ops)) × ((n : ℕ) → Ledger d (take n (history d (map lending.operationOf ops))))
 every-register-once-lent = lending.ledger-lent
 
 -- ---- The table of twelve calls (REFERENCE 9.8)

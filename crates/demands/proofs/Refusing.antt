@@ -1,11 +1,10 @@
 -- What a refusal is, of every operation: one of the seven numbers, the call as it was handed in, every other number 0, and no word of the lent
 -- buffer changed. Assumes nothing.
-use Prim.Native.Nat.{ℕ, zero, suc, _/_, _%_, _≤_, _<_}
-use mathlib.Core.Path.{_≡_, refl, sym}
+use Prim.Native.Nat.{ℕ, zero, suc, _/_, _%_, _≤_}
+use mathlib.Core.Path.{_≡_, refl}
 use mathlib.Core.List.{List, [], _∷_}
-use mathlib.Core.Bool.{Bool, true, false, cond}
+use mathlib.Core.Bool.{Bool, true, false}
 use native.Mathlib.Omega.{arith}
-use borrow.Author.Tests.{ltb-true}
 use lib.Dec.{leb, ltb}
 use lib.ListN.{length}
 use Rattle.shape.specs.declared.Arg as args
@@ -16,13 +15,17 @@ use Rattle.shape.specs.Numbers.{quad, accepted, bad-abi, bad-call, bad-list, ba
 use Rattle.shape.specs.Words.{piecesOf}
 use Rattle.abis.specs.Abis.{described}
 use Rattle.checks.specs.Check.{refuse, orElse, scalarRefusal, pieceRefusal, piecesRefusal, listRefusal, shapeRefusal}
-use Rattle.slots.specs.Words.{slotSize, written}
-use Rattle.slots.proofs.Words.{written-short}
+use Rattle.slots.specs.Words.{slotSize}
+use Rattle.describe.specs.declared.Terms.{Terms}
+use Rattle.describe.specs.Description.{Description, termsOf}
+use Rattle.spend.specs.declared.Left.{Left}
 use Rattle.spend.specs.declared.Spent.{Spent}
 use Rattle.classify.specs.declared.Call.{Call}
-use Rattle.classify.specs.Pass.{wayOf, slotsOf}
+use Rattle.classify.specs.declared.Answer.{Answer}
+use Rattle.classify.specs.Pass.{slotsOf}
 use Rattle.classify.specs.Classify.{Passed}
-use Rattle.classify.specs.Answers.{descriptions, isBadCall, answered, refused, done, callRefusal, argRefusal, refusalOf, orAnswer, inRoom, answerTo, unlessRefused, writtenTo, variadicAnswer, returnsAnswer, returnsWritten, argumentAnswer, argumentWritten, dotsAnswer, dotsWritten}
+use Rattle.classify.specs.Answers.{descriptions, isBadLeft, leftRefusal, argRefusal, checked, callRefusalBy, refusalBy, rowRefusal, refusalOf, refused, done, orAnswer, answerTo, writtenTo, variadicAnswerBy, returnsAnswerBy, returnsWrittenBy, argumentAnswerBy, argumentWrittenBy, dotsAnswerBy, dotsWrittenBy, variadicAnswer, returnsAnswer, returnsWritten, argumentAnswer, argumentWritten, dotsAnswer, dotsWritten}
+use Rattle.classify.proofs.Accepted.{by-cases}
 use Rattle.demands.specs.Refusals.{Refused}
 
 -- ---- every refusal is one of seven
@@ -76,60 +79,52 @@ arg-few args.the-variants.Void ws = omega arith
 arg-few (args.the-variants.Scalar s) ws = scalar-few s
 arg-few (args.the-variants.Aggregate shape) ws = shape-few shape ws
 
-call-few : (c : Call) → callRefusal c ≤ 7
-unfolding callRefusal
-call-few c =
-    let b : ℕ = refuse (isBadCall (described (c .abi)) c) bad-call accepted in
-    let lb : b ≤ 7 = refuse-few (isBadCall (described (c .abi)) c) bad-call accepted (omega arith) (omega arith) in
-    refuse-few (leb descriptions (c .abi)) bad-abi b (omega arith) lb
+left-few : (T : Terms) (left : Left) → leftRefusal T left ≤ 7
+unfolding leftRefusal
+left-few T left = refuse-few (isBadLeft T left) bad-call accepted (omega arith) (omega arith)
 
-refusal-few : (c : Call) (arg : args.Arg) (ws : List ℕ) → refusalOf c arg ws ≤ 7
-unfolding refusalOf
-refusal-few c arg ws = else-few (callRefusal c) (argRefusal arg ws) (call-few c) (arg-few arg ws)
+row-few : (abi : ℕ) → rowRefusal abi ≤ 7
+unfolding rowRefusal
+row-few abi = refuse-few (leb descriptions abi) bad-abi accepted (omega arith) (omega arith)
+
+call-few : (source : ℕ) (D : Description) (c : Call) → source ≤ 7 → callRefusalBy source D c ≤ 7
+unfolding callRefusalBy
+call-few source D c h = else-few source (leftRefusal (termsOf D) (c .left)) h (left-few (termsOf D) (c .left))
+
+refusal-few : (source : ℕ) (D : Description) (c : Call) (arg : args.Arg) (ws : List ℕ) → source ≤ 7 → refusalBy source D c arg ws ≤ 7
+unfolding refusalBy checked
+refusal-few source D c arg ws h =
+    else-few source _ h (else-few (leftRefusal (termsOf D) (c .left)) (argRefusal arg ws) (left-few (termsOf D) (c .left)) (arg-few arg ws))
 
 -- ---- a refusal leaves everything
 
 by-number : (n : ℕ) (c : Call) (out : List ℕ) → n ≤ 7 → Refused c out (refused c n) out
 by-number n c out h = record { one-of-seven = h; same-call = refl; rest-zero = refl; same-words = refl }
 
-room-by : (b : Bool) (c next : Call) (p : Passed) (spent : Spent) (out : List ℕ) → ltb (length out / slotSize) (length (slotsOf (p .pass))) ≡ b
-    → (cond b (refused c no-room) (answered next accepted (wayOf (p .pass)) spent (length (slotsOf (p .pass)))) .outcome .refusal ≡ accepted → ⊥)
-    → Refused c out (cond b (refused c no-room) (answered next accepted (wayOf (p .pass)) spent (length (slotsOf (p .pass))))) (written (slotsOf (p .pass)) out)
-room-by true c next p spent out e h =
-    let l : length out / slotSize < length (slotsOf (p .pass)) = ltb-true _ _ e in
-    record { one-of-seven = omega arith; same-call = refl; rest-zero = refl; same-words = sym (written-short (slotsOf (p .pass)) out (omega arith)) }
-room-by false c next p spent out e h = absurd (h refl)
-
-room-refused : (c : Call) (p : Passed) (spent : Spent) (out : List ℕ) → (inRoom c p spent out .outcome .refusal ≡ accepted → ⊥)
-    → Refused c out (inRoom c p spent out) (written (slotsOf (p .pass)) out)
-unfolding inRoom
-room-refused c p spent out h = room-by _ c _ p spent out refl h
-
-answer-by : (n : ℕ) → n ≤ 7 → (c : Call) (p : Passed) (spent : Spent) (out : List ℕ) → (orAnswer n c (inRoom c p spent out) .outcome .refusal ≡ accepted → ⊥)
-    → Refused c out (orAnswer n c (inRoom c p spent out)) (unlessRefused n (written (slotsOf (p .pass)) out) out)
-answer-by zero k c p spent out h = room-refused c p spent out h
-answer-by (suc n) k c p spent out h = by-number (suc n) c out k
-
 -- every operation on a value
-answer-refused : (c : Call) (arg : args.Arg) (ws : List ℕ) (p : Passed) (spent : Spent) (out : List ℕ) → (answerTo c arg ws p spent out .outcome .refusal ≡ accepted → ⊥)
-    → Refused c out (answerTo c arg ws p spent out) (writtenTo c arg ws p out)
-unfolding answerTo writtenTo
-answer-refused c arg ws p spent out h = answer-by (refusalOf c arg ws) (refusal-few c arg ws) c p spent out h
+answer-refused : (checks : ℕ) → checks ≤ 7 → (c : Call) (p : Passed) (spent : Spent) (out : List ℕ) → (answerTo checks c p spent out .outcome .refusal ≡ accepted → ⊥)
+    → Refused c out (answerTo checks c p spent out) (writtenTo checks p out)
+answer-refused checks h c p spent out =
+    by-cases checks c p spent out (λ (a : Answer) (words : List ℕ). (a .outcome .refusal ≡ accepted → ⊥) → Refused c out a words)
+    (λ n e _. by-number (suc n) c out (rw (← e) (else-few checks _ h (refuse-few (ltb (length out / slotSize) (length (slotsOf (p .pass)))) no-room accepted (omega arith) (omega arith)))))
+    (λ z room x. absurd (x refl))
 
-pub return-refused : (c : Call) (arg : args.Arg) (words out : List ℕ) → (returnsAnswer c arg words out .outcome .refusal ≡ accepted → ⊥)
-    → Refused c out (returnsAnswer c arg words out) (returnsWritten c arg words out)
-unfolding returnsAnswer returnsWritten
-return-refused c arg words out h = answer-refused c arg words _ _ out h
+module _ (c : Call) (arg : args.Arg) (words out : List ℕ) where
+  few : refusalOf c arg words ≤ 7
+  unfolding refusalOf
+  few = refusal-few (rowRefusal (c .abi)) (described (c .abi)) c arg words (row-few (c .abi))
 
-pub argument-refused : (c : Call) (arg : args.Arg) (words out : List ℕ) → (argumentAnswer c arg words out .outcome .refusal ≡ accepted → ⊥)
-    → Refused c out (argumentAnswer c arg words out) (argumentWritten c arg words out)
-unfolding argumentAnswer argumentWritten
-argument-refused c arg words out h = answer-refused c arg words _ _ out h
+  pub return-refused : (returnsAnswer c arg words out .outcome .refusal ≡ accepted → ⊥) → Refused c out (returnsAnswer c arg words out) (returnsWritten c arg words out)
+  unfolding returnsAnswer returnsWritten returnsAnswerBy returnsWrittenBy refusalOf
+  return-refused = answer-refused (refusalOf c arg words) few c _ _ out
 
-pub dots-refused : (c : Call) (arg : args.Arg) (words out : List ℕ) → (dotsAnswer c arg words out .outcome .refusal ≡ accepted → ⊥)
-    → Refused c out (dotsAnswer c arg words out) (dotsWritten c arg words out)
-unfolding dotsAnswer dotsWritten
-dots-refused c arg words out h = answer-refused c arg words _ _ out h
+  pub argument-refused : (argumentAnswer c arg words out .outcome .refusal ≡ accepted → ⊥) → Refused c out (argumentAnswer c arg words out) (argumentWritten c arg words out)
+  unfolding argumentAnswer argumentWritten argumentAnswerBy argumentWrittenBy refusalOf
+  argument-refused = answer-refused (refusalOf c arg words) few c _ _ out
+
+  pub dots-refused : (dotsAnswer c arg words out .outcome .refusal ≡ accepted → ⊥) → Refused c out (dotsAnswer c arg words out) (dotsWritten c arg words out)
+  unfolding dotsAnswer dotsWritten dotsAnswerBy dotsWrittenBy refusalOf
+  dots-refused = answer-refused (refusalOf c arg words) few c _ _ out
 
 mark-by : (n : ℕ) → n ≤ 7 → (c next : Call) (out : List ℕ) → (orAnswer n c (done next) .outcome .refusal ≡ accepted → ⊥) → Refused c out (orAnswer n c (done next)) out
 mark-by zero k c next out h = absurd (h refl)
@@ -137,5 +132,5 @@ mark-by (suc n) k c next out h = by-number (suc n) c out k
 
 -- the mark
 pub mark-refused : (c : Call) → (variadicAnswer c .outcome .refusal ≡ accepted → ⊥) → Refused c [] (variadicAnswer c) []
-unfolding variadicAnswer
-mark-refused c h = mark-by (callRefusal c) (call-few c) c _ [] h
+unfolding variadicAnswer variadicAnswerBy
+mark-refused c h = mark-by _ (call-few (rowRefusal (c .abi)) (described (c .abi)) c (row-few (c .abi))) c _ [] h

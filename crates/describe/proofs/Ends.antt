@@ -19,7 +19,7 @@ use Rattle.describe.proofs.Numbers.{and-left, and-right}
 abbrev isAnything : Test → Bool
 isAnything Anything = true
 isAnything Empty = false
-isAnything (SizeOneOf a b c d) = false
+isAnything (SizeOneOf k a b c d) = false
 isAnything (SizeAtMost limit) = false
 isAnything (Homogeneous limit) = false
 isAnything FloatPair = false
@@ -32,7 +32,7 @@ isAnything (Eightbytes limit) = false
 anything : (t : Test) → T (isAnything t) → t ≡ Anything
 anything Anything h = refl
 anything Empty h = absurd h
-anything (SizeOneOf a b c d) h = absurd h
+anything (SizeOneOf k a b c d) h = absurd h
 anything (SizeAtMost limit) h = absurd h
 anything (Homogeneous limit) h = absurd h
 anything FloatPair h = absurd h

@@ -11,9 +11,9 @@ use lib.ListN.{length, getD, List·getD-eq-default}
 use Rattle.describe.specs.declared.Banks.{Banks}
 use Rattle.describe.specs.declared.Scalars.{Scalars}
 use Rattle.describe.specs.declared.Rule.{Rule}
-use Rattle.describe.specs.Description.{Description, past, others}
+use Rattle.describe.specs.Description.{Description, past, termsOf, othersOf}
 use Rattle.describe.specs.Codes.{flag, testCode, testNumber, travelCode, shortCode, returnPointerCode, variadicCode, stackArgsCode, narrowCode, bitIntsCode, cleanupCode, testFrom, travelFrom, shortFrom}
-use Rattle.describe.specs.Row.{encode, decode, held, heldTest, heldTests, heldRules, heldBanks, heldFormats, wayByte, ruleFrom, ruleOf, returnRule, argumentRule, rulesFrom, banksOf, scalarsOf, othersOf, bit, flagsByte, formatsByte, callsByte}
+use Rattle.describe.specs.Row.{encode, decode, held, heldTest, heldTests, heldRules, heldBanks, heldFormats, wayByte, ruleFrom, ruleOf, returnRule, argumentRule, rulesFrom, banksFrom, scalarsFrom, termsFrom, othersFrom, bit, flagsByte, formatsByte, callsByte}
 use Rattle.describe.proofs.Numbers.{and-left, and-right, flag-back, flag-fits, test-back, test-stands, travel-back, travel-fits, short-back, return-pointer-back, return-pointer-fits, variadic-back, stack-args-back, stack-args-fits, narrow-back, narrow-fits, bit-ints-back, bit-ints-fits, cleanup-back}
 
 -- The eight bits of a byte.
@@ -187,36 +187,57 @@ module _ (D : Description) (h : T (held D)) where
   flags : FlagsBack (D .banks) (D .scalars)
   flags = flags-back (D .banks) (D .scalars)
 
-  pub banks-back : banksOf (encode D) ≡ D .banks
-  unfolding banksOf
+  banks-back : banksFrom (encode D) ≡ D .banks
+  unfolding banksFrom
   banks-back = simp (flags .shared)
 
-  pub scalars-back : scalarsOf (encode D) ≡ D .scalars
-  unfolding scalarsOf
+  scalars-back : scalarsFrom (encode D) ≡ D .scalars
+  unfolding scalarsFrom
   scalars-back =
       let small = leb→le (D .scalars .«in_memory») 4 (and-left (leb (D .scalars .«in_memory») 4) (leb (D .scalars .«wide_integer_returns_in») 4) (parts .1)) in
       let low : formatsByte (D .scalars) % 8 ≡ D .scalars .«in_memory» = omega arith in
       let high : formatsByte (D .scalars) / 8 ≡ D .scalars .«wide_integer_returns_in» = omega arith in
       simp (flags .«wide_integer_is_all_or_nothing», flags .«wide_integer_starts_even», flags .«wide_integer_drains», flags .«wide_is_by_reference», flags .«wide_integer_in_memory», flags .«decimal_in_integers», flags .«quad_returns_by_reference», low, high)
 
-  pub others-back : othersOf (encode D) ≡ others D
-  unfolding othersOf
-  others-back =
-      let pointer = return-pointer-fits (D .«return_pointer») in
-      let low : callsByte D % 4 ≡ returnPointerCode (D .«return_pointer») = omega arith in
-      let high : callsByte D / 4 ≡ variadicCode (D .variadic) = omega arith in
-      let s = stackArgsCode (D .«stack_args») in
-      let n = narrowCode (D .narrow) in
-      let b = bitIntsCode (D .«bit_ints») in
-      let k = cleanupCode (D .cleanup) in
-      let hs = stack-args-fits (D .«stack_args») in
-      let hn = narrow-fits (D .narrow) in
-      let hb = bit-ints-fits (D .«bit_ints») in
-      simp (low, high, stack-part s n b k hs hn hb, narrow-part s n b k hs hn hb, bits-part s n b k hs hn hb, cleanup-part s n b k hs hn hb, return-pointer-back, variadic-back, stack-args-back, narrow-back, bit-ints-back, cleanup-back)
+  -- the two bytes of the fields beside these
+  low : callsByte D % 4 ≡ returnPointerCode (D .«return_pointer»)
+  low = let pointer = return-pointer-fits (D .«return_pointer») in omega arith
+
+  high : callsByte D / 4 ≡ variadicCode (D .variadic)
+  high = let pointer = return-pointer-fits (D .«return_pointer») in omega arith
+
+  abbrev s : ℕ
+  s = stackArgsCode (D .«stack_args»)
+
+  abbrev n : ℕ
+  n = narrowCode (D .narrow)
+
+  abbrev b : ℕ
+  b = bitIntsCode (D .«bit_ints»)
+
+  abbrev k : ℕ
+  k = cleanupCode (D .cleanup)
+
+  hs : s < 2
+  hs = stack-args-fits (D .«stack_args»)
+
+  hn : n < 4
+  hn = narrow-fits (D .narrow)
+
+  hb : b < 2
+  hb = bit-ints-fits (D .«bit_ints»)
+
+  pub terms-back : termsFrom (encode D) ≡ termsOf D
+  unfolding termsFrom
+  terms-back = simp (banks-back, scalars-back, low, high, stack-part s n b k hs hn hb, return-pointer-back, variadic-back, stack-args-back)
+
+  pub others-back : othersFrom (encode D) ≡ othersOf D
+  unfolding othersFrom
+  others-back = simp (narrow-part s n b k hs hn hb, bits-part s n b k hs hn hb, cleanup-part s n b k hs hn hb, narrow-back, bit-ints-back, cleanup-back)
 
   pub decode-back : decode (D .name) (encode D) ≡ D
   unfolding decode
   decode-back =
       let few-returns = leb→le (length (D .returns)) 4 (and-left (leb (length (D .returns)) 4) (heldTests (D .returns)) (parts .2)) in
       let few-arguments = leb→le (length (D .arguments)) 4 (and-left (leb (length (D .arguments)) 4) (heldTests (D .arguments)) (parts .3)) in
-      simp (banks-back, scalars-back, others-back, rules-back (encode D) 8 (D .returns) few-returns (returns-there D) return-rule-back, rules-back (encode D) 20 (D .arguments) few-arguments (arguments-there D) argument-rule-back)
+      simp (terms-back, others-back, rules-back (encode D) 8 (D .returns) few-returns (returns-there D) return-rule-back, rules-back (encode D) 20 (D .arguments) few-arguments (arguments-there D) argument-rule-back)

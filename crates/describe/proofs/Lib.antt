@@ -2,4 +2,5 @@ pub mod Cases
 pub mod Numbers
 pub mod Inverse
 pub mod Ends
+mod Dotted
 mod Unique

@@ -157,7 +157,7 @@ module _ (a b c d : ℕ) (ha : a < 4) (hb : b < 4) (hc : c < 4) (hd : d < 4) whe
   fourth-digit = omega arith
 
 sizes-back : (a b c d : ℕ) → SizeBack a → SizeBack b → SizeBack c → SizeBack d →
-    testFrom 3 (sizeCode a + 4 * sizeCode b + 16 * sizeCode c + 64 * sizeCode d) ≡ SizeOneOf a b c d
+    testFrom 3 (sizeCode a + 4 * sizeCode b + 16 * sizeCode c + 64 * sizeCode d) ≡ SizeOneOf 4 a b c d
 unfolding testFrom
 sizes-back a b c d ha hb hc hd =
     simp (
@@ -175,18 +175,20 @@ pub test-back : (t : Test) → T (heldTest t) → testFrom (testCode t) (testNum
 unfolding testFrom
 test-back Anything h = refl
 test-back Empty h = refl
-test-back (SizeOneOf a b c d) h =
-    let hb = and-right (registerSize a) (registerSize b && (registerSize c && registerSize d)) h in
+test-back (SizeOneOf k a b c d) h =
+    let four : k ≡ 4 = eqb→eq k 4 (and-left (eqb k 4) (registerSize a && (registerSize b && (registerSize c && registerSize d))) h) in
+    let ha = and-right (eqb k 4) (registerSize a && (registerSize b && (registerSize c && registerSize d))) h in
+    let hb = and-right (registerSize a) (registerSize b && (registerSize c && registerSize d)) ha in
     let hc = and-right (registerSize b) (registerSize c && registerSize d) hb in
-    sizes-back
+    rw four (sizes-back
     a
     b
     c
     d
-    (size-back a (and-left (registerSize a) (registerSize b && (registerSize c && registerSize d)) h))
+    (size-back a (and-left (registerSize a) (registerSize b && (registerSize c && registerSize d)) ha))
     (size-back b (and-left (registerSize b) (registerSize c && registerSize d) hb))
     (size-back c (and-left (registerSize c) (registerSize d) hc))
-    (size-back d (and-right (registerSize c) (registerSize d) hc))
+    (size-back d (and-right (registerSize c) (registerSize d) hc)))
 test-back (SizeAtMost limit) h = refl
 test-back (Homogeneous limit) h = refl
 test-back FloatPair h = refl
@@ -204,7 +206,7 @@ test-apart a b ha hb code number =
 pub test-stands : (t : Test) → eqb (testCode t) 0 ≡ false
 test-stands Anything = refl
 test-stands Empty = refl
-test-stands (SizeOneOf a b c d) = refl
+test-stands (SizeOneOf k a b c d) = refl
 test-stands (SizeAtMost limit) = refl
 test-stands (Homogeneous limit) = refl
 test-stands FloatPair = refl

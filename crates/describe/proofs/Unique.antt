@@ -2,29 +2,25 @@
 use mathlib.Core.Path.{sym, _∙_}
 use contract.Lifetimes.{Lfts}
 use Rattle.shape.proofs.OneAnswer.{OneAnswer}
-use Rattle.describe.proofs.row.banks_of.Reads as banks-of
-use Rattle.describe.proofs.row.scalars_of.Reads as scalars-of
+use Rattle.describe.proofs.row.terms_of.Reads as terms-of
 use Rattle.describe.proofs.row.others_of.Reads as others-of
-use Rattle.describe.proofs.row.return_pointer_of.Reads as return-pointer-of
-use Rattle.describe.proofs.row.variadic_of.Reads as variadic-of
+use Rattle.describe.proofs.dots_of.Reads as dots-of
+use Rattle.describe.proofs.as_fixed.Reads as as-fixed
 use Rattle.describe.proofs.scalar_is_by_reference.Reads as scalar-is-by-reference
 use Rattle.describe.proofs.scalar_returns_by_reference.Reads as scalar-returns-by-reference
 use Rattle.describe.proofs.wide_integer_returns_in.Reads as wide-integer-returns-in
 
-banks-of-decides : (κs : Lfts 0) → OneAnswer (banks-of.Post κs)
-banks-of-decides κs a r q s t p p′ = p ∙ sym p′
-
-scalars-of-decides : (κs : Lfts 0) → OneAnswer (scalars-of.Post κs)
-scalars-of-decides κs a r q s t p p′ = p ∙ sym p′
+terms-of-decides : (κs : Lfts 0) → OneAnswer (terms-of.Post κs)
+terms-of-decides κs a r q s t p p′ = p ∙ sym p′
 
 others-of-decides : (κs : Lfts 0) → OneAnswer (others-of.Post κs)
 others-of-decides κs a r q s t p p′ = p ∙ sym p′
 
-return-pointer-of-decides : (κs : Lfts 0) → OneAnswer (return-pointer-of.Post κs)
-return-pointer-of-decides κs a r q s t p p′ = p ∙ sym p′
+dots-of-decides : (κs : Lfts 0) → OneAnswer (dots-of.Post κs)
+dots-of-decides κs a r q s t p p′ = p ∙ sym p′
 
-variadic-of-decides : (κs : Lfts 0) → OneAnswer (variadic-of.Post κs)
-variadic-of-decides κs a r q s t p p′ = p ∙ sym p′
+as-fixed-decides : (κs : Lfts 0) → OneAnswer (as-fixed.Post κs)
+as-fixed-decides κs a r q s t p p′ = p ∙ sym p′
 
 scalar-is-by-reference-decides : (κs : Lfts 0) → OneAnswer (scalar-is-by-reference.Post κs)
 scalar-is-by-reference-decides κs a r q s t p p′ = p ∙ sym p′

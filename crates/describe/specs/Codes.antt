@@ -31,7 +31,7 @@ flag true = 1
 abbrev pub testCode : Test → ℕ
 testCode Anything = 1
 testCode Empty = 2
-testCode (SizeOneOf a b c d) = 3
+testCode (SizeOneOf k a b c d) = 3
 testCode (SizeAtMost limit) = 4
 testCode (Homogeneous limit) = 5
 testCode FloatPair = 6
@@ -48,7 +48,7 @@ sizeCode size = cond (eqb size 1) 0 (cond (eqb size 2) 1 (cond (eqb size 4) 2 3)
 abbrev pub testNumber : Test → ℕ
 testNumber Anything = 0
 testNumber Empty = 0
-testNumber (SizeOneOf a b c d) = sizeCode a + 4 * sizeCode b + 16 * sizeCode c + 64 * sizeCode d
+testNumber (SizeOneOf k a b c d) = sizeCode a + 4 * sizeCode b + 16 * sizeCode c + 64 * sizeCode d
 testNumber (SizeAtMost limit) = limit
 testNumber (Homogeneous limit) = limit
 testNumber FloatPair = 0
@@ -111,7 +111,7 @@ firstTests number =
     Anything
     ∷ Anything
     ∷ Empty
-    ∷ SizeOneOf (sizeFrom (number % 4)) (sizeFrom (number / 4 % 4)) (sizeFrom (number / 16 % 4)) (sizeFrom (number / 64))
+    ∷ SizeOneOf 4 (sizeFrom (number % 4)) (sizeFrom (number / 4 % 4)) (sizeFrom (number / 16 % 4)) (sizeFrom (number / 64))
     ∷ SizeAtMost number
     ∷ Homogeneous number
     ∷ FloatPair

@@ -18,6 +18,7 @@ use Rattle.describe.specs.declared.StackArgs.{StackArgs}
 use Rattle.describe.specs.declared.Narrow.{Narrow}
 use Rattle.describe.specs.declared.BitInts.{BitInts}
 use Rattle.describe.specs.declared.Cleanup.{Cleanup}
+use Rattle.describe.specs.declared.Terms.{Terms}
 use Rattle.describe.specs.declared.Others.{Others}
 
 -- One calling convention, completely. The name is its bytes.
@@ -34,13 +35,20 @@ pub record Description : Type 0 where
   pub «bit_ints» : BitInts
   pub cleanup : Cleanup
 
--- The fields beside banks, scalar rules and rules, as the code's own record of them.
-abbrev pub others : Description → Others
-others D =
+-- What classification reads of it beside the rules, and what it doesn't, as the code's own records have them.
+abbrev pub termsOf : Description → Terms
+termsOf D =
     record {
+      banks = D .banks;
+      scalars = D .scalars;
       «return_pointer» = D .«return_pointer»;
       variadic = D .variadic;
       «stack_args» = D .«stack_args»;
+    }
+
+abbrev pub othersOf : Description → Others
+othersOf D =
+    record {
       narrow = D .narrow;
       «bit_ints» = D .«bit_ints»;
       cleanup = D .cleanup;

@@ -2,3 +2,4 @@ pub mod Description
 pub mod Codes
 pub mod Row
 pub mod Questions
+pub mod Dots

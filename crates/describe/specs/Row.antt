@@ -6,13 +6,12 @@ use lib.Dec.{eqb, leb, ltb}
 use lib.ListN.{length, getD}
 use Rattle.describe.specs.declared.Banks.{Banks}
 use Rattle.describe.specs.declared.Scalars.{Scalars}
+use Rattle.describe.specs.declared.Terms.{Terms}
 use Rattle.describe.specs.declared.Others.{Others}
 use Rattle.describe.specs.declared.Rule.{Rule}
 use Rattle.describe.specs.declared.Rules.{Rules}
 use Rattle.describe.specs.declared.Test.{Test}
 use Rattle.describe.specs.declared.Test.the-variants.{Anything, Empty, SizeOneOf, SizeAtMost, Homogeneous, FloatPair, X87Stack, LoneFloat, FloatingMode, ComplexFloat, Eightbytes}
-use Rattle.describe.specs.declared.ReturnPointer.{ReturnPointer}
-use Rattle.describe.specs.declared.Variadic.{Variadic}
 use Rattle.describe.specs.Description.{Description, past}
 use Rattle.describe.specs.Codes.{flag, testCode, testNumber, travelCode, shortCode, returnPointerCode, variadicCode, stackArgsCode, narrowCode, bitIntsCode, cleanupCode, testFrom, travelFrom, shortFrom, returnPointerFrom, variadicFrom, stackArgsFrom, narrowFrom, bitIntsFrom, cleanupFrom}
 use Rattle.describe.specs.Questions.{registerSize}
@@ -69,15 +68,15 @@ encode D =
     ∷ stackByte D
     ∷ rulesBytes (D .returns) (rulesBytes (D .arguments) [])
 
--- What the encoding can hold: numbers below 256, formats that are kinds, no list longer than four, and SizeOneOf of sizes that
--- a register may have.
+-- What the encoding can hold: numbers below 256, formats that are kinds, no list longer than four, and SizeOneOf of four sizes
+-- that a register may have.
 abbrev pub byte : ℕ → Bool
 byte n = ltb n 256
 
 abbrev pub heldTest : Test → Bool
 heldTest Anything = true
 heldTest Empty = true
-heldTest (SizeOneOf a b c d) = registerSize a && (registerSize b && (registerSize c && registerSize d))
+heldTest (SizeOneOf k a b c d) = eqb k 4 && (registerSize a && (registerSize b && (registerSize c && registerSize d)))
 heldTest (SizeAtMost limit) = byte limit
 heldTest (Homogeneous limit) = byte limit
 heldTest FloatPair = true
@@ -110,8 +109,8 @@ held D = heldBanks (D .banks) && (heldFormats (D .scalars) && (heldRules (D .ret
 abbrev pub bit : ℕ → ℕ → Bool
 bit byte place = eqb (byte / place % 2) 1
 
-unfoldable pub banksOf : List ℕ → Banks
-banksOf row =
+unfoldable pub banksFrom : List ℕ → Banks
+banksFrom row =
     record {
       integer = getD row 0 0;
       float = getD row 1 0;
@@ -120,8 +119,8 @@ banksOf row =
       «float_width» = getD row 3 0;
     }
 
-unfoldable pub scalarsOf : List ℕ → Scalars
-scalarsOf row =
+unfoldable pub scalarsFrom : List ℕ → Scalars
+scalarsFrom row =
     record {
       «in_memory» = getD row 5 0 % 8;
       «wide_integer_is_all_or_nothing» = bit (getD row 4 0) 2;
@@ -134,18 +133,19 @@ scalarsOf row =
       «quad_returns_by_reference» = bit (getD row 4 0) 128;
     }
 
-abbrev pub returnPointerOf : List ℕ → ReturnPointer
-returnPointerOf row = returnPointerFrom (getD row 6 0 % 4)
-
-abbrev pub variadicOf : List ℕ → Variadic
-variadicOf row = variadicFrom (getD row 6 0 / 4)
-
-unfoldable pub othersOf : List ℕ → Others
-othersOf row =
+unfoldable pub termsFrom : List ℕ → Terms
+termsFrom row =
     record {
-      «return_pointer» = returnPointerOf row;
-      variadic = variadicOf row;
+      banks = banksFrom row;
+      scalars = scalarsFrom row;
+      «return_pointer» = returnPointerFrom (getD row 6 0 % 4);
+      variadic = variadicFrom (getD row 6 0 / 4);
       «stack_args» = stackArgsFrom (getD row 7 0 % 2);
+    }
+
+unfoldable pub othersFrom : List ℕ → Others
+othersFrom row =
+    record {
       narrow = narrowFrom (getD row 7 0 / 2 % 4);
       «bit_ints» = bitIntsFrom (getD row 7 0 / 8 % 2);
       cleanup = cleanupFrom (getD row 7 0 / 16);
@@ -205,6 +205,15 @@ firstRule R = ruleFrom (R .tests % 256) (R .tests / 256 % 256) (R .ways % 256)
 unfoldable pub laterRules : Rules → Rules
 laterRules R = record { tests = R .tests / 65536; ways = R .ways / 256 }
 
+-- The list that two numbers stand for: rules are taken off as long as a test is left. Each takes some off the tests, so there are no more
+-- turns than the tests' number.
+abbrev pub listedIn : ℕ → Rules → List Rule
+listedIn zero R = []
+listedIn (suc n) R = cond (eqb (R .tests) 0) [] (firstRule R ∷ listedIn n (laterRules R))
+
+unfoldable pub listed : Rules → List Rule
+listed R = listedIn (R .tests) R
+
 -- A list's rules, up to the first place where none stands.
 abbrev pub rulesFrom : ℕ → List ℕ → ℕ → ℕ → List Rule
 rulesFrom zero row first i = []
@@ -215,14 +224,14 @@ unfoldable pub decode : List ℕ → List ℕ → Description
 decode name row =
     record {
       name = name;
-      banks = banksOf row;
-      scalars = scalarsOf row;
+      banks = termsFrom row .banks;
+      scalars = termsFrom row .scalars;
       returns = rulesFrom 4 row 8 0;
       arguments = rulesFrom 4 row 20 0;
-      «return_pointer» = othersOf row .«return_pointer»;
-      variadic = othersOf row .variadic;
-      «stack_args» = othersOf row .«stack_args»;
-      narrow = othersOf row .narrow;
-      «bit_ints» = othersOf row .«bit_ints»;
-      cleanup = othersOf row .cleanup;
+      «return_pointer» = termsFrom row .«return_pointer»;
+      variadic = termsFrom row .variadic;
+      «stack_args» = termsFrom row .«stack_args»;
+      narrow = othersFrom row .narrow;
+      «bit_ints» = othersFrom row .«bit_ints»;
+      cleanup = othersFrom row .cleanup;
     }

@@ -1,7 +1,8 @@
-// The language of descriptions (REFERENCE 5): what a description says, and the questions that its scalar rules answer by
-// themselves. `row` reads a description from a row of bytes, but for its rules, which the crate `rules` reads.
+// The language of descriptions (REFERENCE 5): what a description says, the questions that its scalar rules answer by themselves, and
+// what its variadic kind comes to. `row` reads a description from a row of bytes, but for its rules, which the crate `rules` reads.
 ghost use mathlib.Core.Path.{_≡_};
 ghost use Rattle.describe.specs.Questions.{isByReference, returnsByReference, wideReturnsIn, registerSize};
+ghost use Rattle.describe.specs.Dots.{dotsOf, asFixed};
 
 pub mod codes;
 mod row;
@@ -10,17 +11,14 @@ pub use row::ARGUMENTS;
 pub use row::RETURNS;
 pub use row::RULES;
 pub use row::WIDTH;
-pub use row::banks_of;
 pub use row::others_of;
-pub use row::return_pointer_of;
-pub use row::scalars_of;
-pub use row::variadic_of;
+pub use row::terms_of;
 
-// What an aggregate has to look like for a rule to apply.
+// What an aggregate has to look like for a rule to apply. SizeOneOf has a count, and of the four sizes behind it the first so many.
 pub enum Test {
     Anything,
     Empty,
-    SizeOneOf(u64, u64, u64, u64),
+    SizeOneOf(u64, u64, u64, u64, u64),
     SizeAtMost(u64),
     Homogeneous(u64),
     FloatPair,
@@ -127,14 +125,64 @@ pub enum Cleanup {
     Callee,
 }
 
-// The fields of a description beside its banks, scalar rules and lists of rules.
-pub struct Others {
+// What classification reads of a description, beside its two lists of rules.
+pub struct Terms {
+    pub banks: Banks,
+    pub scalars: Scalars,
     pub return_pointer: ReturnPointer,
     pub variadic: Variadic,
     pub stack_args: StackArgs,
+}
+
+// The fields that it doesn't read.
+pub struct Others {
     pub narrow: Narrow,
     pub bit_ints: BitInts,
     pub cleanup: Cleanup,
+}
+
+// What a variadic kind comes to. `mark`: a call to a variadic function is marked, and floats go in integer registers alone, those of named
+// arguments too. `emptied`: an argument after the dots is classified as though no register were left, and spends none. `integers_only`: such
+// an argument goes in integer registers alone, and no other does.
+pub struct Dots {
+    pub mark: bool,
+    pub emptied: bool,
+    pub integers_only: bool,
+}
+
+pub fn dots_of(variadic: Variadic) -> Dots
+    ensures { λ r. ⌜ r ≡ dotsOf variadic ⌝ }
+{
+    match variadic {
+        Variadic::SameAsFixed => as_fixed(),
+        Variadic::AlwaysMemory => Dots {
+            mark: false,
+            emptied: true,
+            integers_only: false,
+        },
+        Variadic::BothBanks => as_fixed(),
+        Variadic::IntegersOnly => Dots {
+            mark: true,
+            emptied: false,
+            integers_only: false,
+        },
+        Variadic::UnnamedIntegers => Dots {
+            mark: false,
+            emptied: false,
+            integers_only: true,
+        },
+    }
+}
+
+// Nothing that a fixed argument wouldn't do, and nothing marked.
+pub fn as_fixed() -> Dots
+    ensures { λ r. ⌜ r ≡ asFixed ⌝ }
+{
+    Dots {
+        mark: false,
+        emptied: false,
+        integers_only: false,
+    }
 }
 
 // Whether a scalar of this size travels as the address of a copy.

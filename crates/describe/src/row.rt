@@ -1,6 +1,6 @@
 // A description as a row of bytes, and what it says beside its rules, read back; the crate `rules` reads these.
 ghost use mathlib.Core.Path.{_≡_};
-ghost use Rattle.describe.specs.Row.{banksOf, scalarsOf, othersOf, returnPointerOf, variadicOf};
+ghost use Rattle.describe.specs.Row.{banksFrom, scalarsFrom, termsFrom, othersFrom};
 ghost use Rattle.describe.specs.Codes.{returnPointerFrom, variadicFrom, stackArgsFrom, narrowFrom, bitIntsFrom, cleanupFrom};
 use crate::codes::*;
 use crate::*;
@@ -35,8 +35,34 @@ pub const ARGUMENTS: usize = 20;
 // The rules that a row holds for each list, at most.
 pub const RULES: u64 = 4;
 
-pub fn banks_of(row: [u8; WIDTH]) -> Banks
-    ensures { λ r. ⌜ r ≡ banksOf row ⌝ }
+// What classification reads.
+pub fn terms_of(row: [u8; WIDTH]) -> Terms
+    ensures { λ r. ⌜ r ≡ termsFrom row ⌝ }
+{
+    let calls = row[CALLS];
+    Terms {
+        banks: banks_of(row),
+        scalars: scalars_of(row),
+        return_pointer: return_pointer_from(calls % 4),
+        variadic: variadic_from(calls / 4),
+        stack_args: stack_args_from(row[STACK] % 2),
+    }
+}
+
+// What it doesn't.
+pub fn others_of(row: [u8; WIDTH]) -> Others
+    ensures { λ r. ⌜ r ≡ othersFrom row ⌝ }
+{
+    let stack = row[STACK];
+    Others {
+        narrow: narrow_from(stack / 2 % 4),
+        bit_ints: bit_ints_from(stack / 8 % 2),
+        cleanup: cleanup_from(stack / 16),
+    }
+}
+
+fn banks_of(row: [u8; WIDTH]) -> Banks
+    ensures { λ r. ⌜ r ≡ banksFrom row ⌝ }
 {
     Banks {
         integer: wide(row[INTEGER]),
@@ -47,8 +73,8 @@ pub fn banks_of(row: [u8; WIDTH]) -> Banks
     }
 }
 
-pub fn scalars_of(row: [u8; WIDTH]) -> Scalars
-    ensures { λ r. ⌜ r ≡ scalarsOf row ⌝ }
+fn scalars_of(row: [u8; WIDTH]) -> Scalars
+    ensures { λ r. ⌜ r ≡ scalarsFrom row ⌝ }
 {
     let flags = row[FLAGS];
     let formats = row[FORMATS];
@@ -63,32 +89,6 @@ pub fn scalars_of(row: [u8; WIDTH]) -> Scalars
         decimal_in_integers: flags / DECIMAL_IN_INTEGERS % 2 == 1,
         quad_returns_by_reference: flags / QUAD_RETURNS_BY_REFERENCE % 2 == 1,
     }
-}
-
-pub fn others_of(row: [u8; WIDTH]) -> Others
-    ensures { λ r. ⌜ r ≡ othersOf row ⌝ }
-{
-    let stack = row[STACK];
-    Others {
-        return_pointer: return_pointer_of(row),
-        variadic: variadic_of(row),
-        stack_args: stack_args_from(stack % 2),
-        narrow: narrow_from(stack / 2 % 4),
-        bit_ints: bit_ints_from(stack / 8 % 2),
-        cleanup: cleanup_from(stack / 16),
-    }
-}
-
-pub fn return_pointer_of(row: [u8; WIDTH]) -> ReturnPointer
-    ensures { λ r. ⌜ r ≡ returnPointerOf row ⌝ }
-{
-    return_pointer_from(row[CALLS] % 4)
-}
-
-pub fn variadic_of(row: [u8; WIDTH]) -> Variadic
-    ensures { λ r. ⌜ r ≡ variadicOf row ⌝ }
-{
-    variadic_from(row[CALLS] / 4)
 }
 
 fn return_pointer_from(code: u8) -> ReturnPointer

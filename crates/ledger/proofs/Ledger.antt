@@ -1,5 +1,6 @@
 -- The ledger: on every description, after every prefix of every list of operations, each register has one holder and the counts add up. Each
 -- operation is fair on the call that the one before handed back (Fair.antt), and over fair answers the registers are as stated (Registers.antt).
+-- The theorem is for any description and any call that has every register left and passes the checks; that of a row is an instance.
 use Prim.Native.Nat.{ℕ, zero, suc, _+_, _-_, _≤_, _<_}
 use mathlib.Core.Path.{_≡_, refl, sym, ap, subst, _∙_}
 use mathlib.Core.List.{List, [], _∷_}
@@ -10,64 +11,48 @@ use borrow.Author.Tests.{ltb-true, ltb-false, lt-leb}
 use lib.Dec.{T, ltb}
 use lib.ListN.{take, getElem?}
 use Rattle.shape.specs.Numbers.{accepted}
+use Rattle.describe.specs.Description.{Description}
 use Rattle.abis.specs.Abis.{described}
 use Rattle.classify.specs.declared.Call.{Call}
 use Rattle.classify.specs.declared.Answer.{Answer}
 use Rattle.classify.specs.Classify.{call}
-use Rattle.classify.specs.Answers.{descriptions, callOf, callRefusal, freshAnswer}
-use Rattle.ledger.specs.Ledger.{Operation, answerOf, answersFrom, freshCall, history, callAfter, Bank, integers, floats, startOf, leftIn, runAt, InRun, InPassedOver, InGiven, Holder, passed-over-by, given-to, left, holds, Has, Ledger}
-use Rattle.ledger.proofs.Fair.{accepted-call, call-accepted, Fair, fair}
+use Rattle.classify.specs.Answers.{descriptions, callWith, rowRefusal, callRefusalBy, freshAnswer, variadicAnswer, returnsAnswer, argumentAnswer, dotsAnswer}
+use Rattle.classify.proofs.Steps.{row-there}
+use Rattle.classify.proofs.Accepted.{sound, sound-accepted}
+use Rattle.ledger.specs.Ledger.{Operation, mark, return, argument, after-dots, answerBy, answerOf, answersBy, answersFrom, freshCall, history, callAfter, Bank, integers, floats, startOf, leftIn, runAt, InRun, InPassedOver, InGiven, Holder, passed-over-by, given-to, left, holds, Has, LedgerBy, Ledger}
+use Rattle.ledger.proofs.Fair.{Fair, fair}
 use Rattle.ledger.proofs.Registers.{AllFair, totals, abut, ends, last-ends, run-counts, first-run, passed-over-holds, given-holds, left-holds, HasFrom, holder-has}
-
--- ---- the fresh call
-
--- every register is left on it, and it passes the checks
-module _ (d : ℕ) (known : d < descriptions) where
-  fresh-is : freshCall d ≡ callOf d (call (described d))
-  unfolding freshAnswer
-  fresh-is = rw (lt-leb descriptions d known, freshCall)
-
-  fresh-accepted : callRefusal (freshCall d) ≡ accepted
-  fresh-accepted =
-      rw fresh-is
-      (call-accepted (callOf d (call (described d)))
-      (record { known = known; never-above = elim [ integers ↦ omega arith | floats ↦ omega arith ]; marked-where-used = refl }))
-
-  fresh-left : (b : Bank) → leftIn b (freshCall d) ≡ startOf b d
-  fresh-left integers = rw fresh-is
-  fresh-left floats = rw fresh-is
-
-  fresh-row : freshCall d .abi ≡ d
-  fresh-row = rw fresh-is
 
 -- ---- every operation of a list is fair
 
-all-fair : (d : ℕ) (c : Call) → c .abi ≡ d → callRefusal c ≡ accepted → (ops : List Operation) → AllFair d c (answersFrom c ops)
-unfolding answersFrom
-all-fair d c e good [] = tt
-all-fair d c e good (op ∷ ops) =
-    let f : Fair d c (answerOf op c) = rw (← e) (fair c good op) in
-    (f, all-fair d (answerOf op c .next) (f .same-row) (f .acceptable) ops)
+all-fair : (source : ℕ) (D : Description) (c : Call) → callRefusalBy source D c ≡ accepted → (ops : List Operation) → AllFair source D c (answersBy source D c ops)
+unfolding answersBy
+all-fair source D c good [] = tt
+all-fair source D c good (op ∷ ops) =
+    let f = fair source D c good op in
+    (f, all-fair source D (answerBy source D op c .next) (f .acceptable) ops)
 
 -- a prefix of the answers to a list is the answers to a prefix of it
-prefix : (n : ℕ) (c : Call) (ops : List Operation) → take n (answersFrom c ops) ≡ answersFrom c (take n ops)
-unfolding answersFrom
-prefix zero c ops = refl
-prefix (suc n) c [] = refl
-prefix (suc n) c (op ∷ ops) = ap (λ (past : List Answer). answerOf op c ∷ past) (prefix n (answerOf op c .next) ops)
+prefix : (n source : ℕ) (D : Description) (c : Call) (ops : List Operation) → take n (answersBy source D c ops) ≡ answersBy source D c (take n ops)
+unfolding answersBy
+prefix zero source D c ops = refl
+prefix (suc n) source D c [] = refl
+prefix (suc n) source D c (op ∷ ops) = ap (λ (past : List Answer). answerBy source D op c ∷ past) (prefix n source D (answerBy source D op c .next) ops)
 
--- the call after fair answers passes the checks, on the same description
-last-accepted : (d : ℕ) (c : Call) (past : List Answer) → c .abi ≡ d → callRefusal c ≡ accepted → AllFair d c past
-    → (callAfter c past .abi ≡ d) × (callRefusal (callAfter c past) ≡ accepted)
+-- the call after fair answers passes the checks, with the same number
+last-accepted : (source : ℕ) (D : Description) (c : Call) (past : List Answer) → callRefusalBy source D c ≡ accepted → AllFair source D c past
+    → (callAfter c past .abi ≡ c .abi) × (callRefusalBy source D (callAfter c past) ≡ accepted)
 unfolding callAfter
-last-accepted d c [] e good f = (e, good)
-last-accepted d c (a ∷ past) e good f = last-accepted d (a .next) past (f .0 .same-row) (f .0 .acceptable) (f .1)
+last-accepted source D c [] good f = (refl, good)
+last-accepted source D c (a ∷ past) good f =
+    let later = last-accepted source D (a .next) past (f .0 .acceptable) (f .1) in
+    (later .0 ∙ f .0 .same-abi, later .1)
 
-fair-at : (d : ℕ) (c : Call) (past : List Answer) (k : ℕ) (a : Answer) → AllFair d c past → getElem? past k ≡ some a → Fair d (callAfter c (take k past)) a
+fair-at : (source : ℕ) (D : Description) (c : Call) (past : List Answer) (k : ℕ) (a : Answer) → AllFair source D c past → getElem? past k ≡ some a → Fair source D (callAfter c (take k past)) a
 unfolding callAfter
-fair-at d c [] k a f e = absurd (let z : _≡_ {A = ℕ} 0 1 = cc in omega arith)
-fair-at d c (x ∷ past) zero a f e = let q : x ≡ a = cc in rw (← q) (f .0)
-fair-at d c (x ∷ past) (suc k) a f e = fair-at d (x .next) past k a (f .1) e
+fair-at source D c [] k a f e = absurd (let z : _≡_ {A = ℕ} 0 1 = cc in omega arith)
+fair-at source D c (x ∷ past) zero a f e = let q : x ≡ a = cc in rw (← q) (f .0)
+fair-at source D c (x ∷ past) (suc k) a f e = fair-at source D (x .next) past k a (f .1) e
 
 -- ---- the ledger of fair answers
 
@@ -87,68 +72,113 @@ used true true e m = refl
 used true false e m = absurd (subst T e tt)
 used false uses e m = absurd (subst T (sym m) tt)
 
-module _ (d : ℕ) (known : d < descriptions) (past : List Answer) (f : AllFair d (freshCall d) past) where
-  starts : (b : Bank) → leftIn b (freshCall d) ≤ startOf b d
-  starts b = omega (arith, fresh-left d known b)
+-- from a call that has every register left and passes the checks
+module _ (source : ℕ) (D : Description) (c : Call) (good : callRefusalBy source D c ≡ accepted) (whole : (b : Bank) → leftIn b c ≡ startOf b (D .banks))
+    (past : List Answer) (f : AllFair source D c past) where
+  starts : (b : Bank) → leftIn b c ≤ startOf b (D .banks)
+  starts b = omega (arith, whole b)
 
-  from-zero : (b : Bank) → 0 ≡ startOf b d - leftIn b (freshCall d)
-  from-zero b = omega (arith, fresh-left d known b)
+  from-zero : (b : Bank) → 0 ≡ startOf b (D .banks) - leftIn b c
+  from-zero b = omega (arith, whole b)
 
   -- a holder by the runs is the one by the counts
-  no-other : (b : Bank) (r : ℕ) (h : Holder) → Has b d past r h → h ≡ holds past b r
+  no-other : (b : Bank) (r : ℕ) (h : Holder) → Has b (D .banks) c past r h → h ≡ holds past b r
   no-other b r (passed-over-by k) m =
-      ap passed-over-by (omega arith) ∙ sym (passed-over-holds b d (freshCall d) past 0 0 k r f (starts b) (from-zero b) m)
-  no-other b r (given-to k) m = ap given-to (omega arith) ∙ sym (given-holds b d (freshCall d) past 0 0 k r f (starts b) (from-zero b) m)
-  no-other b r left m = sym (left-holds b d (freshCall d) past 0 0 r f (starts b) (from-zero b) m)
+      ap passed-over-by (omega arith) ∙ sym (passed-over-holds b source D c past 0 0 k r f (starts b) (from-zero b) m)
+  no-other b r (given-to k) m = ap given-to (omega arith) ∙ sym (given-holds b source D c past 0 0 k r f (starts b) (from-zero b) m)
+  no-other b r left m = sym (left-holds b source D c past 0 0 r f (starts b) (from-zero b) m)
 
-  counted-has : (b : Bank) (r : ℕ) (h : Holder) → HasFrom b d (freshCall d) past 0 r h → Has b d past r h
+  counted-has : (b : Bank) (r : ℕ) (h : Holder) → HasFrom b source D c past 0 r h → Has b (D .banks) c past r h
   counted-has b r (passed-over-by k) m = let e : k ≡ m .0 = omega arith in rw e (m .2)
   counted-has b r (given-to k) m = let e : k ≡ m .0 = omega arith in rw e (m .2)
   counted-has b r left m = m
 
-  has : (b : Bank) (r : ℕ) → Has b d past r (holds past b r)
-  has b r = counted-has b r (holds past b r) (holder-has b d (freshCall d) past 0 0 r f (starts b) (from-zero b) (omega arith))
+  has : (b : Bank) (r : ℕ) → Has b (D .banks) c past r (holds past b r)
+  has b r = counted-has b r (holds past b r) (holder-has b source D c past 0 0 r f (starts b) (from-zero b) (omega arith))
 
-  run-operation : (b : Bank) (k r : ℕ) → InRun (runAt b d past k) r → operation (holds past b r) ≡ k
+  run-operation : (b : Bank) (k r : ℕ) → InRun (runAt b (D .banks) c past k) r → operation (holds past b r) ≡ k
   unfolding operation
-  run-operation b k r i = go (ltb r (runAt b d past k .first + runAt b d past k .passes)) refl
+  run-operation b k r i = go (ltb r (runAt b (D .banks) c past k .first + runAt b (D .banks) c past k .passes)) refl
     where
-      go : (x : Bool) → ltb r (runAt b d past k .first + runAt b d past k .passes) ≡ x → operation (holds past b r) ≡ k
+      go : (x : Bool) → ltb r (runAt b (D .banks) c past k .first + runAt b (D .banks) c past k .passes) ≡ x → operation (holds past b r) ≡ k
       go true e = sym (ap operation (no-other b r (passed-over-by k) (i .0, ltb-true _ _ e)))
       go false e = sym (ap operation (no-other b r (given-to k) (ltb-false _ _ e, i .1)))
 
-  apart : (b : Bank) (j k r : ℕ) → InPassedOver (runAt b d past j) r → InGiven (runAt b d past k) r → ⊥
+  apart : (b : Bank) (j k r : ℕ) → InPassedOver (runAt b (D .banks) c past j) r → InGiven (runAt b (D .banks) c past k) r → ⊥
   unfolding isPassedOver
   apart b j k r i g = subst (λ (h : Holder). T (isPassedOver h)) (no-other b r (passed-over-by j) i ∙ sym (no-other b r (given-to k) g)) tt
 
-  ledger-of-fair : Ledger d past
+  ledger-of-fair : LedgerBy source D c past
   ledger-of-fair =
-      let last = last-accepted d (freshCall d) past (fresh-row d known) (fresh-accepted d known) f in
+      let last = last-accepted source D c past good f in
       record {
-        adds-up = λ b. totals b d (freshCall d) past f ∙ fresh-left d known b;
-        begins-at-zero = λ b l. first-run b d (freshCall d) past l ∙ sym (from-zero b);
-        begins-where-ended = λ b k l. abut b d (freshCall d) past k f (starts b) l;
-        ends-within = λ b k. omega (arith, ends b d (freshCall d) past k f (starts b));
-        left-from-end = λ b k l. last-ends b d (freshCall d) past k f (starts b) l;
+        adds-up = λ b. totals b source D c past f ∙ whole b;
+        begins-at-zero = λ b l. first-run b source D c past l ∙ sym (from-zero b);
+        begins-where-ended = λ b k l. abut b source D c past k f (starts b) l;
+        ends-within = λ b k. omega (arith, ends b source D c past k f (starts b));
+        left-from-end = λ b k l. last-ends b source D c past k f (starts b) l;
         in-one-run = λ b j k r i i′. sym (run-operation b j r i) ∙ run-operation b k r i′;
         not-passed-over-and-given = apart;
-        not-passed-over-and-left = λ b k r i m. omega (arith, ends b d (freshCall d) past k f (starts b), i, m);
-        not-given-and-left = λ b k r i m. omega (arith, ends b d (freshCall d) past k f (starts b), i, m);
+        not-passed-over-and-left = λ b k r i m. omega (arith, ends b source D c past k f (starts b), i, m);
+        not-given-and-left = λ b k r i m. omega (arith, ends b source D c past k f (starts b), i, m);
         has-holder = λ b r l. has b r;
         has-no-other = λ b r l h m. no-other b r h m;
         refused-is-empty = λ k a e x b.
-            let n = run-counts b d (freshCall d) past k a e in
-            let z = fair-at d (freshCall d) past k a f e .refused-is-empty x b in
+            let n = run-counts b source D c past k a e in
+            let z = fair-at source D c past k a f e .refused-is-empty x b in
             (n .0 ∙ z .0, n .1 ∙ z .1);
-        refused-keeps-call = λ k a e x. fair-at d (freshCall d) past k a f e .refused-keeps-call x;
+        refused-keeps-call = λ k a e x. fair-at source D c past k a f e .refused-keeps-call x;
+        same-abi = last .0;
         acceptable = last .1;
-        never-above = λ b. omega (arith, totals b d (freshCall d) past f, fresh-left d known b);
-        marked-where-used = used _ _ (rw (last .0) at (accepted-call _ (last .1) .marked-where-used));
+        never-above = λ b. omega (arith, totals b source D c past f, whole b);
+        marked-where-used = used _ _ (sound source D _ (last .1) .1 .mark-used);
       }
 
 -- ---- the theorem: after every prefix of every list of operations, on every description
 
+pub ledger-by : (source : ℕ) (D : Description) (c : Call) → callRefusalBy source D c ≡ accepted → ((b : Bank) → leftIn b c ≡ startOf b (D .banks))
+    → (ops : List Operation) (n : ℕ) → LedgerBy source D c (take n (answersBy source D c ops))
+ledger-by source D c good whole ops n = rw (prefix n source D c ops) (ledger-of-fair source D c good whole _ (all-fair source D c good (take n ops)))
+
+-- ---- a row
+
+-- every register is left on its fresh call, and it passes the checks
+module _ (d : ℕ) (known : d < descriptions) where
+  fresh-is : freshCall d ≡ callWith d (call (described d))
+  unfolding freshAnswer
+  fresh-is = rw (lt-leb descriptions d known, freshCall)
+
+  fresh-accepted : callRefusalBy (rowRefusal d) (described d) (freshCall d) ≡ accepted
+  fresh-accepted =
+      rw fresh-is
+      (sound-accepted (rowRefusal d) (described d) (callWith d (call (described d))) (row-there d known)
+      (record { integers = omega arith; floats = omega arith; mark-used = refl }))
+
+  fresh-left : (b : Bank) → leftIn b (freshCall d) ≡ startOf b (described d .banks)
+  fresh-left integers = rw fresh-is
+  fresh-left floats = rw fresh-is
+
+  fresh-row : freshCall d .abi ≡ d
+  fresh-row = rw fresh-is
+
+-- an operation on a call of the row is that of its description, and hands back a call of the row
+answer-on-row : (d : ℕ) (c : Call) → c .abi ≡ d → (op : Operation) → answerOf op c ≡ answerBy (rowRefusal d) (described d) op c
+unfolding variadicAnswer returnsAnswer argumentAnswer dotsAnswer
+answer-on-row d c e mark = rw (← e)
+answer-on-row d c e (return arg words out) = rw (← e)
+answer-on-row d c e (argument arg words out) = rw (← e)
+answer-on-row d c e (after-dots arg words out) = rw (← e)
+
+answers-on-row : (d : ℕ) (c : Call) → c .abi ≡ d → callRefusalBy (rowRefusal d) (described d) c ≡ accepted → (ops : List Operation)
+    → answersFrom c ops ≡ answersBy (rowRefusal d) (described d) c ops
+unfolding answersFrom answersBy
+answers-on-row d c e good [] = refl
+answers-on-row d c e good (op ∷ ops) =
+    let f = fair (rowRefusal d) (described d) c good op in
+    rw (answer-on-row d c e op) (ap (λ (past : List Answer). answerBy (rowRefusal d) (described d) op c ∷ past)
+    (answers-on-row d (answerBy (rowRefusal d) (described d) op c .next) (f .same-abi ∙ e) (f .acceptable) ops))
+
 pub ledger : (d : ℕ) → d < descriptions → (ops : List Operation) (n : ℕ) → Ledger d (take n (history d ops))
 ledger d known ops n =
-    rw (prefix n (freshCall d) ops)
-    (ledger-of-fair d known _ (all-fair d (freshCall d) (fresh-row d known) (fresh-accepted d known) (take n ops)))
+    rw (answers-on-row d (freshCall d) (fresh-row d known) (fresh-accepted d known) ops)
+    (ledger-by (rowRefusal d) (described d) (freshCall d) (fresh-accepted d known) (fresh-left d known) ops n)

@@ -15,9 +15,9 @@ use Rattle.ledger.proofs.Ledger.{ledger}
 
 performed-is : (c : Call) (op : Operation) (a : Answer) → Performed c op a → a ≡ answerOf op c
 performed-is c mark a p = p .1 .1
-performed-is c (return arg words out) a p = rw (← p .3, ← p .4) (p .5 .1 .0)
-performed-is c (argument arg words out) a p = rw (← p .3, ← p .4) (p .5 .1 .0)
-performed-is c (after-dots arg words out) a p = rw (← p .3, ← p .4) (p .5 .1 .0)
+performed-is c (return arg words out) a p = rw (← p .3, ← p .4) (p .5 .1 .answers)
+performed-is c (argument arg words out) a p = rw (← p .3, ← p .4) (p .5 .1 .answers)
+performed-is c (after-dots arg words out) a p = rw (← p .3, ← p .4) (p .5 .1 .answers)
 
 all-performed-are : (c : Call) (ops : List Operation) (past : List Answer) → AllPerformed c ops past → past ≡ answersFrom c ops
 unfolding answersFrom

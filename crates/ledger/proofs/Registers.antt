@@ -9,25 +9,26 @@ use native.Mathlib.Omega.{arith}
 use borrow.Author.Tests.{ltb-true, ltb-false, lt-ltb, le-ltb}
 use lib.Dec.{ltb}
 use lib.ListN.{length, getD, getElem?}
+use Rattle.describe.specs.Description.{Description}
 use Rattle.classify.specs.declared.Call.{Call}
 use Rattle.classify.specs.declared.Answer.{Answer}
 use Rattle.ledger.specs.Ledger.{callAfter, Bank, startOf, leftIn, passedOver, given, total, Run, endOf, runsFrom, noRun, InRun, InPassedOver, InGiven, Holder, passed-over-by, given-to, left, nextAfter, holderFrom}
 use Rattle.ledger.proofs.Fair.{Fair}
 
 -- each answer is fair on the call that the one before handed back
-abbrev pub AllFair : ℕ → Call → List Answer → Type 0
-AllFair d c [] = Unit {0}
-AllFair d c (a ∷ past) = Fair d c a × AllFair d (a .next) past
+abbrev pub AllFair : ℕ → Description → Call → List Answer → Type 0
+AllFair source D c [] = Unit {0}
+AllFair source D c (a ∷ past) = Fair source D c a × AllFair source D (a .next) past
 
-module _ (b : Bank) (d : ℕ) where
+module _ (b : Bank) (source : ℕ) (D : Description) where
   abbrev pub runFrom : Call → List Answer → ℕ → Run
-  runFrom c past k = getD (runsFrom b d c past) k noRun
+  runFrom c past k = getD (runsFrom b (D .banks) c past) k noRun
 
   -- the first register that a call has left
   abbrev free : Call → ℕ
-  free c = startOf b d - leftIn b c
+  free c = startOf b (D .banks) - leftIn b c
 
-  pub totals : (c : Call) (past : List Answer) → AllFair d c past
+  pub totals : (c : Call) (past : List Answer) → AllFair source D c past
       → total (given b) past + total (passedOver b) past + leftIn b (callAfter c past) ≡ leftIn b c
   unfolding total callAfter
   totals c [] f = omega arith
@@ -47,7 +48,7 @@ module _ (b : Bank) (d : ℕ) where
   first-run c [] l = absurd (omega arith)
   first-run c (a ∷ past) l = refl
 
-  pub abut : (c : Call) (past : List Answer) (k : ℕ) → AllFair d c past → leftIn b c ≤ startOf b d → suc k < length past
+  pub abut : (c : Call) (past : List Answer) (k : ℕ) → AllFair source D c past → leftIn b c ≤ startOf b (D .banks) → suc k < length past
       → runFrom c past (suc k) .first ≡ endOf (runFrom c past k)
   unfolding runsFrom
   abut c [] k f h l = absurd (omega arith)
@@ -56,14 +57,14 @@ module _ (b : Bank) (d : ℕ) where
   abut c (a ∷ a′ ∷ past) (suc k) f h l = abut (a .next) (a′ ∷ past) k (f .1) (omega (arith, f .0 .adds-up b)) (omega arith)
 
   -- none ends past the first register that is left at the end
-  pub ends : (c : Call) (past : List Answer) (k : ℕ) → AllFair d c past → leftIn b c ≤ startOf b d → endOf (runFrom c past k) ≤ free (callAfter c past)
+  pub ends : (c : Call) (past : List Answer) (k : ℕ) → AllFair source D c past → leftIn b c ≤ startOf b (D .banks) → endOf (runFrom c past k) ≤ free (callAfter c past)
   unfolding runsFrom callAfter
   ends c [] k f h = omega arith
   ends c (a ∷ past) zero f h = omega (arith, f .0 .adds-up b, totals (a .next) past (f .1))
   ends c (a ∷ past) (suc k) f h = ends (a .next) past k (f .1) (omega (arith, f .0 .adds-up b))
 
   -- and the last one ends there
-  pub last-ends : (c : Call) (past : List Answer) (k : ℕ) → AllFair d c past → leftIn b c ≤ startOf b d → suc k ≡ length past
+  pub last-ends : (c : Call) (past : List Answer) (k : ℕ) → AllFair source D c past → leftIn b c ≤ startOf b (D .banks) → suc k ≡ length past
       → endOf (runFrom c past k) ≡ free (callAfter c past)
   unfolding runsFrom callAfter
   last-ends c [] k f h l = absurd (omega arith)
@@ -73,7 +74,7 @@ module _ (b : Bank) (d : ℕ) where
   last-ends c (a ∷ a′ ∷ past) (suc k) f h l = last-ends (a .next) (a′ ∷ past) k (f .1) (omega (arith, f .0 .adds-up b)) (omega arith)
 
   -- no register of a run is below the first one that was free
-  above : (c : Call) (past : List Answer) (k r : ℕ) → AllFair d c past → InRun (runFrom c past k) r → free c ≤ r
+  above : (c : Call) (past : List Answer) (k r : ℕ) → AllFair source D c past → InRun (runFrom c past k) r → free c ≤ r
   unfolding runsFrom
   above c [] k r f i = absurd (omega arith)
   above c (a ∷ past) zero r f i = i .0
@@ -86,7 +87,7 @@ module _ (b : Bank) (d : ℕ) where
     unfolding holderFrom
     beyond h = rw (le-ltb r (next + passedOver b a) (omega arith), le-ltb r (next + passedOver b a + given b a) h)
 
-  pub passed-over-holds : (c : Call) (past : List Answer) (k next j r : ℕ) → AllFair d c past → leftIn b c ≤ startOf b d → next ≡ free c
+  pub passed-over-holds : (c : Call) (past : List Answer) (k next j r : ℕ) → AllFair source D c past → leftIn b c ≤ startOf b (D .banks) → next ≡ free c
       → InPassedOver (runFrom c past j) r → holderFrom b k next past r ≡ passed-over-by (k + j)
   unfolding runsFrom holderFrom
   passed-over-holds c [] k next j r f h e i = absurd (omega arith)
@@ -98,7 +99,7 @@ module _ (b : Bank) (d : ℕ) where
       ∙ passed-over-holds (a .next) past (suc k) _ j r (f .1) (omega arith) (omega arith) i
       ∙ ap passed-over-by (omega arith)
 
-  pub given-holds : (c : Call) (past : List Answer) (k next j r : ℕ) → AllFair d c past → leftIn b c ≤ startOf b d → next ≡ free c
+  pub given-holds : (c : Call) (past : List Answer) (k next j r : ℕ) → AllFair source D c past → leftIn b c ≤ startOf b (D .banks) → next ≡ free c
       → InGiven (runFrom c past j) r → holderFrom b k next past r ≡ given-to (k + j)
   unfolding runsFrom holderFrom
   given-holds c [] k next j r f h e i = absurd (omega arith)
@@ -111,7 +112,7 @@ module _ (b : Bank) (d : ℕ) where
       ∙ given-holds (a .next) past (suc k) _ j r (f .1) (omega arith) (omega arith) i
       ∙ ap given-to (omega arith)
 
-  pub left-holds : (c : Call) (past : List Answer) (k next r : ℕ) → AllFair d c past → leftIn b c ≤ startOf b d → next ≡ free c
+  pub left-holds : (c : Call) (past : List Answer) (k next r : ℕ) → AllFair source D c past → leftIn b c ≤ startOf b (D .banks) → next ≡ free c
       → free (callAfter c past) ≤ r → holderFrom b k next past r ≡ left
   unfolding holderFrom callAfter
   left-holds c [] k next r f h e i = refl
@@ -132,7 +133,7 @@ module _ (b : Bank) (d : ℕ) where
   one-earlier c a past k r (given-to n) m = (suc (m .0), omega arith, m .2)
   one-earlier c a past k r left m = m
 
-  pub holder-has : (c : Call) (past : List Answer) (k next r : ℕ) → AllFair d c past → leftIn b c ≤ startOf b d → next ≡ free c → next ≤ r
+  pub holder-has : (c : Call) (past : List Answer) (k next r : ℕ) → AllFair source D c past → leftIn b c ≤ startOf b (D .banks) → next ≡ free c → next ≤ r
       → HasFrom c past k r (holderFrom b k next past r)
   unfolding runsFrom holderFrom callAfter
   holder-has c [] k next r f h e m = omega arith

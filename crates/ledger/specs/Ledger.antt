@@ -1,5 +1,6 @@
 -- The ledger of a call's registers (REFERENCE 10): every register of a bank is passed over by one operation, given to one, or left. What is
--- passed over and given is by the spending rules, and what is left is as the Rust counts it: the ledger is where the two meet.
+-- passed over and given is by the spending rules, and what is left is as the Rust counts it: the ledger is where the two meet. It is said of any
+-- description, with what its source refuses, and of any call to begin with; a row's ledger is the case of its description and its fresh call.
 use Prim.Native.Nat.{ℕ, suc, _+_, _-_, _≤_, _<_}
 use mathlib.Core.Path.{_≡_}
 use mathlib.Core.List.{List, [], _∷_}
@@ -9,11 +10,14 @@ use lib.Dec.{ltb}
 use lib.ListN.{length, take, getD, getElem?}
 use Rattle.shape.specs.declared.Arg as args
 use Rattle.shape.specs.Numbers.{accepted}
+use Rattle.describe.specs.declared.Banks.{Banks}
+use Rattle.describe.specs.Description.{Description}
 use Rattle.abis.specs.Abis.{described}
+use Rattle.spend.specs.Ways.{marked}
 use Rattle.classify.specs.declared.Call.{Call}
 use Rattle.classify.specs.declared.Answer.{Answer}
 use Rattle.classify.specs.Classify.{isIntegersOnly}
-use Rattle.classify.specs.Answers.{callRefusal, freshAnswer, variadicAnswer, returnsAnswer, argumentAnswer, dotsAnswer}
+use Rattle.classify.specs.Answers.{rowRefusal, callRefusalBy, variadicAnswerBy, returnsAnswerBy, argumentAnswerBy, dotsAnswerBy, freshAnswer, variadicAnswer, returnsAnswer, argumentAnswer, dotsAnswer}
 
 -- ---- a history
 
@@ -25,7 +29,14 @@ pub data Operation : Type 0 where
   argument : args.Arg → List ℕ → List ℕ → Operation
   after-dots : args.Arg → List ℕ → List ℕ → Operation
 
--- what it answers on a call, as it is promised
+-- what it answers on a call, by a description and what its source refuses
+abbrev pub answerBy : ℕ → Description → Operation → Call → Answer
+answerBy source D mark c = variadicAnswerBy source D c
+answerBy source D (return arg words out) c = returnsAnswerBy source D c arg words out
+answerBy source D (argument arg words out) c = argumentAnswerBy source D c arg words out
+answerBy source D (after-dots arg words out) c = dotsAnswerBy source D c arg words out
+
+-- and on a call on a row, as it is promised
 abbrev pub answerOf : Operation → Call → Answer
 answerOf mark c = variadicAnswer c
 answerOf (return arg words out) c = returnsAnswer c arg words out
@@ -33,11 +44,15 @@ answerOf (argument arg words out) c = argumentAnswer c arg words out
 answerOf (after-dots arg words out) c = dotsAnswer c arg words out
 
 -- the answers to a list of operations, each performed on the call that the one before handed back
+unfoldable pub answersBy : ℕ → Description → Call → List Operation → List Answer
+answersBy source D c [] = []
+answersBy source D c (op ∷ ops) = answerBy source D op c ∷ answersBy source D (answerBy source D op c .next) ops
+
 unfoldable pub answersFrom : Call → List Operation → List Answer
 answersFrom c [] = []
 answersFrom c (op ∷ ops) = answerOf op c ∷ answersFrom (answerOf op c .next) ops
 
--- a history starts with the fresh call on a description
+-- a history on a row starts with its fresh call
 abbrev pub freshCall : ℕ → Call
 freshCall d = freshAnswer d .next
 
@@ -58,13 +73,13 @@ pub data Bank : Type 0 where
   integers : Bank
   floats : Bank
 
-abbrev pub startOf : Bank → ℕ → ℕ
-startOf integers d = described d .banks .integer
-startOf floats d = described d .banks .float
+abbrev pub startOf : Bank → Banks → ℕ
+startOf integers banks = banks .integer
+startOf floats banks = banks .float
 
 abbrev pub leftIn : Bank → Call → ℕ
-leftIn integers c = c .integer
-leftIn floats c = c .float
+leftIn integers c = c .left .integer
+leftIn floats c = c .left .float
 
 abbrev pub passedOver : Bank → Answer → ℕ
 passedOver integers a = a .outcome .spent .«integers_passed»
@@ -91,19 +106,19 @@ abbrev pub endOf : Run → ℕ
 endOf run = run .first + run .passes + run .gives
 
 -- it begins with the next register: as many are left from there on as the call that the operation was performed on had left
-abbrev pub runOf : Bank → ℕ → Call → Answer → Run
-runOf b d c a = record { first = startOf b d - leftIn b c; passes = passedOver b a; gives = given b a }
+abbrev pub runOf : Bank → Banks → Call → Answer → Run
+runOf b banks c a = record { first = startOf b banks - leftIn b c; passes = passedOver b a; gives = given b a }
 
-unfoldable pub runsFrom : Bank → ℕ → Call → List Answer → List Run
-runsFrom b d c [] = []
-runsFrom b d c (a ∷ past) = runOf b d c a ∷ runsFrom b d (a .next) past
+unfoldable pub runsFrom : Bank → Banks → Call → List Answer → List Run
+runsFrom b banks c [] = []
+runsFrom b banks c (a ∷ past) = runOf b banks c a ∷ runsFrom b banks (a .next) past
 
 abbrev pub noRun : Run
 noRun = record { first = 0; passes = 0; gives = 0 }
 
--- the run of operation k of a history, the first being 0; past the last one it is empty
-abbrev pub runAt : Bank → ℕ → List Answer → ℕ → Run
-runAt b d past k = getD (runsFrom b d (freshCall d) past) k noRun
+-- the run of operation k of those performed from a call on, the first being 0; past the last one it is empty
+abbrev pub runAt : Bank → Banks → Call → List Answer → ℕ → Run
+runAt b banks c past k = getD (runsFrom b banks c past) k noRun
 
 -- ---- the registers
 
@@ -138,37 +153,42 @@ abbrev pub holds : List Answer → Bank → ℕ → Holder
 holds past b r = holderFrom b 0 0 past r
 
 -- by the runs, and for those left by the call that was handed back: the topmost registers, as many as it has left
-abbrev pub Has : Bank → ℕ → List Answer → ℕ → Holder → Type 0
-Has b d past r (passed-over-by k) = InPassedOver (runAt b d past k) r
-Has b d past r (given-to k) = InGiven (runAt b d past k) r
-Has b d past r left = startOf b d - leftIn b (callAfter (freshCall d) past) ≤ r
+abbrev pub Has : Bank → Banks → Call → List Answer → ℕ → Holder → Type 0
+Has b banks c past r (passed-over-by k) = InPassedOver (runAt b banks c past k) r
+Has b banks c past r (given-to k) = InGiven (runAt b banks c past k) r
+Has b banks c past r left = startOf b banks - leftIn b (callAfter c past) ≤ r
 
--- ---- the ledger of a history on a description, `past` being its answers so far
+-- ---- the ledger, `past` being the answers so far to operations from the call c on
 
-pub record Ledger (d : ℕ) (past : List Answer) : Type 0 where
+pub record LedgerBy (source : ℕ) (D : Description) (c : Call) (past : List Answer) : Type 0 where
   -- given, passed over and left add up to the bank's start
-  pub adds-up : (b : Bank) → total (given b) past + total (passedOver b) past + leftIn b (callAfter (freshCall d) past) ≡ startOf b d
+  pub adds-up : (b : Bank) → total (given b) past + total (passedOver b) past + leftIn b (callAfter c past) ≡ startOf b (D .banks)
   -- the first run begins at register 0, and each other one where the one before it ended; none ends past the bank's start, and what is left
   -- begins where the last one ended
-  pub begins-at-zero : (b : Bank) → 0 < length past → runAt b d past 0 .first ≡ 0
-  pub begins-where-ended : (b : Bank) (k : ℕ) → suc k < length past → runAt b d past (suc k) .first ≡ endOf (runAt b d past k)
-  pub ends-within : (b : Bank) (k : ℕ) → endOf (runAt b d past k) ≤ startOf b d
+  pub begins-at-zero : (b : Bank) → 0 < length past → runAt b (D .banks) c past 0 .first ≡ 0
+  pub begins-where-ended : (b : Bank) (k : ℕ) → suc k < length past → runAt b (D .banks) c past (suc k) .first ≡ endOf (runAt b (D .banks) c past k)
+  pub ends-within : (b : Bank) (k : ℕ) → endOf (runAt b (D .banks) c past k) ≤ startOf b (D .banks)
   pub left-from-end : (b : Bank) (k : ℕ) → suc k ≡ length past
-      → endOf (runAt b d past k) ≡ startOf b d - leftIn b (callAfter (freshCall d) past)
+      → endOf (runAt b (D .banks) c past k) ≡ startOf b (D .banks) - leftIn b (callAfter c past)
   -- no register is in two operations' runs, nor both passed over and given, nor one of them and left
-  pub in-one-run : (b : Bank) (j k r : ℕ) → InRun (runAt b d past j) r → InRun (runAt b d past k) r → j ≡ k
-  pub not-passed-over-and-given : (b : Bank) (j k r : ℕ) → InPassedOver (runAt b d past j) r → InGiven (runAt b d past k) r → ⊥
-  pub not-passed-over-and-left : (b : Bank) (k r : ℕ) → InPassedOver (runAt b d past k) r → Has b d past r left → ⊥
-  pub not-given-and-left : (b : Bank) (k r : ℕ) → InGiven (runAt b d past k) r → Has b d past r left → ⊥
+  pub in-one-run : (b : Bank) (j k r : ℕ) → InRun (runAt b (D .banks) c past j) r → InRun (runAt b (D .banks) c past k) r → j ≡ k
+  pub not-passed-over-and-given : (b : Bank) (j k r : ℕ) → InPassedOver (runAt b (D .banks) c past j) r → InGiven (runAt b (D .banks) c past k) r → ⊥
+  pub not-passed-over-and-left : (b : Bank) (k r : ℕ) → InPassedOver (runAt b (D .banks) c past k) r → Has b (D .banks) c past r left → ⊥
+  pub not-given-and-left : (b : Bank) (k r : ℕ) → InGiven (runAt b (D .banks) c past k) r → Has b (D .banks) c past r left → ⊥
   -- every register has one holder, and it is the one that the operations' counts say
-  pub has-holder : (b : Bank) (r : ℕ) → r < startOf b d → Has b d past r (holds past b r)
-  pub has-no-other : (b : Bank) (r : ℕ) → r < startOf b d → (h : Holder) → Has b d past r h → h ≡ holds past b r
+  pub has-holder : (b : Bank) (r : ℕ) → r < startOf b (D .banks) → Has b (D .banks) c past r (holds past b r)
+  pub has-no-other : (b : Bank) (r : ℕ) → r < startOf b (D .banks) → (h : Holder) → Has b (D .banks) c past r h → h ≡ holds past b r
   -- a refused operation has an empty run, and hands back the call that it was performed on
   pub refused-is-empty : (k : ℕ) (a : Answer) → getElem? past k ≡ some a → isRefused a ≡ true
-      → (b : Bank) → (runAt b d past k .passes ≡ 0) × (runAt b d past k .gives ≡ 0)
-  pub refused-keeps-call : (k : ℕ) (a : Answer) → getElem? past k ≡ some a → isRefused a ≡ true → a .next ≡ callAfter (freshCall d) (take k past)
-  -- the call handed back passes the checks of the next operation: no count left is above the bank's start, and it is marked only where the
-  -- description uses the mark
-  pub acceptable : callRefusal (callAfter (freshCall d) past) ≡ accepted
-  pub never-above : (b : Bank) → leftIn b (callAfter (freshCall d) past) ≤ startOf b d
-  pub marked-where-used : callAfter (freshCall d) past .«integers_only» ≡ true → isIntegersOnly (described d .variadic) ≡ true
+      → (b : Bank) → (runAt b (D .banks) c past k .passes ≡ 0) × (runAt b (D .banks) c past k .gives ≡ 0)
+  pub refused-keeps-call : (k : ℕ) (a : Answer) → getElem? past k ≡ some a → isRefused a ≡ true → a .next ≡ callAfter c (take k past)
+  -- the call handed back has the number that the first had, and passes the checks of the next operation: no count left is above the bank's
+  -- start, and it is marked only where the description uses the mark
+  pub same-abi : callAfter c past .abi ≡ c .abi
+  pub acceptable : callRefusalBy source D (callAfter c past) ≡ accepted
+  pub never-above : (b : Bank) → leftIn b (callAfter c past) ≤ startOf b (D .banks)
+  pub marked-where-used : marked (callAfter c past .left) ≡ true → isIntegersOnly (D .variadic) ≡ true
+
+-- the ledger of a history on a row
+abbrev pub Ledger : ℕ → List Answer → Type 0
+Ledger d past = LedgerBy (rowRefusal d) (described d) (freshCall d) past

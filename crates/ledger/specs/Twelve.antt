@@ -10,22 +10,22 @@ use Rattle.shape.specs.declared.Arg as args
 use Rattle.shape.specs.Numbers.{accepted, integer, single, double, x87-extended}
 use Rattle.shape.specs.Words.{scalar}
 use Rattle.slots.specs.declared.Slot.{Slot}
-use Rattle.slots.specs.Words.{slot, wordsOf}
+use Rattle.slots.specs.Words.{slot, mostWords, wordsOf}
+use Rattle.abis.specs.Abis.{described}
 use Rattle.spend.specs.declared.Way.{Way}
 use Rattle.spend.specs.declared.Way.the-variants.{Direct, Pieces, Reference, Memory}
 use Rattle.spend.specs.declared.Spent.{Spent}
 use Rattle.spend.specs.Ways.{spends}
 use Rattle.classify.specs.declared.Call.{Call}
 use Rattle.classify.specs.declared.Answer.{Answer}
-use Rattle.classify.specs.Classify.{leaves}
-use Rattle.classify.specs.Answers.{callOf, answered, returnsWritten, argumentWritten, dotsWritten}
+use Rattle.classify.specs.Answers.{unmarked, answered, returnsWritten, argumentWritten, dotsWritten}
 use Rattle.ledger.specs.Ledger.{Operation, mark, return, argument, after-dots, answerOf, integers, floats, startOf}
 
 -- ---- what is asked
 
--- room for eight slots, all zeros
+-- room for the most slots, all zeros
 abbrev pub buffer : List ℕ
-buffer = replicate 24 0
+buffer = replicate mostWords 0
 
 -- the words of a piece at an offset
 abbrev pub int4 : ℕ → List ℕ
@@ -113,7 +113,8 @@ orFresh none start = start
 orFresh (some n) start = n
 
 abbrev pub callOn : Entry → Call
-callOn e = callOf (e .row) (leaves (orFresh (e .integers-left) (startOf integers (e .row))) (orFresh (e .floats-left) (startOf floats (e .row))) false)
+callOn e =
+    unmarked (e .row) (orFresh (e .integers-left) (startOf integers (described (e .row) .banks))) (orFresh (e .floats-left) (startOf floats (described (e .row) .banks)))
 
 -- the mark has no buffer
 abbrev pub writtenBy : Operation → Call → List ℕ
@@ -127,11 +128,11 @@ answerTo e = (answerOf (e .asked) (callOn e), writtenBy (e .asked) (callOn e))
 
 -- the slots' words at the front of the buffer, and zeros after them
 abbrev pub slotsIn : List ℕ → List ℕ
-slotsIn words = words ++ replicate (24 - length words) 0
+slotsIn words = words ++ replicate (mostWords - length words) 0
 
 abbrev pub expected : Entry → Answer × List ℕ
 expected e = (
-  answered (callOf (e .row) (leaves (e .answer .integers-left) (e .answer .floats-left) false)) accepted
+  answered (unmarked (e .row) (e .answer .integers-left) (e .answer .floats-left)) accepted
       (e .answer .way) (e .answer .spent) (length (e .answer .slots)),
   slotsIn (wordsOf (e .answer .slots)),
 )

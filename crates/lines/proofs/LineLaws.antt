@@ -7,7 +7,7 @@ use native.Mathlib.Omega.{arith}
 use borrow.Author.Tests.{le-leb, leb-true, not-true, not-false}
 use lib.Dec.{leb}
 use lib.ListN.{length}
-use Rattle.slots.specs.Words.{slotSize}
+use Rattle.slots.specs.Words.{slotSize, mostSlots}
 use Rattle.classify.specs.declared.Answer.{Answer}
 use Rattle.lines.specs.declared.What.{What}
 use Rattle.lines.specs.Text.{Put}
@@ -19,11 +19,11 @@ use Rattle.lines.proofs.BoundLaws.{line-bound}
 pub room-there : (n at : ℕ) (b : Bool) → b ≡ leb (at + longest) n → not b ≡ false → at + longest ≤ n
 room-there n at b eb t = leb-true _ _ (sym eb ∙ not-false b t)
 
-module _ (k n : ℕ) (g : Bool) (eg : g ≡ leb k 8 && leb k (n / slotSize)) (t : not g ≡ false) where
-  tests : (leb k 8 ≡ true) × (leb k (n / slotSize) ≡ true)
+module _ (k n : ℕ) (g : Bool) (eg : g ≡ leb k mostSlots && leb k (n / slotSize)) (t : not g ≡ false) where
+  tests : (leb k mostSlots ≡ true) × (leb k (n / slotSize) ≡ true)
   tests = both-true _ _ (sym eg ∙ not-false g t)
 
-  pub few-enough : k ≤ 8
+  pub few-enough : k ≤ mostSlots
   few-enough = leb-true _ _ (tests .0)
 
   pub words-there : k * slotSize ≤ n
@@ -34,7 +34,7 @@ module _ (what : What) (a : Answer) (slots out : List ℕ) (at : ℕ) (b : Bool)
   unfolding lineEnd lineOut
   line-roomless t = let f : leb (at + longest) (length out) ≡ false = sym eb ∙ not-true b t in record { ends = rw f; text-left = rw f }
 
-  module _ (t : not b ≡ false) (g : Bool) (eg : g ≡ leb (a .outcome .slots) 8 && leb (a .outcome .slots) (length slots / slotSize)) where
+  module _ (t : not b ≡ false) (g : Bool) (eg : g ≡ leb (a .outcome .slots) mostSlots && leb (a .outcome .slots) (length slots / slotSize)) where
     roomy : leb (at + longest) (length out) ≡ true
     roomy = sym eb ∙ not-false b t
 
@@ -51,11 +51,11 @@ module _ (what : What) (a : Answer) (slots out : List ℕ) (at : ℕ) (b : Bool)
 
 -- a line that is printable stands there
 pub line-there : (what : What) (a : Answer) (slots out : List ℕ) (at to : ℕ) (out′ : List ℕ) → Lined what a slots out at to out′
-    → at + longest ≤ length out → a .outcome .slots ≤ 8 → a .outcome .slots ≤ length slots / slotSize → Put out at (line what a slots) to out′
+    → at + longest ≤ length out → a .outcome .slots ≤ mostSlots → a .outcome .slots ≤ length slots / slotSize → Put out at (line what a slots) to out′
 unfolding lineEnd lineOut
 line-there what a slots out at to out′ x room few inside =
     let f = le-leb (at + longest) (length out) room in
-    let g = le-leb (a .outcome .slots) 8 few in
+    let g = le-leb (a .outcome .slots) mostSlots few in
     let h = le-leb (a .outcome .slots) (length slots / slotSize) inside in
     let k = line-bound what a slots few in
     record { ends = rw (f, g, h) at (x .ends); put = rw (f, g, h) at (x .text-left); fits = omega arith }

@@ -10,11 +10,12 @@ use lib.Seq.{drop-cons, drop-length, getD-take, length-take-le}
 use Rattle.slots.specs.Words.{slotSize}
 use Rattle.text.specs.Text.{bytes}
 use Rattle.spend.specs.declared.Way as ways
+use Rattle.spend.specs.Ways.{wayFrom}
 use Rattle.classify.specs.declared.Outcome.{Outcome}
 use Rattle.classify.specs.declared.Answer.{Answer}
 use Rattle.lines.specs.declared.What as whats
 use Rattle.lines.specs.Text.{Put, decimal}
-use Rattle.lines.specs.Printing.{space, newline, wayText, whatText, refusedText, nameText, part, pair, countsText, markAt, slotsText, restText, line}
+use Rattle.lines.specs.Printing.{space, newline, wayText, whatText, refusedText, nameText, part, pair, countsText, markAt, slotsText, restText, line, mostPart}
 use Rattle.lines.proofs.TextLaws.{put-then, put-nothing}
 
 module _ (o : List ℕ) (at r : ℕ) (p : List ℕ) where
@@ -45,7 +46,7 @@ module _ (o : List ℕ) (at r : ℕ) (p : List ℕ) where
     name-refused h x = rw (ne-eqb _ _ h) x
 
     module _ (h : out .refusal ≡ 0) where
-      named : Put o at (whatText what (out .way)) r p → Put o at (nameText what out) r p
+      named : Put o at (whatText what (wayFrom (out .way))) r p → Put o at (nameText what out) r p
       unfolding nameText
       named x = rw (eq-eqb _ _ h) x
 
@@ -57,9 +58,9 @@ module _ (o : List ℕ) (at r : ℕ) (p : List ℕ) where
       unfolding whatText
       name-marked e x = named (rw e x)
 
-      pub name-value : what ≡ whats.the-variants.Value → Put o at (wayText (out .way)) r p → Put o at (nameText what out) r p
+      pub name-value : what ≡ whats.the-variants.Value → (way : ways.Way) → way ≡ wayFrom (out .way) → Put o at (wayText way) r p → Put o at (nameText what out) r p
       unfolding whatText
-      name-value e x = named (rw e x)
+      name-value e way ew x = named (rw (e, ← ew) x)
 
   module _ (out : Outcome) (slots : List ℕ) where
     pub rest-refused : (out .refusal ≡ 0 → ⊥) → Put o at (part space (out .refusal)) r p → Put o at (restText out slots) r p
@@ -79,7 +80,7 @@ pub pair-put : (o : List ℕ) (at m n r : ℕ) (p : List ℕ) (t : ℕ) (q : Lis
 pair-put o at m n r p t q x y = put-then x y
 
 pub counts-put : (answer : Answer) (o : List ℕ) (at a : ℕ) (p : List ℕ) (b : ℕ) (q : List ℕ) (c : ℕ) (s : List ℕ)
-    → Put o at (pair (answer .next .integer) (answer .next .float)) a p
+    → Put o at (pair (answer .next .left .integer) (answer .next .left .float)) a p
     → Put p a (pair (answer .outcome .spent .«integers_passed») (answer .outcome .spent .«integers_given»)) b q
     → Put q b (pair (answer .outcome .spent .«floats_passed») (answer .outcome .spent .«floats_given»)) c s
     → Put o at (countsText answer) c s
@@ -118,7 +119,7 @@ module _ (n : ℕ) (slots : List ℕ) (all : n ≤ length slots) (i : ℕ) where
         → Goes o at whole q t (slotsFrom n slots (i + 1))
     goes-next h m t q em x = record { on = λ r u y. g .on r u (rw (slot-next h) (put-then (rw em at x) y)) }
 
-    pub goes-last : n ≤ i → i ≤ n → at + n * 21 ≤ length o → length p ≡ length o → to ≤ at + i * 21 → Put o at whole to p
+    pub goes-last : n ≤ i → i ≤ n → at + n * mostPart ≤ length o → length p ≡ length o → to ≤ at + i * mostPart → Put o at whole to p
     unfolding slotsText
     goes-last h k fits same bound =
         let l : length (take n slots) ≡ n = length-take-le n slots all in

@@ -6,13 +6,14 @@ use mathlib.Core.List.{List, [], _∷_, _++_}
 use mathlib.Core.Bool.{Bool, _&&_, cond}
 use lib.Dec.{leb, eqb}
 use lib.ListN.{length, take}
-use Rattle.slots.specs.Words.{slotSize, putAt}
+use Rattle.slots.specs.Words.{slotSize, mostSlots, mostWords, putAt}
 use Rattle.text.specs.Text.{bytes}
 use Rattle.spend.specs.declared.Way as ways
+use Rattle.spend.specs.Ways.{wayFrom}
 use Rattle.classify.specs.declared.Outcome.{Outcome}
 use Rattle.classify.specs.declared.Answer.{Answer}
 use Rattle.lines.specs.declared.What as whats
-use Rattle.lines.specs.Text.{decimal}
+use Rattle.lines.specs.Text.{decimal, mostDigits}
 
 abbrev pub space : ℕ
 space = 32
@@ -40,7 +41,7 @@ abbrev pub refusedText : List ℕ
 refusedText = bytes "refused"
 
 unfoldable pub nameText : whats.What → Outcome → List ℕ
-nameText what o = cond (eqb (o .refusal) 0) (whatText what (o .way)) refusedText
+nameText what o = cond (eqb (o .refusal) 0) (whatText what (wayFrom (o .way))) refusedText
 
 -- a number behind a mark
 abbrev pub part : ℕ → ℕ → List ℕ
@@ -53,7 +54,7 @@ pair m n = part space m ++ part space n
 -- I and F, integers passed over and given, floats passed over and given
 unfoldable pub countsText : Answer → List ℕ
 countsText a =
-    pair (a .next .integer) (a .next .float)
+    pair (a .next .left .integer) (a .next .left .float)
     ++ (pair (a .outcome .spent .«integers_passed») (a .outcome .spent .«integers_given»)
     ++ pair (a .outcome .spent .«floats_passed») (a .outcome .spent .«floats_given»))
 
@@ -76,14 +77,30 @@ line what a slots =
 
 -- ---- a line at a place of a text
 
--- a way of 9 letters, six counts of a space and 20 digits, 24 words of slots likewise, and a newline
-abbrev pub longest : ℕ
-longest = 640
+-- the letters of the longest name, a number behind a mark, two of them, the six counts, and the words of the most slots
+abbrev pub mostName : ℕ
+mostName = 9
 
--- the longest line has room from `at` on, and the slots are eight at most and stand among the words
+abbrev pub mostPart : ℕ
+mostPart = 1 + mostDigits
+
+abbrev pub mostPair : ℕ
+mostPair = 2 * mostPart
+
+abbrev pub mostCounts : ℕ
+mostCounts = 3 * mostPair
+
+abbrev pub mostRest : ℕ
+mostRest = mostWords * mostPart
+
+-- with a newline behind all
+abbrev pub longest : ℕ
+longest = mostName + mostCounts + mostRest + 1
+
+-- the longest line has room from `at` on, and the slots are no more than any result needs and stand among the words
 abbrev pub printable : Answer → List ℕ → ℕ → ℕ → Bool
 printable a slots room at =
-    leb (at + longest) room && (leb (a .outcome .slots) 8 && leb (a .outcome .slots) (length slots / slotSize))
+    leb (at + longest) room && (leb (a .outcome .slots) mostSlots && leb (a .outcome .slots) (length slots / slotSize))
 
 -- where the line ends, and the text with it; nothing is written of what isn't printable
 unfoldable pub lineEnd : whats.What → Answer → List ℕ → ℕ → ℕ → ℕ

@@ -3,14 +3,14 @@ ghost use mathlib.Core.Path.{_≡_};
 ghost use mathlib.Core.List.{[], _∷_};
 ghost use Prim.Native.Nat.{_+_, _<_, _≤_};
 ghost use lib.ListN.{length};
-ghost use Rattle.lines.specs.Text.{Put, decimal, decimalIn, digitOf};
+ghost use Rattle.lines.specs.Text.{Put, decimal, decimalIn, digitOf, mostDigits};
 
 // The digits of the largest 64-bit number.
-const DIGITS: u64 = 20;
+pub(crate) const DIGITS: u64 = 20;
 
 pub(crate) fn put_number(out: &mut [u8], at: usize, n: u64) -> usize
-    requires { ⌜ at + 20 ≤ length (now out) ⌝ }
-    ensures { λ r. ⌜ Put (now (out .entry)) at (decimal n) r (now (out .exit)) × (r ≤ at + 20) ⌝ }
+    requires { ⌜ at + mostDigits ≤ length (now out) ⌝ }
+    ensures { λ r. ⌜ Put (now (out .entry)) at (decimal n) r (now (out .exit)) × (r ≤ at + mostDigits) ⌝ }
 {
     put_digits(out, at, n, DIGITS)
 }

@@ -7,19 +7,21 @@ use mathlib.Core.Option.Option.{none, some}
 use Rattle.shape.specs.declared.Piece.{Piece}
 use Rattle.shape.specs.declared.Shape.{Shape}
 use Rattle.slots.specs.Search.{Search, found, nothing}
+use Rattle.describe.specs.declared.Banks.{Banks}
+use Rattle.describe.specs.declared.Terms.{Terms}
 use Rattle.describe.specs.declared.Rule.{Rule}
 use Rattle.describe.specs.declared.Test.{Test}
 use Rattle.describe.specs.declared.Test as tests
 use Rattle.describe.specs.declared.StackArgs.{StackArgs}
 use Rattle.describe.specs.declared.StackArgs.the-variants.{RegisterSized, Packed}
-use Rattle.describe.specs.Description.{Description}
+use Rattle.describe.specs.Description.{Description, termsOf}
 use Rattle.find.specs.Find.{homogeneous}
 
 -- the limit of the first rule for homogeneous aggregates, if there is one
 abbrev pub limitOf : Test → Option ℕ → Option ℕ
 limitOf tests.the-variants.Anything rest = rest
 limitOf tests.the-variants.Empty rest = rest
-limitOf (tests.the-variants.SizeOneOf a b c d) rest = rest
+limitOf (tests.the-variants.SizeOneOf k a b c d) rest = rest
 limitOf (tests.the-variants.SizeAtMost n) rest = rest
 limitOf (tests.the-variants.Homogeneous limit) rest = some limit
 limitOf tests.the-variants.FloatPair rest = rest
@@ -42,14 +44,17 @@ isHomogeneousBy none shape ps = false
 isHomogeneousBy (some limit) shape ps = isFound (homogeneous limit shape ps)
 
 -- in a packed area: a word boundary at least, unless the aggregate is homogeneous
-unfoldable pub packedAlign : Description → Shape → List Piece → ℕ
-packedAlign D shape ps =
-    cond (isHomogeneousBy (homogeneousLimit (D .arguments)) shape ps) (shape .align) (max (shape .align) (D .banks .«integer_width»))
+unfoldable pub packedAlign : Banks → List Rule → Shape → List Piece → ℕ
+packedAlign banks arguments shape ps =
+    cond (isHomogeneousBy (homogeneousLimit arguments) shape ps) (shape .align) (max (shape .align) (banks .«integer_width»))
 
-abbrev pub memoryBy : StackArgs → Description → Shape → List Piece → ℕ
-memoryBy RegisterSized D shape ps = shape .align
-memoryBy Packed D shape ps = packedAlign D shape ps
+abbrev pub areaAlign : StackArgs → Banks → List Rule → Shape → List Piece → ℕ
+areaAlign RegisterSized banks arguments shape ps = shape .align
+areaAlign Packed banks arguments shape ps = packedAlign banks arguments shape ps
 
--- what a fixed argument that travels as Memory is aligned to in the argument area
-unfoldable pub inMemory : Description → Shape → List Piece → ℕ
-inMemory D shape ps = memoryBy (D .«stack_args») D shape ps
+-- what a fixed argument that travels as Memory is aligned to in the argument area, by terms and the rules for arguments
+unfoldable pub inMemoryBy : Terms → List Rule → Shape → List Piece → ℕ
+inMemoryBy T arguments shape ps = areaAlign (T .«stack_args») (T .banks) arguments shape ps
+
+abbrev pub inMemory : Description → Shape → List Piece → ℕ
+inMemory D shape ps = inMemoryBy (termsOf D) (D .arguments) shape ps

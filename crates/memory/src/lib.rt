@@ -1,32 +1,33 @@
 // The alignment of an aggregate in the argument area (docs/REFERENCE.md, 9.7).
+use describe::Banks;
+use describe::Rules;
 use describe::StackArgs;
+use describe::Terms;
 use describe::Test;
 use shape::Shape;
 use slots::Found;
 ghost use mathlib.Core.Path.{_≡_};
 ghost use Rattle.shape.specs.Words.{piecesOf};
-ghost use Rattle.abis.specs.Abis.{described};
-ghost use Rattle.memory.specs.InMemory.{packedAlign, inMemory};
+ghost use Rattle.describe.specs.Row.{listed};
+ghost use Rattle.memory.specs.InMemory.{packedAlign, inMemoryBy};
 ghost use Rattle.memory.specs.Limits as told;
 
 // What a fixed argument that travels as Memory is aligned to in the argument area.
-pub fn align(abi: u64, shape: Shape, words: &[u64]) -> u64
-    ensures { λ r. ⌜ r ≡ inMemory (described abi) shape (piecesOf (now (words .entry))) ⌝ }
+pub fn align(terms: Terms, arguments: Rules, shape: Shape, words: &[u64]) -> u64
+    ensures { λ r. ⌜ r ≡ inMemoryBy terms (listed arguments) shape (piecesOf (now (words .entry))) ⌝ }
 {
-    let others = abis::others(abi);
-    let stack = others.stack_args;
+    let stack = terms.stack_args;
     match stack {
         StackArgs::RegisterSized => shape.align,
-        StackArgs::Packed => packed_align(abi, shape, words),
+        StackArgs::Packed => packed_align(terms.banks, arguments, shape, words),
     }
 }
 
 // In a packed area a homogeneous aggregate keeps its alignment, and any other is on a word boundary at least.
-fn packed_align(abi: u64, shape: Shape, words: &[u64]) -> u64
-    ensures { λ r. ⌜ r ≡ packedAlign (described abi) shape (piecesOf (now (words .entry))) ⌝ }
+fn packed_align(banks: Banks, arguments: Rules, shape: Shape, words: &[u64]) -> u64
+    ensures { λ r. ⌜ r ≡ packedAlign banks (listed arguments) shape (piecesOf (now (words .entry))) ⌝ }
 {
-    let banks = abis::banks(abi);
-    let limit = homogeneous_limit(abi);
+    let limit = homogeneous_limit(arguments);
     let Limit::Of(most) = limit else {
         return shape::most(shape.align, banks.integer_width);
     };
@@ -45,17 +46,16 @@ enum Limit {
     Nothing,
 }
 
-// The limit of the first rule for homogeneous aggregates among a description's rules for arguments.
-fn homogeneous_limit(abi: u64) -> Limit
-    ensures { λ r. ⌜ r ≡ told.limitOf (described abi .arguments) ⌝ }
+// The limit of the first rule for homogeneous aggregates in a list.
+fn homogeneous_limit(list: Rules) -> Limit
+    ensures { λ r. ⌜ r ≡ told.limitOf (listed list) ⌝ }
 {
-    let row = abis::row(abi);
-    let mut i = 0;
-    while i < describe::RULES {
-        let rule = rules::argument_rule(row, i);
-        i += 1;
-        let when = rule.when;
-        let limit = limit_of(when);
+    let mut rules = list;
+    while rules.tests != 0 {
+        let these = rules;
+        let later = rules::later_rules(rules);
+        rules = later;
+        let limit = limit_of(rules::first_test(these));
         let Limit::Of(most) = limit else {
             continue;
         };
@@ -70,7 +70,7 @@ fn limit_of(test: Test) -> Limit
     match test {
         Test::Anything => Limit::Nothing,
         Test::Empty => Limit::Nothing,
-        Test::SizeOneOf(_, _, _, _) => Limit::Nothing,
+        Test::SizeOneOf(_, _, _, _, _) => Limit::Nothing,
         Test::SizeAtMost(_) => Limit::Nothing,
         Test::Homogeneous(limit) => Limit::Of(limit),
         Test::FloatPair => Limit::Nothing,

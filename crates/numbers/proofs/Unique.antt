@@ -4,7 +4,6 @@ use contract.Lifetimes.{Lfts}
 use Rattle.shape.proofs.OneAnswer.{OneAnswer}
 use Rattle.numbers.proofs.call_from.Reads as call-from
 use Rattle.numbers.proofs.shape_from.Reads as shape-from
-use Rattle.numbers.proofs.in_numbers.Reads as in-numbers
 use Rattle.numbers.proofs.flag_number.Reads as flag-number
 
 call-from-decides : (κs : Lfts 0) → OneAnswer (call-from.Post κs)
@@ -12,9 +11,6 @@ call-from-decides κs a r q s t p p′ = p ∙ sym p′
 
 shape-from-decides : (κs : Lfts 0) → OneAnswer (shape-from.Post κs)
 shape-from-decides κs a r q s t p p′ = p ∙ sym p′
-
-in-numbers-decides : (κs : Lfts 0) → OneAnswer (in-numbers.Post κs)
-in-numbers-decides κs a r q s t p p′ = p ∙ sym p′
 
 flag-number-decides : (κs : Lfts 0) → OneAnswer (flag-number.Post κs)
 flag-number-decides κs a r q s t p p′ = p ∙ sym p′

@@ -18,7 +18,7 @@ use Rattle.eightbytes.specs.Eightbytes.{cover, mark, fits, marked, spoiled, men
 use Rattle.abis.specs.Abis.{described, descriptions}
 use Rattle.search.specs.Matches.{matches}
 use Rattle.classify.specs.Classify as rust
-use Rattle.classify.specs.Classify.{leaves, argument, returns}
+use Rattle.classify.specs.Classify.{counts, leaves, argument, returns}
 use Rattle.psabi.specs.Psabi as psabi
 use Rattle.psabi.specs.Psabi.{rdi, rsi, rdx, rcx, r8, r9, rax, xmm0, xmm1, xmm2, xmm3, xmm4, xmm5, xmm6, xmm7, st0, place, Travels, inRegisters, onStack, byAddress, psabiArgument, psabiResult}
 use Rattle.psabi.specs.Domain.{every, any, howMany, atEach, clauses, Domain}
@@ -45,10 +45,10 @@ shapeOf size = record { size = size; align = 16; complex = false; floating = fal
 
 -- what row 0 answers with so many registers left, in the psABI's words
 abbrev pub rowArgument : ℕ → ℕ → ℕ → List Piece → Option Travels
-rowArgument i f size ps = readArgument (leaves i f false) (argument (described 0) (leaves i f false) (Aggregate (shapeOf size)) ps)
+rowArgument i f size ps = readArgument (counts i f) (argument (described 0) (counts i f) (Aggregate (shapeOf size)) ps)
 
 abbrev pub rowResult : ℕ → ℕ → ℕ → List Piece → Option Travels
-rowResult i f size ps = readResult (leaves i f false) (returns (described 0) (leaves i f false) (Aggregate (shapeOf size)) ps)
+rowResult i f size ps = readResult (counts i f) (returns (described 0) (counts i f) (Aggregate (shapeOf size)) ps)
 
 abbrev pub int : ℕ → ℕ → Piece
 int size offset = piece 0 size size offset

@@ -29,8 +29,9 @@ use Rattle.describe.specs.Description.{rule, ruleShort}
 use Rattle.abis.specs.Abis.{described, descriptions}
 use Rattle.spend.specs.declared.Left.{Left}
 use Rattle.search.specs.Matches.{matches}
+use Rattle.spend.specs.Ways.{no-mark}
 use Rattle.classify.specs.Pass.{pieces, reference, memory}
-use Rattle.classify.specs.Classify.{Passed, leaves, passed, shortOf, inRegisters, travel, lessBoth, orElse, tried, apply, argument, returns}
+use Rattle.classify.specs.Classify.{Passed, counts, passed, shortOf, inRegisters, travel, lessBoth, orElse, tried, apply, argument, returns}
 use Rattle.psabi.specs.Psabi as psabi
 use Rattle.psabi.specs.Psabi.{Class, NO-CLASS, is, Travels, mergedIn, classesFrom, anyUnaligned, eightbytesIn, cleaned, psabiArgument, psabiResult}
 use Rattle.psabi.specs.Domain.{any, isX87Piece, Domain}
@@ -44,31 +45,31 @@ use Rattle.psabi.proofs.Ways.{spend, give, in-memory, argument-one, arg
 -- ---- the row: `described 0`, its rules walked
 
 argument-walk : (i f : ℕ) (shape : Shape) (ps : List Piece) → 0 < shape .size
-    → argument (described 0) (leaves i f false) (Aggregate shape) ps ≡ spend i f (eightbytes 16 shape ps)
+    → argument (described 0) (counts i f) (Aggregate shape) ps ≡ spend i f (eightbytes 16 shape ps)
 unfolding argument apply matches described descriptions foundIf travel inRegisters shortOf spend
 argument-walk i f shape ps h = rw (ne-eqb (shape .size) 0 (omega arith)) (go (eightbytes 16 shape ps))
   where
     go : (s : Search)
-        → tried s (described 0) (leaves i f false) (ruleShort (Eightbytes 16) AsFound Memory) shape false (passed memory (leaves i f false)) ≡ spend i f s
+        → tried s (described 0) (counts i f) (ruleShort (Eightbytes 16) AsFound Memory) shape false (passed memory (counts i f)) ≡ spend i f s
     go nothing = refl
     go (found ss) = by-cost (leb (length ss - floatsIn ss) i && leb (floatsIn ss) f)
       where
         by-cost : (b : Bool)
             → orElse
-            (cond b (some (passed (pieces ss) (lessBoth (length ss - floatsIn ss) (floatsIn ss) (leaves i f false)))) (some (passed memory (leaves i f false))))
-            (passed memory (leaves i f false))
-            ≡ cond b (passed (pieces ss) (leaves (i - (length ss - floatsIn ss)) (f - floatsIn ss) false)) (passed memory (leaves i f false))
+            (cond b (some (passed (pieces ss) (lessBoth (length ss - floatsIn ss) (floatsIn ss) (counts i f)))) (some (passed memory (counts i f))))
+            (passed memory (counts i f))
+            ≡ cond b (passed (pieces ss) (counts (i - (length ss - floatsIn ss)) (f - floatsIn ss))) (passed memory (counts i f))
         by-cost true = refl
         by-cost false = refl
 
 -- a result that the x87 stack has no place for
 return-walk : (i f : ℕ) (shape : Shape) (ps : List Piece) → 0 < shape .size → x87Stack shape ps ≡ nothing
-    → returns (described 0) (leaves i f false) (Aggregate shape) ps ≡ give i f (eightbytes 16 shape ps)
+    → returns (described 0) (counts i f) (Aggregate shape) ps ≡ give i f (eightbytes 16 shape ps)
 unfolding returns apply matches described descriptions foundIf travel inRegisters give
 return-walk i f shape ps h x = rw (ne-eqb (shape .size) 0 (omega arith), x) (go (eightbytes 16 shape ps))
   where
     go : (s : Search)
-        → tried s (described 0) (leaves i f false) (rule (Eightbytes 16) AsFound) shape true (passed reference (leaves (i - 1) f false)) ≡ give i f s
+        → tried s (described 0) (counts i f) (rule (Eightbytes 16) AsFound) shape true (passed reference (counts (i - 1) f)) ≡ give i f s
     go nothing = refl
     go (found ss) = refl
 
@@ -152,32 +153,32 @@ module _ {shape : Shape} {ps : List Piece} (d : Domain shape ps) (f : Search →
 
 -- an X87 value alone: on the stack as an argument, in st0 as a result
 module _ (i f : ℕ) (shape : Shape) (e : shape .size ≡ 16) where
-  x87-argument : readArgument (leaves i f false) (spend i f (eightbytes 16 shape (piece 3 16 16 0 ∷ []))) ≡ some (psabiArgument (standing i f) (shape .size) (piece 3 16 16 0 ∷ []))
+  x87-argument : readArgument (counts i f) (spend i f (eightbytes 16 shape (piece 3 16 16 0 ∷ []))) ≡ some (psabiArgument (standing i f) (shape .size) (piece 3 16 16 0 ∷ []))
   unfolding eightbytes classified marked mark cover fits settled spoiled mend slotsFound ours.merge ours.same ours.code spend psabiArgument psabi.classified anyUnaligned classesFrom mergedIn psabi.merge psabi.lowOf psabi.highOf cleaned psabi.anyMemory psabi.loneX87Up psabi.isOneVector psabi.converted psabi.passing
   x87-argument = rw e
 
-  x87-result : readResult (leaves i f false) (returns (described 0) (leaves i f false) (Aggregate shape) (piece 3 16 16 0 ∷ []))
+  x87-result : readResult (counts i f) (returns (described 0) (counts i f) (Aggregate shape) (piece 3 16 16 0 ∷ []))
       ≡ some (psabiResult (standing i f) (shape .size) (piece 3 16 16 0 ∷ []))
   unfolding returns apply matches described descriptions foundIf x87Stack isAllOf allOf floatsAt travel inRegisters placesOf psabiResult psabi.classified anyUnaligned classesFrom mergedIn psabi.merge psabi.lowOf psabi.highOf cleaned psabi.anyMemory psabi.loneX87Up psabi.isOneVector psabi.converted psabi.returning
   x87-result = rw e
 
 abbrev ArgumentAgrees : ℕ → ℕ → Shape → List Piece → Type 0
 ArgumentAgrees i f shape ps =
-    readArgument (leaves i f false) (argument (described 0) (leaves i f false) (Aggregate shape) ps) ≡ some (psabiArgument (standing i f) (shape .size) ps)
+    readArgument (counts i f) (argument (described 0) (counts i f) (Aggregate shape) ps) ≡ some (psabiArgument (standing i f) (shape .size) ps)
 
 abbrev ResultAgrees : ℕ → ℕ → Shape → List Piece → Type 0
 ResultAgrees i f shape ps =
-    readResult (leaves i f false) (returns (described 0) (leaves i f false) (Aggregate shape) ps) ≡ some (psabiResult (standing i f) (shape .size) ps)
+    readResult (counts i f) (returns (described 0) (counts i f) (Aggregate shape) ps) ≡ some (psabiResult (standing i f) (shape .size) ps)
 
 -- on every shape of the domain, with so many integer and float registers left
 module _ (shape : Shape) (ps : List Piece) (d : Domain shape ps) (i f : ℕ) (hi : i ≤ 6) (hf : f ≤ 8) where
   pub argument-is-psabi : ArgumentAgrees i f shape ps
   unfolding psabiArgument spend
-  argument-is-psabi = ap (readArgument (leaves i f false)) (argument-walk i f shape ps (above-0 d)) ∙ go (kinds shape ps d)
+  argument-is-psabi = ap (readArgument (counts i f)) (argument-walk i f shape ps (above-0 d)) ∙ go (kinds shape ps d)
     where
-      go : Kinds shape ps → readArgument (leaves i f false) (spend i f (eightbytes 16 shape ps)) ≡ some (psabiArgument (standing i f) (shape .size) ps)
+      go : Kinds shape ps → readArgument (counts i f) (spend i f (eightbytes 16 shape ps)) ≡ some (psabiArgument (standing i f) (shape .size) ps)
       go (no-x87 x) =
-          in-all d (λ s. readArgument (leaves i f false) (spend i f s)) (psabi.passed (standing i f)) refl
+          in-all d (λ s. readArgument (counts i f) (spend i f s)) (psabi.passed (standing i f)) refl
           (λ c. argument-one i f (shape .size) hi hf) (λ c e. argument-two i f (shape .size) hi hf) x
       go (x87-value l) = rw (l .only) (x87-argument i f shape (l .whole))
 
@@ -187,8 +188,8 @@ module _ (shape : Shape) (ps : List Piece) (d : Domain shape ps) (i f : ℕ) (hi
     where
       go : Kinds shape ps → ResultAgrees i f shape ps
       go (no-x87 x) =
-          ap (readResult (leaves i f false)) (return-walk i f shape ps (above-0 d) (no-stack shape ps d x))
-          ∙ in-all d (λ s. readResult (leaves i f false) (give i f s)) (psabi.returned (standing i f)) (in-memory i f hi)
+          ap (readResult (counts i f)) (return-walk i f shape ps (above-0 d) (no-stack shape ps d x))
+          ∙ in-all d (λ s. readResult (counts i f) (give i f s)) (psabi.returned (standing i f)) (in-memory i f hi)
           (λ c. result-one i f (shape .size) hi hf) (λ c e. result-two i f (shape .size) hi hf) x
       go (x87-value l) = rw (l .only) (x87-result i f shape (l .whole))
 
@@ -197,10 +198,10 @@ module _ (shape : Shape) (ps : List Piece) (d : Domain shape ps) (i f : ℕ) (hi
 pub record Stays (i f : ℕ) (left : Left) : Type 0 where
   pub integer≤ : left .integer ≤ i
   pub float≤ : left .float ≤ f
-  pub unmarked : left .«integers_only» ≡ false
+  pub unmarked : left .«integers_only» ≡ no-mark
 
 module _ (i f : ℕ) (shape : Shape) (ps : List Piece) (h : 0 < shape .size) where
-  pub argument-stays : Stays i f (argument (described 0) (leaves i f false) (Aggregate shape) ps .left)
+  pub argument-stays : Stays i f (argument (described 0) (counts i f) (Aggregate shape) ps .left)
   unfolding spend
   argument-stays = rw (argument-walk i f shape ps h) (go (eightbytes 16 shape ps))
     where
@@ -212,19 +213,19 @@ module _ (i f : ℕ) (shape : Shape) (ps : List Piece) (h : 0 < shape .size) whe
       go nothing = record { integer≤ = omega arith; float≤ = omega arith; unmarked = refl }
       go (found ss) =
           by-cost (leb (length ss - floatsIn ss) i && leb (floatsIn ss) f)
-          (passed (pieces ss) (leaves (i - (length ss - floatsIn ss)) (f - floatsIn ss) false))
-          (passed memory (leaves i f false))
+          (passed (pieces ss) (counts (i - (length ss - floatsIn ss)) (f - floatsIn ss)))
+          (passed memory (counts i f))
           (record { integer≤ = omega arith; float≤ = omega arith; unmarked = refl })
           (record { integer≤ = omega arith; float≤ = omega arith; unmarked = refl })
 
-  pub result-stays : Stays i f (returns (described 0) (leaves i f false) (Aggregate shape) ps .left)
+  pub result-stays : Stays i f (returns (described 0) (counts i f) (Aggregate shape) ps .left)
   unfolding returns apply matches described descriptions foundIf travel inRegisters
   result-stays = rw (ne-eqb (shape .size) 0 (omega arith)) (go (x87Stack shape ps) (eightbytes 16 shape ps))
     where
       go : (s t : Search)
           → Stays i f
-          (tried s (described 0) (leaves i f false) (rule X87Stack AsFound) shape true
-          (tried t (described 0) (leaves i f false) (rule (Eightbytes 16) AsFound) shape true (passed reference (leaves (i - 1) f false)))
+          (tried s (described 0) (counts i f) (rule X87Stack AsFound) shape true
+          (tried t (described 0) (counts i f) (rule (Eightbytes 16) AsFound) shape true (passed reference (counts (i - 1) f)))
           .left)
       go (found ss) t = record { integer≤ = omega arith; float≤ = omega arith; unmarked = refl }
       go nothing (found ss) = record { integer≤ = omega arith; float≤ = omega arith; unmarked = refl }

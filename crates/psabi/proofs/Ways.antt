@@ -16,7 +16,7 @@ use Rattle.find.proofs.Each.{and-false}
 use Rattle.eightbytes.specs.Class.{same, code}
 use Rattle.eightbytes.specs.Eightbytes.{spoiled, mend, settled, slotsFrom, slotsFound}
 use Rattle.classify.specs.Pass.{pieces, reference, memory}
-use Rattle.classify.specs.Classify.{Passed, leaves, passed}
+use Rattle.classify.specs.Classify.{Passed, counts, passed}
 use Rattle.psabi.specs.Psabi as psabi
 use Rattle.psabi.specs.Psabi.{Class, INTEGER, SSE, SSEUP, NO-CLASS, Register, rdi, is, anyMemory, loneX87Up, converted, cleaned, passing, returning}
 use Rattle.psabi.specs.Reading.{integers, floats, lastOf, standing, placesOf, readArgument, readResult}
@@ -38,29 +38,29 @@ next rs n h =
 
 -- what row 0 does with what its eightbytes find
 unfoldable pub spend : ℕ → ℕ → Search → Passed
-spend i f nothing = passed memory (leaves i f false)
+spend i f nothing = passed memory (counts i f)
 spend i f (found ss) =
     cond (leb (length ss - floatsIn ss) i && leb (floatsIn ss) f)
-    (passed (pieces ss) (leaves (i - (length ss - floatsIn ss)) (f - floatsIn ss) false))
-    (passed memory (leaves i f false))
+    (passed (pieces ss) (counts (i - (length ss - floatsIn ss)) (f - floatsIn ss)))
+    (passed memory (counts i f))
 
 module _ (ss : List Slot) (i f a b : ℕ) (ea : length ss - floatsIn ss ≡ a) (eb : floatsIn ss ≡ b) where
-  fits : a ≤ i → b ≤ f → (n m : ℕ) → i - a ≡ n → f - b ≡ m → spend i f (found ss) ≡ passed (pieces ss) (leaves n m false)
+  fits : a ≤ i → b ≤ f → (n m : ℕ) → i - a ≡ n → f - b ≡ m → spend i f (found ss) ≡ passed (pieces ss) (counts n m)
   unfolding spend
   fits h g n m en em = rw (ea, eb, le-leb a i h, le-leb b f g, en, em)
 
-  short-general : i < a → spend i f (found ss) ≡ passed memory (leaves i f false)
+  short-general : i < a → spend i f (found ss) ≡ passed memory (counts i f)
   unfolding spend
   short-general h = rw (ea, eb, lt-leb a i h)
 
-  short-vector : f < b → spend i f (found ss) ≡ passed memory (leaves i f false)
+  short-vector : f < b → spend i f (found ss) ≡ passed memory (counts i f)
   unfolding spend
   short-vector h = rw (ea, eb, lt-leb b f h, and-false (leb a i) false refl)
 
 -- these slots are what the psABI has for these classes
 abbrev Agree : ℕ → ℕ → List Slot → List Class → Type 0
 Agree i f ss cs =
-    readArgument (leaves i f false) (spend i f (found ss)) ≡ some (psabi.passed (standing i f) (some cs))
+    readArgument (counts i f) (spend i f (found ss)) ≡ some (psabi.passed (standing i f) (some cs))
 
 -- a float of one eightbyte
 record Chunk (k : ℕ) : Type 0 where
@@ -178,10 +178,10 @@ wide i (suc m) h =
 
 -- what row 0 does with what its eightbytes find
 unfoldable pub give : ℕ → ℕ → Search → Passed
-give i f nothing = passed reference (leaves (i - 1) f false)
-give i f (found ss) = passed (pieces ss) (leaves i f false)
+give i f nothing = passed reference (counts (i - 1) f)
+give i f (found ss) = passed (pieces ss) (counts i f)
 
-pub in-memory : (i f : ℕ) → i ≤ 6 → readResult (leaves i f false) (give i f nothing) ≡ some (psabi.returned (standing i f) none)
+pub in-memory : (i f : ℕ) → i ≤ 6 → readResult (counts i f) (give i f nothing) ≡ some (psabi.returned (standing i f) none)
 unfolding give
 in-memory zero f h = rw (none-left integers)
 in-memory (suc n) f h = let e : suc n - 1 ≡ n = omega arith in rw (e, next integers n (omega arith))
@@ -190,10 +190,10 @@ in-memory (suc n) f h = let e : suc n - 1 ≡ n = omega arith in rw (e, next int
 
 module _ (i f size : ℕ) (hi : i ≤ 6) (hf : f ≤ 8) where
   abbrev Argument : List Class → Type 0
-  Argument cs = readArgument (leaves i f false) (spend i f (slotsFound size (settled (map rep cs)))) ≡ some (psabi.passed (standing i f) (cleaned cs))
+  Argument cs = readArgument (counts i f) (spend i f (slotsFound size (settled (map rep cs)))) ≡ some (psabi.passed (standing i f) (cleaned cs))
 
   abbrev Result : List Class → Type 0
-  Result cs = readResult (leaves i f false) (give i f (slotsFound size (settled (map rep cs)))) ≡ some (psabi.returned (standing i f) (cleaned cs))
+  Result cs = readResult (counts i f) (give i f (slotsFound size (settled (map rep cs)))) ≡ some (psabi.returned (standing i f) (cleaned cs))
 
   low : Chunk (cond (leb size 4) 1 2)
   low = chunk (leb size 4)

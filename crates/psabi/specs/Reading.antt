@@ -7,11 +7,12 @@ use mathlib.Core.List.{List, [], _∷_, _++_}
 use mathlib.Core.Option.{Option}
 use mathlib.Core.Option.Option.{none, some}
 use lib.Dec.{eqb}
-use lib.ListN.{length, take, drop}
+use lib.ListN.{length, drop}
 use Rattle.shape.specs.Numbers.{integer, x87-extended, quad}
 use Rattle.slots.specs.declared.Slot.{Slot}
-use Rattle.slots.specs.Words.{slot}
+use Rattle.slots.specs.Words.{slotsRead}
 use Rattle.spend.specs.declared.Way as ways
+use Rattle.spend.specs.Ways.{wayFrom}
 use Rattle.spend.specs.declared.Left.{Left}
 use Rattle.classify.specs.declared.Call.{Call}
 use Rattle.classify.specs.declared.Answer.{Answer}
@@ -85,12 +86,6 @@ readResult left p = readIn results left p
 
 -- ---- answers, from what an operation hands back: the answer and the words of the buffer
 
-unfoldable pub slotsRead : List ℕ → List Slot
-slotsRead [] = []
-slotsRead (k ∷ []) = []
-slotsRead (k ∷ o ∷ []) = []
-slotsRead (k ∷ o ∷ n ∷ ws) = slot k o n ∷ slotsRead ws
-
 abbrev pub passFrom : ways.Way → List Slot → Pass
 passFrom ways.the-variants.Ignore ss = ignore
 passFrom ways.the-variants.Direct ss = direct
@@ -99,8 +94,8 @@ passFrom ways.the-variants.Reference ss = reference
 passFrom ways.the-variants.Memory ss = memory
 
 abbrev pub freeAt : Call → Free
-freeAt c = standing (c .integer) (c .float)
+freeAt c = standing (c .left .integer) (c .left .float)
 
 abbrev pub readAnswer : Free → Call → Answer → List ℕ → Option Travels
 readAnswer from c a out =
-    readPass from (freeAt c) (passFrom (a .outcome .way) (take (a .outcome .slots) (slotsRead out))) (freeAt (a .next))
+    readPass from (freeAt c) (passFrom (wayFrom (a .outcome .way)) (slotsRead (a .outcome .slots) out)) (freeAt (a .next))

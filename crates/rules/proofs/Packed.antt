@@ -1,20 +1,22 @@
 -- A list of rules as two numbers gives its first rule back, and the rules behind it; a row has the lists that were encoded in it. Assumes
 -- nothing.
-use mathlib.Core.Path.{_≡_, refl}
-use mathlib.Core.Bool.{_&&_}
+use mathlib.Core.Path.{_≡_, refl, ap, _∙_}
+use mathlib.Core.Bool.{Bool, true, false, _&&_, cond}
 use mathlib.Core.List.{List, [], _∷_, map}
-use Prim.Native.Nat.{ℕ, suc, _+_, _-_, _*_, _/_, _%_, _<_}
+use Prim.Native.Nat.{ℕ, zero, suc, _+_, _-_, _*_, _/_, _%_, _≤_, _<_}
 use native.Mathlib.Omega.{arith}
-use lib.Dec.{T, ltb, leb, ltb→lt, leb→le, lit<}
+use borrow.Author.Tests.{eq-eqb, ne-eqb, eqb-false}
+use lib.Dec.{T, eqb, ltb, leb, ltb→lt, leb→le, lit<}
 use lib.ListN.{length, getD}
 use Rattle.describe.specs.declared.Rule.{Rule}
+use Rattle.describe.specs.declared.Rules.{Rules}
 use Rattle.describe.specs.declared.Short.{Short}
 use Rattle.describe.specs.declared.Short.the-variants.{Unchanged, Memory, MemoryAndDrain, TryNextRule}
 use Rattle.describe.specs.declared.Test.{Test}
 use Rattle.describe.specs.declared.Test.the-variants.{Anything, Empty, SizeOneOf, SizeAtMost, Homogeneous, FloatPair, X87Stack, LoneFloat, FloatingMode, ComplexFloat, Eightbytes}
 use Rattle.describe.specs.Description.{Description, Decides, Ends}
 use Rattle.describe.specs.Codes.{testCode, testNumber, shortCode}
-use Rattle.describe.specs.Row.{encode, heldTest, heldTests, heldRules, wayByte, packed, packedTests, packedWays, listOf, pairOf, testsOf, waysOf, firstRule, laterRules}
+use Rattle.describe.specs.Row.{encode, heldTest, heldTests, heldRules, wayByte, packed, packedTests, packedWays, listOf, pairOf, testsOf, waysOf, firstRule, laterRules, listedIn, listed}
 use Rattle.describe.specs.Questions.{registerSize}
 use Rattle.describe.proofs.Numbers.{and-left, and-right, travel-fits, size-back}
 use Rattle.describe.proofs.Inverse.{rule-back}
@@ -23,7 +25,7 @@ use Rattle.describe.proofs.Inverse.{rule-back}
 code-fits : (t : Test) → testCode t < 256
 code-fits Anything = lit< tt
 code-fits Empty = lit< tt
-code-fits (SizeOneOf a b c d) = lit< tt
+code-fits (SizeOneOf k a b c d) = lit< tt
 code-fits (SizeAtMost limit) = lit< tt
 code-fits (Homogeneous limit) = lit< tt
 code-fits FloatPair = lit< tt
@@ -36,7 +38,7 @@ code-fits (Eightbytes limit) = lit< tt
 code-some : (t : Test) → 0 < testCode t
 code-some Anything = lit< tt
 code-some Empty = lit< tt
-code-some (SizeOneOf a b c d) = lit< tt
+code-some (SizeOneOf k a b c d) = lit< tt
 code-some (SizeAtMost limit) = lit< tt
 code-some (Homogeneous limit) = lit< tt
 code-some FloatPair = lit< tt
@@ -55,10 +57,11 @@ short-fits TryNextRule = lit< tt
 number-fits : (t : Test) → T (heldTest t) → testNumber t < 256
 number-fits Anything h = lit< tt
 number-fits Empty h = lit< tt
-number-fits (SizeOneOf a b c d) h =
-    let hb = and-right (registerSize a) (registerSize b && (registerSize c && registerSize d)) h in
+number-fits (SizeOneOf k a b c d) h =
+    let ha = and-right (eqb k 4) (registerSize a && (registerSize b && (registerSize c && registerSize d))) h in
+    let hb = and-right (registerSize a) (registerSize b && (registerSize c && registerSize d)) ha in
     let hc = and-right (registerSize b) (registerSize c && registerSize d) hb in
-    let fa = size-back a (and-left (registerSize a) (registerSize b && (registerSize c && registerSize d)) h) .1 in
+    let fa = size-back a (and-left (registerSize a) (registerSize b && (registerSize c && registerSize d)) ha) .1 in
     let fb = size-back b (and-left (registerSize b) (registerSize c && registerSize d) hb) .1 in
     let fc = size-back c (and-left (registerSize c) (registerSize d) hc) .1 in
     let fd = size-back d (and-right (registerSize c) (registerSize d) hc) .1 in
@@ -90,10 +93,10 @@ module _ (r : Rule) (rules : List Rule) (h : T (heldTests (r ∷ rules))) where
   held-first : T (heldTest (r .when))
   held-first = and-left (heldTest (r .when)) (heldTests rules) h
 
-  pub held-later : T (heldTests rules)
+  held-later : T (heldTests rules)
   held-later = and-right (heldTest (r .when)) (heldTests rules) h
 
-  pub first-back : firstRule (packed (r ∷ rules)) ≡ r
+  first-back : firstRule (packed (r ∷ rules)) ≡ r
   unfolding firstRule packed
   first-back =
       let code = code-fits (r .when) in
@@ -102,7 +105,7 @@ module _ (r : Rule) (rules : List Rule) (h : T (heldTests (r ∷ rules))) where
       let w : (wayByte r + 256 * packedWays rules) % 256 ≡ wayByte r = omega arith in
       rw (low-byte (testCode (r .when)) (testNumber (r .when)) (packedTests rules) code number, high-byte (testCode (r .when)) (testNumber (r .when)) (packedTests rules) code number, w) (rule-back r held-first)
 
-  pub later-back : laterRules (packed (r ∷ rules)) ≡ packed rules
+  later-back : laterRules (packed (r ∷ rules)) ≡ packed rules
   unfolding laterRules packed
   later-back =
       let code = code-fits (r .when) in
@@ -111,14 +114,44 @@ module _ (r : Rule) (rules : List Rule) (h : T (heldTests (r ∷ rules))) where
       let w : (wayByte r + 256 * packedWays rules) / 256 ≡ packedWays rules = omega arith in
       simp (rest-of-tests (testCode (r .when)) (testNumber (r .when)) (packedTests rules) code number, w)
 
-  -- the number of the tests falls with each rule that is taken off
-  pub later-less : laterRules (packed (r ∷ rules)) .tests < packed (r ∷ rules) .tests
-  unfolding laterRules packed
-  later-less =
-      let some = code-some (r .when) in
-      let code = code-fits (r .when) in
-      let number = number-fits (r .when) held-first in
-      rw (rest-of-tests (testCode (r .when)) (testNumber (r .when)) (packedTests rules) code number) (omega arith)
+-- ---- the list that two numbers stand for
+
+-- the number of the tests falls with each rule that is taken off
+pub later-less : (R : Rules) → (R .tests ≡ 0 → ⊥) → laterRules R .tests < R .tests
+unfolding laterRules
+later-less R h = omega arith
+
+-- a number of turns that is large enough leaves nothing out
+enough : (n m : ℕ) (R : Rules) → R .tests ≤ n → R .tests ≤ m → listedIn n R ≡ listedIn m R
+enough zero zero R hn hm = refl
+enough zero (suc m) R hn hm = rw (eq-eqb (R .tests) 0 (omega arith))
+enough (suc n) zero R hn hm = rw (eq-eqb (R .tests) 0 (omega arith))
+enough (suc n) (suc m) R hn hm =
+    go (eqb (R .tests) 0) refl (λ (less : laterRules R .tests < R .tests). enough n m (laterRules R) (omega (arith, less)) (omega (arith, less)))
+  where
+    go : (b : Bool) → eqb (R .tests) 0 ≡ b → (laterRules R .tests < R .tests → listedIn n (laterRules R) ≡ listedIn m (laterRules R))
+        → cond b [] (firstRule R ∷ listedIn n (laterRules R)) ≡ cond b [] (firstRule R ∷ listedIn m (laterRules R))
+    go true e later = refl
+    go false e later = ap (λ (rules : List Rule). firstRule R ∷ rules) (later (later-less R (eqb-false (R .tests) 0 e)))
+
+pub listed-none : (R : Rules) → R .tests ≡ 0 → listed R ≡ []
+unfolding listed
+listed-none R e = rw e
+
+pub listed-next : (R : Rules) → (R .tests ≡ 0 → ⊥) → listed R ≡ firstRule R ∷ listed (laterRules R)
+unfolding listed
+listed-next R h =
+    let less = later-less R h in
+    enough (R .tests) (suc (R .tests)) R (omega arith) (omega arith)
+    ∙ rw (ne-eqb (R .tests) 0 h) (ap (λ (rules : List Rule). firstRule R ∷ rules) (enough (R .tests) (laterRules R .tests) (laterRules R) (omega (arith, less)) (omega arith)))
+
+-- a list that is packed stands for itself
+pub listed-packed : (rules : List Rule) → T (heldTests rules) → listed (packed rules) ≡ rules
+unfolding packed
+listed-packed [] h = listed-none (packed []) refl
+listed-packed (r ∷ rules) h =
+    listed-next (packed (r ∷ rules)) (λ (e : packed (r ∷ rules) .tests ≡ 0). let some = code-some (r .when) in omega (arith, some, e))
+    ∙ rw (first-back r rules h, later-back r rules h, listed-packed rules (held-later r rules h))
 
 -- A rule that doesn't decide isn't the last of a list that ends.
 pub ends-later : (r : Rule) (rules : List Rule) → Ends (r ∷ rules) → (Decides r → ⊥) → Ends rules

@@ -151,6 +151,7 @@ fn test_from(code: u8, number: u8) -> Test
         ANYTHING => Test::Anything,
         EMPTY => Test::Empty,
         SIZE_ONE_OF => Test::SizeOneOf(
+            4,
             size_from(number % 4),
             size_from(number / 4 % 4),
             size_from(number / 16 % 4),

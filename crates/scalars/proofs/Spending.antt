@@ -14,7 +14,7 @@ use Rattle.describe.specs.Questions.{isByReference, returnsByReference}
 use Rattle.spend.specs.declared.Left.{Left}
 use Rattle.spend.specs.declared.Slots.{Slots}
 use Rattle.spend.specs.declared.Decision.{Decision}
-use Rattle.spend.specs.Ways.{spends, piecesOf, cutSlots, oneSlot}
+use Rattle.spend.specs.Ways.{no-mark, marked, spends, piecesOf, cutSlots, oneSlot}
 use Rattle.spend.specs.Spending.{takes, wantOf, direct, reference, byPointer}
 use Rattle.scalars.specs.Spending.{skipOf, integerArgument, inRegisters, scalarArgument, scalarReturn}
 
@@ -101,7 +101,7 @@ module _ (B : Banks) (S : Scalars) (left : Left) (s : Scalar) (r : Decision) whe
   module _ (nb : isByReference S (s .size) ≡ false) (f : s .kind ≡ integer → ⊥) where
     float-lines : scalarArgument B S left s
         ≡ cond (eqb (s .kind) (S .«in_memory»)) (direct 0 0 0 0)
-        (cond (left .«integers_only») (piecesOf (cutSlots (s .size) (B .«integer_width»)) (spends 0 (takes (wantOf (s .size) (B .«integer_width»)) (left .integer)) 0 0))
+        (cond (marked left) (piecesOf (cutSlots (s .size) (B .«integer_width»)) (spends 0 (takes (wantOf (s .size) (B .«integer_width»)) (left .integer)) 0 0))
         (cond (B .shared) (direct 0 (takes 1 (left .integer)) 0 0)
         (cond (leb (s .size) (B .«float_width»)) (direct 0 0 0 (takes 1 (left .float)))
         (direct 0 (takes (wantOf (s .size) (B .«integer_width»)) (left .integer)) 0 0))))
@@ -112,21 +112,21 @@ module _ (B : Banks) (S : Scalars) (left : Left) (s : Scalar) (r : Decision) whe
     float-memory h er = rw (er, float-lines, eq-eqb _ _ h)
 
     module _ (nm : s .kind ≡ S .«in_memory» → ⊥) where
-      pub float-cut : left .«integers_only» ≡ true → (want : ℕ) → want ≡ wantOf (s .size) (B .«integer_width») → (n : ℕ) → n ≡ min want (left .integer)
+      pub float-cut : (left .«integers_only» ≡ no-mark → ⊥) → (want : ℕ) → want ≡ wantOf (s .size) (B .«integer_width») → (n : ℕ) → n ≡ min want (left .integer)
           → (parts : Slots) → parts ≡ cutSlots (s .size) (B .«integer_width») → r ≡ piecesOf parts (spends 0 n 0 0) → r ≡ scalarArgument B S left s
-      float-cut h want ew n en parts ep er = rw (er, ep, en, ew, float-lines, ne-eqb _ _ nm, h)
+      float-cut h want ew n en parts ep er = rw (er, ep, en, ew, float-lines, ne-eqb _ _ nm, ne-eqb (left .«integers_only») no-mark h)
 
-      module _ (ni : left .«integers_only» ≡ false) where
+      module _ (ni : left .«integers_only» ≡ no-mark) where
         pub float-shared : B .shared ≡ true → r ≡ direct 0 (min 1 (left .integer)) 0 0 → r ≡ scalarArgument B S left s
-        float-shared h er = rw (er, float-lines, ne-eqb _ _ nm, ni, h)
+        float-shared h er = rw (er, float-lines, ne-eqb _ _ nm, eq-eqb (left .«integers_only») no-mark ni, h)
 
         module _ (ns : B .shared ≡ false) where
           pub float-narrow : s .size ≤ B .«float_width» → (n : ℕ) → n ≡ min 1 (left .float) → r ≡ direct 0 0 0 n → r ≡ scalarArgument B S left s
-          float-narrow h n en er = rw (er, en, float-lines, ne-eqb _ _ nm, ni, ns, le-leb _ _ h)
+          float-narrow h n en er = rw (er, en, float-lines, ne-eqb _ _ nm, eq-eqb (left .«integers_only») no-mark ni, ns, le-leb _ _ h)
 
           pub float-wider : B .«float_width» < s .size → (want : ℕ) → want ≡ wantOf (s .size) (B .«integer_width»)
               → r ≡ direct 0 (min want (left .integer)) 0 0 → r ≡ scalarArgument B S left s
-          float-wider h want ew er = rw (er, ew, float-lines, ne-eqb _ _ nm, ni, ns, lt-leb _ _ h)
+          float-wider h want ew er = rw (er, ew, float-lines, ne-eqb _ _ nm, eq-eqb (left .«integers_only») no-mark ni, ns, lt-leb _ _ h)
 
 -- ---- a scalar that comes back
 

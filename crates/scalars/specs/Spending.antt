@@ -12,7 +12,7 @@ use Rattle.describe.specs.declared.ReturnPointer.{ReturnPointer}
 use Rattle.describe.specs.Questions.{isByReference, returnsByReference}
 use Rattle.spend.specs.declared.Left.{Left}
 use Rattle.spend.specs.declared.Decision.{Decision}
-use Rattle.spend.specs.Ways.{spends, nothing, piecesOf, cutSlots, oneSlot}
+use Rattle.spend.specs.Ways.{marked, spends, nothing, piecesOf, cutSlots, oneSlot}
 use Rattle.spend.specs.Spending.{takes, wantOf, direct, reference, byPointer}
 
 -- ---- a scalar argument: the first line that applies
@@ -56,7 +56,7 @@ scalarArgument B S left s =
     -- wide integers in memory, an integer, want above 1: all I passed over
     (cond ((S .«wide_integer_in_memory» && eqb (s .kind) integer) && ltb 1 want) (direct I 0 0 0)
     -- integers-only and a float: Pieces cut by the integer width
-    (cond (left .«integers_only» && isFloat (s .kind)) (piecesOf (cutSlots (s .size) (B .«integer_width»)) (spends 0 (takes want I) 0 0))
+    (cond (marked left && isFloat (s .kind)) (piecesOf (cutSlots (s .size) (B .«integer_width»)) (spends 0 (takes want I) 0 0))
     -- else in registers as it is
     (inRegisters B S left s want))))
 

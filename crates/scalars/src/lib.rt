@@ -51,7 +51,7 @@ fn float_argument(banks: Banks, scalars: Scalars, left: Left, s: Scalar) -> Deci
         return direct(0, 0);
     }
     // 4: integers-only
-    if left.integers_only {
+    if left.integers_only != spend::NO_MARK {
         let given = shape::least(spend::registers(s.size, banks.integer_width), left.integer);
         return spend::pieces(spend::cut_slots(s.size, banks.integer_width), given, 0);
     }

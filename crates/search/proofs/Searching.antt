@@ -2,7 +2,7 @@
 use Prim.Native.Nat.{ℕ}
 use mathlib.Core.Path.{_≡_, refl}
 use mathlib.Core.List.{List, []}
-use mathlib.Core.Bool.{Bool, true, false, _||_}
+use mathlib.Core.Bool.{Bool, true, false}
 use lib.Dec.{eqb, leb}
 use Rattle.shape.specs.declared.Shape.{Shape}
 use Rattle.shape.specs.declared.Piece.{Piece}
@@ -16,7 +16,7 @@ use Rattle.find.specs.Find.{foundIf, homogeneous, floatPair, x87Stack, loneFloa
 use Rattle.eightbytes.specs.declared.Classified.{Classified}
 use Rattle.eightbytes.specs.Eightbytes as eight
 use Rattle.search.specs.declared.Searched.{Searched}
-use Rattle.search.specs.Matches.{matches}
+use Rattle.search.specs.Matches.{isOneOf, matches}
 use Rattle.search.specs.Searched as told
 
 module _ (matched : Bool) (r : Searched) where
@@ -42,11 +42,10 @@ module _ (B : Banks) (test : Test) (shape : Shape) (ps : List Piece) (r : Search
   unfolding told.searchedBy matches
   test-empty e er = rw (er, e, found-where)
 
-  pub test-one-of : (a b c d : ℕ) → test ≡ SizeOneOf a b c d
-      → r ≡ told.searched (told.foundWhere (((eqb (shape .size) a || eqb (shape .size) b) || eqb (shape .size) c) || eqb (shape .size) d)) told.noSource told.noClasses
-      → r ≡ told.searchedBy B test shape ps
+  pub test-one-of : (k a b c d : ℕ) → test ≡ SizeOneOf k a b c d → (b′ : Bool) → b′ ≡ isOneOf (shape .size) k a b c d
+      → r ≡ told.searched (told.foundWhere b′) told.noSource told.noClasses → r ≡ told.searchedBy B test shape ps
   unfolding told.searchedBy matches
-  test-one-of a b c d e er = rw (er, e, found-where)
+  test-one-of k a b c d e b′ eb er = rw (er, eb, e, found-where)
 
   pub test-at-most : (limit : ℕ) → test ≡ SizeAtMost limit → r ≡ told.searched (told.foundWhere (leb (shape .size) limit)) told.noSource told.noClasses
       → r ≡ told.searchedBy B test shape ps

@@ -1,8 +1,8 @@
 -- What a rule's test finds in a shape (REFERENCE 7), and where the slots stand that it found.
 use Prim.Native.Nat.{ℕ}
 use mathlib.Core.List.{List, []}
-use mathlib.Core.Bool.{_||_}
-use lib.Dec.{leb, eqb}
+use mathlib.Core.Bool.{Bool, _&&_, _||_}
+use lib.Dec.{leb, ltb, eqb}
 use Rattle.shape.specs.declared.Piece.{Piece}
 use Rattle.shape.specs.declared.Shape.{Shape}
 use Rattle.slots.specs.Search.{Search, found}
@@ -13,12 +13,16 @@ use Rattle.find.specs.Find.{foundIf, homogeneous, floatPair, x87Stack, loneFloa
 use Rattle.eightbytes.specs.Eightbytes.{eightbytes}
 use Rattle.spend.specs.declared.Source as sources
 
+-- one of the first so many of four sizes
+abbrev pub isOneOf : ℕ → ℕ → ℕ → ℕ → ℕ → ℕ → Bool
+isOneOf size k a b c d =
+    (((ltb 0 k && eqb size a) || (ltb 1 k && eqb size b)) || (ltb 2 k && eqb size c)) || (ltb 3 k && eqb size d)
+
 -- whether a test matches a shape, and the slots that it finds if it looks inside
 unfoldable pub matches : Banks → Test → Shape → List Piece → Search
 matches B Anything shape ps = found []
 matches B Empty shape ps = foundIf (eqb (shape .size) 0) []
-matches B (SizeOneOf a b c d) shape ps =
-    foundIf (((eqb (shape .size) a || eqb (shape .size) b) || eqb (shape .size) c) || eqb (shape .size) d) []
+matches B (SizeOneOf k a b c d) shape ps = foundIf (isOneOf (shape .size) k a b c d) []
 matches B (SizeAtMost limit) shape ps = foundIf (leb (shape .size) limit) []
 matches B (Homogeneous limit) shape ps = homogeneous limit shape ps
 matches B FloatPair shape ps = floatPair (B .«integer_width») (B .«float_width») ps
@@ -32,7 +36,7 @@ matches B (Eightbytes limit) shape ps = eightbytes limit shape ps
 abbrev pub sourceOf : Test → ℕ → sources.Source
 sourceOf Anything size = sources.the-variants.Empty
 sourceOf Empty size = sources.the-variants.Empty
-sourceOf (SizeOneOf a b c d) size = sources.the-variants.Empty
+sourceOf (SizeOneOf k a b c d) size = sources.the-variants.Empty
 sourceOf (SizeAtMost limit) size = sources.the-variants.Empty
 sourceOf (Homogeneous limit) size = sources.the-variants.EachPiece
 sourceOf FloatPair size = sources.the-variants.EachPiece

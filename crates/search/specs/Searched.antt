@@ -23,7 +23,7 @@ noClasses = replicate 8 0
 abbrev pub classesBy : Test → Shape → List Piece → List ℕ
 classesBy Anything shape ps = noClasses
 classesBy Empty shape ps = noClasses
-classesBy (SizeOneOf a b c d) shape ps = noClasses
+classesBy (SizeOneOf k a b c d) shape ps = noClasses
 classesBy (SizeAtMost limit) shape ps = noClasses
 classesBy (Homogeneous limit) shape ps = noClasses
 classesBy FloatPair shape ps = noClasses

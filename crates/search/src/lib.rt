@@ -7,6 +7,7 @@ use slots::Found;
 use spend::Source;
 ghost use mathlib.Core.Path.{_≡_};
 ghost use Rattle.shape.specs.Words.{piecesOf};
+ghost use Rattle.search.specs.Matches.{isOneOf};
 ghost use Rattle.search.specs.Searched as told;
 
 // What a test finds, with the slots beside it: where they stand, and the classes of eightbytes.
@@ -23,9 +24,7 @@ pub fn search(banks: Banks, test: Test, shape: Shape, words: &[u64]) -> Searched
     match test {
         Test::Anything => without_slots(true),
         Test::Empty => without_slots(shape.size == 0),
-        Test::SizeOneOf(a, b, c, d) => without_slots(
-            (shape.size == a) | (shape.size == b) | (shape.size == c) | (shape.size == d),
-        ),
+        Test::SizeOneOf(n, a, b, c, d) => without_slots(is_one_of(shape.size, n, a, b, c, d)),
         Test::SizeAtMost(limit) => without_slots(shape.size <= limit),
         Test::Homogeneous(limit) => each_piece(find::homogeneous(shape, words, limit)),
         Test::FloatPair => each_piece(find::float_pair(
@@ -42,6 +41,16 @@ pub fn search(banks: Banks, test: Test, shape: Shape, words: &[u64]) -> Searched
             eightbytes::eightbytes(shape, words, limit),
         ),
     }
+}
+
+// Whether a size is one of the first so many of four.
+fn is_one_of(size: u64, n: u64, a: u64, b: u64, c: u64, d: u64) -> bool
+    ensures { λ r. ⌜ r ≡ isOneOf size n a b c d ⌝ }
+{
+    ((n > 0) & (size == a))
+        | ((n > 1) & (size == b))
+        | ((n > 2) & (size == c))
+        | ((n > 3) & (size == d))
 }
 
 // A test of the shape as a whole: it finds no slot.

@@ -138,7 +138,7 @@ fn put_word(out: &mut [u64], at: usize, word: u64) -> usize
 }
 
 fn print(shape: Shape, pieces: &[u64]) -> bool {
-    let mut each = [0u64; 192];
+    let mut each = [0u64; MOST_PIECES as usize * slots::SLOT];
     let mut out = [0u8; 16384];
     find::put_pieces(pieces, &mut each);
     let n = lines(shape, pieces, &each, &mut out);
@@ -223,7 +223,7 @@ fn found_by(test: usize, shape: Shape, pieces: &[u64]) -> Found {
 }
 
 fn put_eightbytes(out: &mut [u8], at: usize, test: usize, shape: Shape, pieces: &[u64]) -> usize {
-    let mut each = [0u64; 24];
+    let mut each = [0u64; slots::MOST_WORDS];
     let answer = eightbytes::eightbytes(shape, pieces, limit(test));
     let classes = answer.classes;
     eightslots::put_eightbytes(classes, shape.size, &mut each);

@@ -5,16 +5,16 @@ use mathlib.Core.List.{List, [], _∷_, _++_}
 use mathlib.Core.Bool.{Bool, false, _||_, cond}
 use lib.Dec.{leb, eqb}
 use lib.ListN.{length, take, drop, replicate}
-use Rattle.slots.specs.Words.{putAt}
+use Rattle.shape.specs.Numbers.{most-pieces}
+use Rattle.slots.specs.Words.{mostWords, putAt}
 use Rattle.text.specs.Text.{bytes}
-use Rattle.classify.specs.Answers.{callOf}
-use Rattle.classify.specs.Classify.{leaves}
+use Rattle.classify.specs.Answers.{unmarked}
 use Rattle.reader.specs.declared.Reader.{Reader}
 use Rattle.reader.specs.declared.Operation as operations
 use Rattle.reading.specs.declared.Event as events
 use Rattle.reading.specs.declared.Reading.{Reading}
 use Rattle.reading.specs.Records.{recordSize}
-use Rattle.reading.specs.Reading.{readAnswer, readPieces, startedReader, stoppedReader}
+use Rattle.reading.specs.Reading.{pieceSize, readAnswer, readPieces, startedReader, stoppedReader}
 use Rattle.lines.specs.declared.What as whats
 use Rattle.lines.specs.Printing.{line, newline, longest}
 use Rattle.sheet.specs.declared.State.{State}
@@ -32,7 +32,7 @@ pub record Between : Type 0 where
 
 -- before the first record no call is open and no piece is due
 abbrev pub started : State
-started = record { call = callOf 0 (leaves 0 0 false); reader = startedReader }
+started = record { call = unmarked 0 0 0; reader = startedReader }
 
 -- the state with what the reader knows now
 abbrev pub knowing : State → Reader → State
@@ -215,7 +215,7 @@ endText b (x ∷ xs) = text b (x ∷ xs)
 
 -- before the first record, with room for the most pieces and slots
 unfoldable pub begin : Between
-begin = between started (replicate 4096 0) (replicate 24 0)
+begin = between started (replicate (most-pieces * pieceSize) 0) (replicate mostWords 0)
 
 -- a sheet's bytes to its lines' bytes
 unfoldable pub sheetText : List ℕ → List ℕ

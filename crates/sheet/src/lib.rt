@@ -12,6 +12,7 @@ use reader::Reader;
 use reading::Event;
 use reading::RECORD;
 use reading::read;
+use spend::Left;
 ghost use mathlib.Core.Path.{_≡_};
 ghost use Prim.Native.Nat.{_+_, _≤_};
 ghost use mathlib.Core.Bool.{_&&_};
@@ -21,10 +22,8 @@ ghost use Rattle.lines.specs.Text.{Put};
 ghost use Rattle.lines.specs.Printing.{longest};
 ghost use Rattle.sheet.specs.Sheet.{started, stopText, whatOf, CarriedOut, Stepped, Taken, Finished};
 
-// Words that hold the most pieces of an aggregate, and those that hold the most slots of an answer.
-pub const PIECES: usize = 4096;
-
-pub const SLOTS: usize = 24;
+// Words that hold the most pieces of an aggregate. Those that hold the most slots of an answer are `slots::MOST_WORDS`.
+pub const PIECES: usize = checks::MOST_PIECES * shape::PIECE;
 
 // What is known between two records: the call, and what the reader knows.
 pub struct State {
@@ -53,9 +52,11 @@ impl State {
         State {
             call: Call {
                 abi: 0,
-                integer: 0,
-                float: 0,
-                integers_only: false,
+                left: Left {
+                    integer: 0,
+                    float: 0,
+                    integers_only: spend::NO_MARK,
+                },
             },
             reader: Reader::start(),
         }

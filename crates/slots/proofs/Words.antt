@@ -1,5 +1,6 @@
--- Words at a place of a buffer, written run by run. Nothing here but `length-words` and `stores` says how many words a slot has. Assumes nothing.
-use Prim.Native.Nat.{ℕ, suc, _+_, _*_, _≤_, _<_}
+-- Words at a place of a buffer, written run by run, and slots read back from them. Nothing here but `length-words` and `stores` says how many
+-- words a slot has. Assumes nothing.
+use Prim.Native.Nat.{ℕ, suc, _+_, _*_, _/_, _≤_, _<_}
 use mathlib.Core.Path.{_≡_, refl, ap, sym, subst, _∙_}
 use mathlib.Core.List.{List, [], _∷_, _++_, append-assoc, append-nil}
 use native.Mathlib.Omega.{arith}
@@ -7,7 +8,7 @@ use borrow.Author.Tests.{le-leb, lt-leb}
 use lib.ListN.{length, take, drop, set, length-append, length-drop, take-append-drop}
 use lib.Seq.{length-take-le, sets-eq, take-append-seam, drop-append-add, drop-drop, take-at}
 use Rattle.slots.specs.declared.Slot.{Slot}
-use Rattle.slots.specs.Words.{slotWords, slotSize, wordsOf, putAt, written}
+use Rattle.slots.specs.Words.{slotWords, slotSize, wordsOf, putAt, written, slotsRead}
 
 -- `p` in the place of as many words at the front
 abbrev pub over : List ℕ → List ℕ → List ℕ
@@ -93,3 +94,14 @@ unfolding written
 written-short ss ws h =
     let l : length (wordsOf ss) ≡ slotSize * length ss = length-words ss in
     put-short ws 0 (wordsOf ss) (omega arith)
+
+-- slots are read back from their words, whatever stands behind them
+read-words : (ss : List Slot) (ws : List ℕ) → slotsRead (length ss) (wordsOf ss ++ ws) ≡ ss
+unfolding slotsRead wordsOf
+read-words [] ws = refl
+read-words (s ∷ ss) ws =
+    let fits : slotSize ≤ length (slotWords s ++ (wordsOf ss ++ ws)) = omega arith in
+    rw (le-leb _ _ fits) (ap (λ (l : List Slot). s ∷ l) (read-words ss ws))
+
+pub read-back : (ss : List Slot) (out : List ℕ) → length ss ≤ length out / slotSize → slotsRead (length ss) (written ss out) ≡ ss
+read-back ss out h = rw (written-fits ss out (omega arith)) (read-words ss (drop (length (wordsOf ss)) out))

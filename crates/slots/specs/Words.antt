@@ -1,10 +1,10 @@
--- Slots as they stand in words, and what a buffer holds once they are written (REFERENCE 1.3). Only `slotWords` and `slotSize` say how many
--- words a slot has.
-use Prim.Native.Nat.{ℕ, _+_}
+-- Slots as they stand in words, and what a buffer holds once they are written (REFERENCE 1.3). Only `slotWords`, `slotAt` and `slotSize` say
+-- how many words a slot has.
+use Prim.Native.Nat.{ℕ, zero, suc, _+_, _*_}
 use mathlib.Core.List.{List, [], _∷_, _++_}
-use mathlib.Core.Bool.{Bool, true, false}
+use mathlib.Core.Bool.{Bool, true, false, cond}
 use lib.Dec.{leb}
-use lib.ListN.{length, take, drop}
+use lib.ListN.{length, take, drop, getD}
 use Rattle.shape.specs.Numbers.{integer}
 use Rattle.slots.specs.declared.Slot.{Slot}
 
@@ -20,6 +20,13 @@ floatSlot format offset = slot format offset 0
 
 abbrev pub slotSize : ℕ
 slotSize = 3
+
+-- no result needs more slots, and a buffer of so many words has room for them
+abbrev pub mostSlots : ℕ
+mostSlots = 8
+
+abbrev pub mostWords : ℕ
+mostWords = mostSlots * slotSize
 
 abbrev pub slotWords : Slot → List ℕ
 slotWords s = s .kind ∷ s .offset ∷ s .size ∷ []
@@ -39,3 +46,14 @@ putAt ws at vs = pickWords (leb (at + length vs) (length ws)) (take at ws ++ vs 
 -- slots at the front of a buffer, where they all fit; all later words keep their values
 unfoldable pub written : List Slot → List ℕ → List ℕ
 written ss ws = putAt ws 0 (wordsOf ss)
+
+-- ---- slots, read back from words
+
+-- the slot whose words stand at the front
+abbrev pub slotAt : List ℕ → Slot
+slotAt ws = slot (getD ws 0 0) (getD ws 1 0) (getD ws 2 0)
+
+-- the first so many slots, or all where fewer are whole
+unfoldable pub slotsRead : ℕ → List ℕ → List Slot
+slotsRead zero ws = []
+slotsRead (suc n) ws = cond (leb slotSize (length ws)) (slotAt ws ∷ slotsRead n (drop slotSize ws)) []

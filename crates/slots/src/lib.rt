@@ -10,6 +10,12 @@ ghost use Rattle.slots.specs.Cut.{cut};
 // Words of a slot.
 pub const SLOT: usize = 3;
 
+// No result needs more slots: classify proves it.
+pub const MOST_SLOTS: usize = 8;
+
+// Words of a buffer with room for all of them.
+pub const MOST_WORDS: usize = MOST_SLOTS * SLOT;
+
 // One register's worth of an aggregate, and which of its bytes go there.
 pub struct Slot {
     pub kind: u64,

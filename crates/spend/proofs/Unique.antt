@@ -3,6 +3,7 @@ use mathlib.Core.Path.{sym, _∙_}
 use contract.Lifetimes.{Lfts}
 use Rattle.shape.proofs.OneAnswer.{OneAnswer}
 use Rattle.spend.proofs.way_number.Reads as way-number
+use Rattle.spend.proofs.way_from.Reads as way-from
 use Rattle.spend.proofs.travel.Reads as travel
 use Rattle.spend.proofs.by_pointer.Reads as by-pointer
 use Rattle.spend.proofs.registers.Reads as registers
@@ -15,6 +16,9 @@ use Rattle.spend.proofs.left_after.Reads as left-after
 
 way-number-decides : (κs : Lfts 0) → OneAnswer (way-number.Post κs)
 way-number-decides κs a r q s t p p′ = p ∙ sym p′
+
+way-from-decides : (κs : Lfts 0) → OneAnswer (way-from.Post κs)
+way-from-decides κs a r q s t p p′ = p ∙ sym p′
 
 travel-decides : (κs : Lfts 0) → OneAnswer (travel.Post κs)
 travel-decides κs a r q s t p p′ = p ∙ sym p′

@@ -1,17 +1,10 @@
 -- A way's number tells the ways apart. Assumes nothing.
-use Prim.Native.Nat.{ℕ}
 use mathlib.Core.Path.{_≡_, refl, ap, _∙_, sym}
-use mathlib.Core.List.{List, [], _∷_}
-use lib.ListN.{getD}
 use Rattle.spend.specs.declared.Way.{Way}
 use Rattle.spend.specs.declared.Way.the-variants.{Ignore, Direct, Pieces, Reference, Memory}
-use Rattle.spend.specs.Ways.{wayNumber}
+use Rattle.spend.specs.Ways.{wayNumber, wayFrom}
 
--- the way that a number stands for
-abbrev pub wayFrom : ℕ → Way
-wayFrom n = getD (Ignore ∷ Direct ∷ Pieces ∷ Reference ∷ []) n Memory
-
-back : (w : Way) → wayFrom (wayNumber w) ≡ w
+pub back : (w : Way) → wayFrom (wayNumber w) ≡ w
 back Ignore = refl
 back Direct = refl
 back Pieces = refl

@@ -1,6 +1,9 @@
 -- Ways, their numbers, and the parts that a decision is made of (REFERENCE 9).
 use Prim.Native.Nat.{ℕ, _-_}
-use lib.ListN.{length}
+use mathlib.Core.Bool.{Bool, not}
+use mathlib.Core.List.{[], _∷_}
+use lib.Dec.{eqb}
+use lib.ListN.{length, getD}
 use Rattle.shape.specs.Numbers.{integer}
 use Rattle.slots.specs.Cut.{cut}
 use Rattle.spend.specs.declared.Way.{Way}
@@ -19,6 +22,23 @@ wayNumber Direct = 1
 wayNumber Pieces = 2
 wayNumber Reference = 3
 wayNumber Memory = 4
+
+-- the way that a number stands for
+abbrev pub wayFrom : ℕ → Way
+wayFrom n = getD (Ignore ∷ Direct ∷ Pieces ∷ Reference ∷ []) n Memory
+
+-- the mark is set where it isn't 0: floats go in integer registers alone
+abbrev pub no-mark : ℕ
+no-mark = 0
+
+abbrev pub a-mark : ℕ
+a-mark = 1
+
+abbrev pub marked : Left → Bool
+marked left = not (eqb (left .«integers_only») no-mark)
+
+abbrev pub withMark : Left → Left
+withMark left = record { integer = left .integer; float = left .float; «integers_only» = a-mark }
 
 -- integers passed over and given, floats passed over and given
 abbrev pub spends : ℕ → ℕ → ℕ → ℕ → Spent

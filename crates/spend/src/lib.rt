@@ -8,15 +8,21 @@ use describe::Short;
 use describe::Travel;
 ghost use mathlib.Core.Path.{_≡_};
 ghost use Prim.Native.Nat.{_-_, min};
-ghost use Rattle.spend.specs.Ways.{wayNumber, spends, plain, piecesOf, cutSlots, oneSlot, leftAfter};
+ghost use Rattle.spend.specs.Ways.{wayNumber, wayFrom, spends, plain, piecesOf, cutSlots, oneSlot, leftAfter};
 ghost use Rattle.spend.specs.Spending.{wantOf, byPointer, travelOf, byReference, inMemoryAndSpend, inSlots, whenShort, integerCost, floatCost, drainOf};
 
-// What a call has left: registers in each bank, and whether floats go in integer registers alone.
+// What a call has left: registers in each bank, and the mark. Where the mark isn't 0, floats go in integer registers alone. It is a word, so
+// that whatever C hands in is a call.
+#[repr(C)]
 pub struct Left {
     pub integer: u64,
     pub float: u64,
-    pub integers_only: bool,
+    pub integers_only: u64,
 }
+
+pub const NO_MARK: u64 = 0;
+
+pub const MARK: u64 = 1;
 
 // How a value travels.
 pub enum Way {
@@ -28,6 +34,7 @@ pub enum Way {
 }
 
 // The registers that one operation passes over and gives, in each bank.
+#[repr(C)]
 pub struct Spent {
     pub integers_passed: u64,
     pub integers_given: u64,
@@ -76,6 +83,19 @@ pub fn way_number(way: Way) -> u64
         Way::Pieces => 2,
         Way::Reference => 3,
         Way::Memory => 4,
+    }
+}
+
+// The way that a number stands for.
+pub fn way_from(number: u64) -> Way
+    ensures { λ r. ⌜ r ≡ wayFrom number ⌝ }
+{
+    match number {
+        0 => Way::Ignore,
+        1 => Way::Direct,
+        2 => Way::Pieces,
+        3 => Way::Reference,
+        _ => Way::Memory,
     }
 }
 

@@ -1,6 +1,6 @@
--- `scalars` reads its part of the row, which is the description's.
+-- `scalars` is a part of what is read.
 use borrow.Author.Needs.{needs}
-use Rattle.abis.proofs.Rows.{row-scalars}
+use Rattle.abis.proofs.Rows.{scalars-read}
 use Rattle.abis.proofs.scalars.Statement.{statement}
 use Rattle.abis.proofs.scalars.Tie as tie
 
@@ -9,5 +9,4 @@ scalars-spec =
     tie.close
     (tie.spec
     (λ c κs. search needs)
-    (λ c κs. search needs)
-    (λ c. rw (c .scalars-of .ensures, c .before .named-row .ensures) (row-scalars _)))
+    (λ c. search (scalars-read)))

@@ -1,7 +1,7 @@
 -- `barkpaddle_argument_aggregate` hands on what the operation answers and writes. Assumes nothing.
 use borrow.Author.Needs.{needs}
 use Rattle.classify.specs.Answers.{argumentAnswer, argumentWritten}
-use Rattle.numbers.proofs.Handed.{handed, written}
+use Rattle.numbers.proofs.Handed.{handed}
 use Rattle.barkpaddle.proofs.barkpaddle_argument_aggregate.Statement.{statement}
 use Rattle.barkpaddle.proofs.barkpaddle_argument_aggregate.Tie as tie
 
@@ -12,6 +12,5 @@ barkpaddle-argument-aggregate-spec =
     (λ c κs. search needs)
     (λ c κs. search needs)
     (λ c κs. search needs)
-    (λ c κs. search needs)
     (λ c. search needs)
-    (λ c. (search (handed argumentAnswer), search (written argumentWritten))))
+    (λ c. search (handed argumentAnswer argumentWritten)))

@@ -1,7 +1,7 @@
 -- `barkpaddle_argument_scalar` hands on what the operation answers and writes. Assumes nothing.
 use borrow.Author.Needs.{needs}
 use Rattle.classify.specs.Answers.{argumentAnswer, argumentWritten}
-use Rattle.numbers.proofs.Handed.{handed, written}
+use Rattle.numbers.proofs.Handed.{handed}
 use Rattle.barkpaddle.proofs.barkpaddle_argument_scalar.Statement.{statement}
 use Rattle.barkpaddle.proofs.barkpaddle_argument_scalar.Tie as tie
 
@@ -11,6 +11,5 @@ barkpaddle-argument-scalar-spec =
     (tie.spec
     (λ c κs. search needs)
     (λ c κs. search needs)
-    (λ c κs. search needs)
     (λ c. search needs)
-    (λ c. (search (handed argumentAnswer), search (written argumentWritten))))
+    (λ c. search (handed argumentAnswer argumentWritten)))

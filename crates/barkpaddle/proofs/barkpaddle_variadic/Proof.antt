@@ -11,5 +11,4 @@ barkpaddle-variadic-spec =
     (tie.spec
     (λ c κs. search needs)
     (λ c κs. search needs)
-    (λ c κs. search needs)
     (λ c. search (started variadicAnswer)))

@@ -1,7 +1,7 @@
 -- `barkpaddle_return_aggregate` hands on what the operation answers and writes. Assumes nothing.
 use borrow.Author.Needs.{needs}
 use Rattle.classify.specs.Answers.{returnsAnswer, returnsWritten}
-use Rattle.numbers.proofs.Handed.{handed, written}
+use Rattle.numbers.proofs.Handed.{handed}
 use Rattle.barkpaddle_returns.proofs.barkpaddle_return_aggregate.Statement.{statement}
 use Rattle.barkpaddle_returns.proofs.barkpaddle_return_aggregate.Tie as tie
 
@@ -12,6 +12,5 @@ barkpaddle-return-aggregate-spec =
     (λ c κs. search needs)
     (λ c κs. search needs)
     (λ c κs. search needs)
-    (λ c κs. search needs)
     (λ c. search needs)
-    (λ c. (search (handed returnsAnswer), search (written returnsWritten))))
+    (λ c. search (handed returnsAnswer returnsWritten)))

@@ -1,7 +1,7 @@
 -- `barkpaddle_return_scalar` hands on what the operation answers and writes. Assumes nothing.
 use borrow.Author.Needs.{needs}
 use Rattle.classify.specs.Answers.{returnsAnswer, returnsWritten}
-use Rattle.numbers.proofs.Handed.{handed, written}
+use Rattle.numbers.proofs.Handed.{handed}
 use Rattle.barkpaddle_returns.proofs.barkpaddle_return_scalar.Statement.{statement}
 use Rattle.barkpaddle_returns.proofs.barkpaddle_return_scalar.Tie as tie
 
@@ -11,6 +11,5 @@ barkpaddle-return-scalar-spec =
     (tie.spec
     (λ c κs. search needs)
     (λ c κs. search needs)
-    (λ c κs. search needs)
     (λ c. search needs)
-    (λ c. (search (handed returnsAnswer), search (written returnsWritten))))
+    (λ c. search (handed returnsAnswer returnsWritten)))

@@ -1,24 +1,15 @@
--- `returns_of` answers what the call's method answers, in numbers, and leaves what that leaves in the buffer. Assumes nothing.
+-- `returns_of` answers what the call's method answers, and leaves what that leaves in the buffer. Assumes nothing.
 use borrow.Author.Needs.{needs}
 use Rattle.classify.specs.Answers.{returnsAnswer, returnsWritten}
-use Rattle.bridge.proofs.Laws.{told-of, written-of}
+use Rattle.bridge.proofs.Laws.{asked}
 use Rattle.bridge.proofs.returns_of.Statement.{statement}
 use Rattle.bridge.proofs.returns_of.Tie as tie
 
-arg-of-requires : tie.Need-arg-of-requires
-arg-of-requires c κs = search needs
-
-returns-requires : tie.Need-returns-requires
-returns-requires c κs = search needs
-
-told-requires : tie.Need-told-requires
-told-requires c κs = search needs
-
-same-length : tie.Need-same-length
-same-length c = search needs
-
-returns : tie.Need-returns
-returns c = (search (told-of returnsAnswer), search (written-of returnsWritten))
-
 pub returns-of-spec : {M : Type 1} → statement M
-returns-of-spec = tie.close (tie.spec arg-of-requires returns-requires told-requires same-length returns)
+returns-of-spec =
+    tie.close
+    (tie.spec
+    (λ c κs. search needs)
+    (λ c κs. search needs)
+    (λ c. search needs)
+    (λ c. search (asked returnsAnswer returnsWritten)))

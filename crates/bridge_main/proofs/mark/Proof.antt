@@ -37,16 +37,15 @@ use denote.Triple.Table.{entered, cited}
 use denote.Triple.Walked.{says, Stays, stay-none, walkOf, goes-none, Walks, ends-at, walked, walk-meets}
 use denote.Exit.{yes}
 use Rattle.classify.specs.declared.Call.{Call}
+use Rattle.classify.specs.declared.Answer.{Answer}
 use Rattle.classify.specs.Answers.{variadicAnswer}
-use Rattle.bridge.specs.declared.Outcome.{Outcome}
-use Rattle.bridge.specs.Lent.{outcomeIn}
-use Rattle.bridge_main.specs.declared.Left.{Left}
+use Rattle.classify.specs.declared.Outcome.{Outcome}
 use Rattle.classify.proofs.Call as T
 use Rattle.classify.proofs.Call.Laws as T′
-use Rattle.bridge.proofs.Outcome as O
-use Rattle.bridge.proofs.Outcome.Laws as O′
-use Rattle.bridge_main.proofs.Left as N
-use Rattle.bridge_main.proofs.Left.Laws as N′
+use Rattle.classify.proofs.Outcome as O
+use Rattle.classify.proofs.Outcome.Laws as O′
+use Rattle.classify.proofs.Answer as N
+use Rattle.classify.proofs.Answer.Laws as N′
 use Rattle.bridge_main.proofs.Cell.{mach, call-in, call-out}
 use Rattle.bridge.proofs.barkpaddle_bridge_variadic as thin
 use Rattle.bridge.proofs.barkpaddle_bridge_variadic.Symbol as thin-def
@@ -81,9 +80,9 @@ module _ {M : Type 1} (𝓤 : URA M) (H : Heap 𝓤) (A : Atoms 𝓤) (W : Given
       nothing ! $ nothing ! $ move ! (2 ∷ 0 ∷ []) $ join ! $ move ! (2 ∷ 1 ∷ []) $ join ! $ move ! (1 ∷ 0 ∷ []) $ join ! $ frame ! $ done !
 
   abbrev Said : Outcome → Call → Type 0
-  Said r z = (r ≡ outcomeIn (variadicAnswer h .outcome)) × (z ≡ variadicAnswer h .next)
+  Said r z = (r ≡ variadicAnswer h .outcome) × (z ≡ variadicAnswer h .next)
 
-  abbrev left : Call → Outcome → Left
+  abbrev left : Call → Outcome → Answer
   left z r = record { next = z; outcome = r }
 
   left-is : (z : Call) (r : Outcome) → Is T.the-row z (mach z ∷ []) → Is O.the-row r (LL.vals O.the-type O′.the-laws r) → Is N.the-row (left z r) (LL.vals N.the-type N′.the-laws (left z r))

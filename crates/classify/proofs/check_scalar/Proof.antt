@@ -1,6 +1,6 @@
--- `check_scalar` answers the call's refusal, or else the scalar's. Assumes nothing.
+-- `check_scalar` checks what is left, then the scalar. Assumes nothing.
 use borrow.Author.Needs.{needs}
-use Rattle.classify.proofs.Steps.{refusal-call, refusal-scalar}
+use Rattle.classify.proofs.Steps.{checked-left, checked-scalar}
 use Rattle.classify.proofs.check_scalar.Statement.{statement}
 use Rattle.classify.proofs.check_scalar.Tie as tie
 
@@ -9,6 +9,6 @@ check-scalar-spec =
     tie.close
     (tie.spec
     (λ c κs. search needs)
-    (λ c. search (refusal-call))
+    (λ c. search (checked-left))
     (λ c κs. search needs)
-    (λ c. search (refusal-scalar)))
+    (λ c. search (checked-scalar)))

@@ -11,6 +11,5 @@ decide-aggregate-spec =
     (λ c κs. search needs)
     (λ c κs. search needs)
     (λ c κs. search needs)
-    (λ c κs. search needs)
     (λ c. search (aggregate-memory))
     (λ c. search (aggregate-out)))

@@ -9,14 +9,9 @@ decide-scalar-spec =
     tie.close
     (tie.spec
     (λ c κs. search needs)
-    (λ c κs. search needs)
-    (λ c κs. search needs)
     (λ c. search (scalar-back))
     (λ c κs. search needs)
-    (λ c κs. search needs)
     (λ c. search (scalar-memory))
-    (λ c κs. search needs)
-    (λ c κs. search needs)
     (λ c κs. search needs)
     (λ c κs. search needs)
     (λ c. search (scalar-out)))

@@ -1,6 +1,6 @@
 -- `left_for` empties the banks or sets the mark. Assumes nothing.
 use borrow.Author.Needs.{needs}
-use Rattle.classify.proofs.Operations.{left-emptied, left-marked}
+use Rattle.classify.proofs.Operations.{left-emptied, left-marked, left-same}
 use Rattle.classify.proofs.left_for.Statement.{statement}
 use Rattle.classify.proofs.left_for.Tie as tie
 
@@ -8,13 +8,7 @@ pub left-for-spec : {M : Type 1} → statement M
 left-for-spec =
     tie.close
     (tie.spec
-    (λ c. search needs)
-    (λ c. search needs)
-    (λ c. search needs)
-    (λ c. search needs)
-    (λ c. search needs)
-    (λ c. search needs)
     (λ c. search (left-emptied))
-    (λ c. search needs)
-    (λ c. search needs)
-    (λ c. search (left-marked)))
+    (λ c κs. search needs)
+    (λ c. search (left-marked))
+    (λ c. search (left-same)))

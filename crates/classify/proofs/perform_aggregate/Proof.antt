@@ -1,6 +1,6 @@
--- `perform_aggregate` refuses what the checks refuse, and else answers what decides the aggregate. Assumes nothing.
+-- `perform_aggregate` refuses a number that no row has, and else goes by the row, whose lists end. Assumes nothing.
 use borrow.Author.Needs.{needs}
-use Rattle.classify.proofs.Operations.{perform-refused, perform-kept, known, perform-done, perform-written}
+use Rattle.classify.proofs.Operations.{row-refused, list-ends, row-aggregate}
 use Rattle.classify.proofs.perform_aggregate.Statement.{statement}
 use Rattle.classify.proofs.perform_aggregate.Tie as tie
 
@@ -9,18 +9,10 @@ perform-aggregate-spec =
     tie.close
     (tie.spec
     (λ c κs. search needs)
+    (λ c. search (row-refused))
     (λ c κs. search needs)
-    (λ c. (search (perform-refused), search (perform-kept)))
     (λ c κs. search needs)
-    (λ c κs. search (known))
     (λ c κs. search needs)
+    (λ c κs. search (list-ends))
     (λ c. search needs)
-    (λ c.
-    let finish = c .before .before in
-    let decide = finish .before .before in
-    let left = decide .before in
-    let check = left .before .before in
-    let made = left .before .if1 .left in (
-      perform-done _ _ _ _ _ (check .check-aggregate .ensures) made _ _ _ (left .left-of .ensures) _ (decide .decide-aggregate .ensures) _ _ (finish .finish .ensures),
-      perform-written _ _ _ _ _ (check .check-aggregate .ensures) made _ _ _ (left .left-of .ensures) _ (decide .decide-aggregate .ensures) _ _ (finish .finish .ensures),
-    )))
+    (λ c. search (row-aggregate)))

@@ -38,6 +38,9 @@ put-text-requires-3 c κs = search needs
 enum-told-3 : tie.Need-enum-told-3
 enum-told-3 c = search needs
 
+way-from-requires : tie.Need-way-from-requires
+way-from-requires c κs = search needs
+
 put-way-requires : tie.Need-put-way-requires
 put-way-requires c κs = search needs
 
@@ -74,6 +77,7 @@ put-name-spec =
     slice-aggregate-put-text-3
     put-text-requires-3
     enum-told-3
+    way-from-requires
     put-way-requires
     same-length-2
     returns-2

@@ -2,7 +2,7 @@
 use Prim.Native.Nat.{_≤_, _+_, _*_, _-_}
 use mathlib.Core.Path.{_≡_, refl}
 use lib.ListN.{length, take}
-use Rattle.lines.specs.Printing.{slotsText}
+use Rattle.lines.specs.Printing.{slotsText, mostPart}
 use Rattle.lines.proofs.PrintingLaws.{Goes, slotsFrom, goes-first, goes-next, goes-last}
 use native.Mathlib.Omega.{arith}
 use borrow.Author.Needs.{needs}
@@ -10,7 +10,7 @@ use Rattle.lines.proofs.put_slots.Statement.{statement}
 use Rattle.lines.proofs.put_slots.Tie as tie
 
 abbrev Inv-loop : tie.InvT-loop
-Inv-loop slots n out₀ at to₀ i₀ out to i = (i ≤ n) × (length out ≡ length out₀) × (to ≤ at + i * 21) × Goes out₀ at (slotsText 0 (take n slots)) out to (slotsFrom n slots i)
+Inv-loop slots n out₀ at to₀ i₀ out to i = (i ≤ n) × (length out ≡ length out₀) × (to ≤ at + i * mostPart) × Goes out₀ at (slotsText 0 (take n slots)) out to (slotsFrom n slots i)
 
 abbrev μ-loop : tie.MeasureT-loop
 μ-loop slots n out₀ at to₀ i₀ out to i = n - i

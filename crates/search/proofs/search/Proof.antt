@@ -19,6 +19,9 @@ without-slots-requires-2 c κs = search needs
 enum-known-test : tie.Need-enum-known-test
 enum-known-test c = search needs
 
+is-one-of-requires : tie.Need-is-one-of-requires
+is-one-of-requires c κs = search needs
+
 without-slots-requires-3 : tie.Need-without-slots-requires-3
 without-slots-requires-3 c κs = search needs
 
@@ -133,6 +136,7 @@ search-spec =
     enum-told-2
     without-slots-requires-2
     enum-known-test
+    is-one-of-requires
     without-slots-requires-3
     enum-known-test-2
     without-slots-requires-4

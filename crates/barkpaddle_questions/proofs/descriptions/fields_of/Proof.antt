@@ -28,8 +28,8 @@ fields-of-spec =
     (λ c.
     let flags = c .before .before .before .before .before .before in
     let first = flags .before .before .before .before in
-    let parts = first .before .before .before .before in
-    fields _ _ (parts .before .before .banks .ensures) _ (parts .before .scalars .ensures) _ (parts .others .ensures)
+    let parts = first .before .before .before .before .before .before .before in
+    fields _ _ (parts .before .before .read .ensures) _ (parts .before .row .ensures) _ (parts .others-of .ensures)
     _ (first .before .before .before .flag-number .ensures)
     _ (first .before .before .flag-number2 .ensures)
     _ (first .before .flag-number3 .ensures)

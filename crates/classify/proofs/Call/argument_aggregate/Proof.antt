@@ -1,6 +1,6 @@
 -- `argument_aggregate` performs an operation on an aggregate. Assumes nothing.
 use borrow.Author.Needs.{needs}
-use Rattle.classify.proofs.Operations.{argument-answered, argument-written}
+use Rattle.classify.proofs.Operations.{argument-row}
 use Rattle.classify.proofs.Call.argument_aggregate.Statement.{statement}
 use Rattle.classify.proofs.Call.argument_aggregate.Tie as tie
 
@@ -10,4 +10,4 @@ argument-aggregate-spec =
     (tie.spec
     (λ c κs. search needs)
     (λ c. search needs)
-    (λ c. (argument-answered _ _ _ _ _ _ (c .before .before .perform-aggregate .ensures), argument-written _ _ _ _ _ _ (c .before .before .perform-aggregate .ensures))))
+    (λ c. search (argument-row)))

@@ -1,6 +1,6 @@
 -- `argument_scalar` performs an operation on a scalar. Assumes nothing.
 use borrow.Author.Needs.{needs}
-use Rattle.classify.proofs.Operations.{argument-answered, argument-written}
+use Rattle.classify.proofs.Operations.{argument-row}
 use Rattle.classify.proofs.Call.argument_scalar.Statement.{statement}
 use Rattle.classify.proofs.Call.argument_scalar.Tie as tie
 
@@ -10,4 +10,4 @@ argument-scalar-spec =
     (tie.spec
     (λ c κs. search needs)
     (λ c. search needs)
-    (λ c. (argument-answered _ _ _ _ _ _ (c .before .before .perform-scalar .ensures), argument-written _ _ _ _ _ _ (c .before .before .perform-scalar .ensures))))
+    (λ c. search (argument-row)))

@@ -1,6 +1,6 @@
 -- `returns_scalar` performs an operation on a scalar. Assumes nothing.
 use borrow.Author.Needs.{needs}
-use Rattle.classify.proofs.Operations.{returns-answered, returns-written}
+use Rattle.classify.proofs.Operations.{returns-row}
 use Rattle.classify.proofs.Call.returns_scalar.Statement.{statement}
 use Rattle.classify.proofs.Call.returns_scalar.Tie as tie
 
@@ -10,4 +10,4 @@ returns-scalar-spec =
     (tie.spec
     (λ c κs. search needs)
     (λ c. search needs)
-    (λ c. (returns-answered _ _ _ _ _ _ (c .before .before .perform-scalar .ensures), returns-written _ _ _ _ _ _ (c .before .before .perform-scalar .ensures))))
+    (λ c. search (returns-row)))

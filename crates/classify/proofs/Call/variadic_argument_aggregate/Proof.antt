@@ -1,6 +1,6 @@
--- `variadic_argument_aggregate` performs an operation by what the description says of arguments after the dots. Assumes nothing.
+-- `variadic_argument_aggregate` performs an operation on an aggregate. Assumes nothing.
 use borrow.Author.Needs.{needs}
-use Rattle.classify.proofs.Operations.{dots-answered, dots-written}
+use Rattle.classify.proofs.Operations.{dots-row}
 use Rattle.classify.proofs.Call.variadic_argument_aggregate.Statement.{statement}
 use Rattle.classify.proofs.Call.variadic_argument_aggregate.Tie as tie
 
@@ -9,6 +9,5 @@ variadic-argument-aggregate-spec =
     tie.close
     (tie.spec
     (λ c κs. search needs)
-    (λ c κs. search needs)
     (λ c. search needs)
-    (λ c. (dots-answered _ _ _ _ _ _ _ (c .before .before .before .before .variadic .ensures) (c .before .before .perform-aggregate .ensures), dots-written _ _ _ _ _ _ _ (c .before .before .before .before .variadic .ensures) (c .before .before .perform-aggregate .ensures))))
+    (λ c. search (dots-row)))

@@ -1,11 +1,11 @@
 -- `banks_of` reads the four numbers and the flag from their bytes.
 use borrow.Author.Needs.{needs}
-use Rattle.describe.specs.Row.{banksOf}
+use Rattle.describe.specs.Row.{banksFrom}
 use Rattle.describe.proofs.row.banks_of.Statement.{statement}
 use Rattle.describe.proofs.row.banks_of.Tie as tie
 
 pub banks-of-spec : {M : Type 1} → statement M
-unfolding banksOf
+unfolding banksFrom
 banks-of-spec =
     tie.close
     (tie.spec

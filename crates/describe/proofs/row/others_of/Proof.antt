@@ -1,11 +1,11 @@
 -- `others_of` reads each field from its byte, by what each callee ensures.
 use borrow.Author.Needs.{needs}
-use Rattle.describe.specs.Row.{othersOf}
+use Rattle.describe.specs.Row.{othersFrom}
 use Rattle.describe.proofs.row.others_of.Statement.{statement}
 use Rattle.describe.proofs.row.others_of.Tie as tie
 
 pub others-of-spec : {M : Type 1} → statement M
-unfolding othersOf
+unfolding othersFrom
 others-of-spec =
     tie.close
     (tie.spec
@@ -13,7 +13,4 @@ others-of-spec =
     (λ c κs. search needs)
     (λ c κs. search needs)
     (λ c κs. search needs)
-    (λ c κs. search needs)
-    (λ c κs. search needs)
-    (λ c κs. search needs)
-    (λ c. simp (c .before .before .before .before .before .return-pointer-of .ensures, c .before .before .before .before .variadic-of .ensures, c .before .before .before .stack-args-from .ensures, c .before .before .narrow-from .ensures, c .before .bit-ints-from .ensures, c .cleanup-from .ensures)))
+    (λ c. simp (c .before .before .narrow-from .ensures, c .before .bit-ints-from .ensures, c .cleanup-from .ensures)))

@@ -1,11 +1,11 @@
 -- `scalars_of` reads the flags and the formats from their two bytes.
 use borrow.Author.Needs.{needs}
-use Rattle.describe.specs.Row.{scalarsOf}
+use Rattle.describe.specs.Row.{scalarsFrom}
 use Rattle.describe.proofs.row.scalars_of.Statement.{statement}
 use Rattle.describe.proofs.row.scalars_of.Tie as tie
 
 pub scalars-of-spec : {M : Type 1} → statement M
-unfolding scalarsOf
+unfolding scalarsFrom
 scalars-of-spec =
     tie.close
     (tie.spec

@@ -1,0 +1,17 @@
+-- `aggregate_by` refuses what the checks refuse, and else answers what decides the aggregate. Assumes nothing.
+use borrow.Author.Needs.{needs}
+use Rattle.classify.proofs.Operations.{by-refused, aggregate-done}
+use Rattle.classify.proofs.aggregate_by.Statement.{statement}
+use Rattle.classify.proofs.aggregate_by.Tie as tie
+
+pub aggregate-by-spec : {M : Type 1} → statement M
+aggregate-by-spec =
+    tie.close
+    (tie.spec
+    (λ c κs. search needs)
+    (λ c κs. search needs)
+    (λ c. search (by-refused))
+    (λ c κs. search needs)
+    (λ c κs. search needs)
+    (λ c. search needs)
+    (λ c. search (aggregate-done)))

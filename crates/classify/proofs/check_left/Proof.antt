@@ -1,0 +1,13 @@
+-- `check_left` answers the refusal of what is left. Assumes nothing.
+use borrow.Author.Needs.{needs}
+use Rattle.classify.proofs.Steps.{left-bad, left-good}
+use Rattle.classify.proofs.check_left.Statement.{statement}
+use Rattle.classify.proofs.check_left.Tie as tie
+
+pub check-left-spec : {M : Type 1} → statement M
+check-left-spec =
+    tie.close
+    (tie.spec
+    (λ c κs. search needs)
+    (λ c. search (left-bad))
+    (λ c. search (left-good)))

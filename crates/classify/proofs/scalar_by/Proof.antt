@@ -1,0 +1,17 @@
+-- `scalar_by` refuses what the checks refuse, and else answers what decides the scalar. Assumes nothing.
+use borrow.Author.Needs.{needs}
+use Rattle.classify.proofs.Operations.{by-refused, scalar-done}
+use Rattle.classify.proofs.scalar_by.Statement.{statement}
+use Rattle.classify.proofs.scalar_by.Tie as tie
+
+pub scalar-by-spec : {M : Type 1} → statement M
+scalar-by-spec =
+    tie.close
+    (tie.spec
+    (λ c κs. search needs)
+    (λ c κs. search needs)
+    (λ c. search (by-refused))
+    (λ c κs. search needs)
+    (λ c κs. search needs)
+    (λ c. search needs)
+    (λ c. search (scalar-done)))
