@@ -118,29 +118,13 @@ module _ (abi : ℕ) (b : Brief) (eb : b ≡ briefOf (described abi)) where
       ends true = returns-end abi h
       ends false = arguments-end abi h
 
--- ---- a whole operation by terms, from what the code knows
+-- ---- an operation by terms, where nothing refuses it
 
-kept : (k : ℕ) (new out : List ℕ) → (k ≡ accepted → ⊥) → out ≡ unlessRefused k new out
-kept zero new out h = absurd (h refl)
-kept (suc k) new out h = refl
-
-module _ (T : Terms) (list : List Rule) (returning : Bool) (dots : Dots) (c : Call) (arg : args.Arg) (ws out : List ℕ)
-    (n : ℕ) (en : n ≡ checked T (c .left) arg ws) (r : Answer) where
-  pub by-refused : (n ≡ accepted → ⊥) → r ≡ refused c n → parts.By T list returning dots c arg ws out r out
-  unfolding parts.performed parts.performedIn
-  by-refused h er = record { answers = rw (er, ← en) (or-refused n c _ h); writes = rw (← en) (kept n _ out h) }
-
-  by-done : n ≡ accepted → (after : List ℕ) (d : Decided) → d ≡ parts.decidedFor T list returning dots c arg (piecesOf ws) → parts.Finishes c d (piecesOf ws) out r after
-      → parts.By T list returning dots c arg ws out r after
-  unfolding parts.performed parts.performedIn
-  by-done z after d ed e = record { answers = rw (e .answers, ed, ← en, z); writes = rw (e .writes, ed, ← en, z) }
-
-pub aggregate-done : (T : Terms) (list : List Rule) (returning : Bool) (dots : Dots) (c : Call) (shape : Shape) (ws out : List ℕ)
-    (n : ℕ) → n ≡ checked T (c .left) (parts.aggregateArg shape) ws → (r : Answer) → n ≡ accepted → (after : List ℕ) (d : Decided)
+pub aggregate-done : (T : Terms) (list : List Rule) (returning : Bool) (dots : Dots) (c : Call) (shape : Shape) (ws out : List ℕ) (r : Answer) (after : List ℕ) (d : Decided)
     → d ≡ parts.aggregateDecided T list returning dots (c .left) shape (piecesOf ws) → parts.Finishes c d (piecesOf ws) out r after
     → parts.By T list returning dots c (parts.aggregateArg shape) ws out r after
 unfolding parts.aggregateDecided
-aggregate-done T list returning dots c shape ws out n en r z after d ed e = by-done T list returning dots c (parts.aggregateArg shape) ws out n en r z after d ed e
+aggregate-done T list returning dots c shape ws out r after d ed e = rw ed at e
 
 -- the slots of a scalar stand in no pieces and no classes
 module _ (cs : List ℕ) (ps : List Piece) where
@@ -201,13 +185,12 @@ module _ (cs : List ℕ) (ps : List Piece) where
   unfolding parts.finishedScalarIn parts.finishedIn
   finished-alone d out e = rw (e .same)
 
-pub scalar-done : (T : Terms) (returning : Bool) (dots : Dots) (c : Call) (s : Scalar) (out : List ℕ)
-    (n : ℕ) → n ≡ checked T (c .left) (parts.scalarArg s) [] → (r : Answer) → n ≡ accepted → (after : List ℕ) (d : Decision)
+pub scalar-done : (T : Terms) (returning : Bool) (dots : Dots) (c : Call) (s : Scalar) (out : List ℕ) (r : Answer) (after : List ℕ) (d : Decision)
     → d ≡ rules.scalarBy T returning dots (c .left) s → parts.FinishesScalar c d out r after
     → parts.By T [] returning dots c (parts.scalarArg s) [] out r after
 unfolding piecesOf
-scalar-done T returning dots c s out n en r z after d ed e =
-    by-done T [] returning dots c (parts.scalarArg s) [] out n en r z after (parts.decided d noClasses) (rw ed)
+scalar-done T returning dots c s out r after d ed e =
+    rw (← ed)
     (record {
       answers = e .answers;
       writes = e .writes ∙ finished-alone noClasses [] d out (rw ed (scalar-alone noClasses [] T returning dots (c .left) s));
@@ -215,31 +198,45 @@ scalar-done T returning dots c s out n en r z after d ed e =
 
 -- ---- on a row
 
+kept : (k : ℕ) (new out : List ℕ) → (k ≡ accepted → ⊥) → out ≡ unlessRefused k new out
+kept zero new out h = absurd (h refl)
+kept (suc k) new out h = refl
+
 module _ (returning after-dots : Bool) (c : Call) (arg : args.Arg) (ws out : List ℕ) (r : Answer) where
-  pub row-refused : descriptions ≤ c .abi → r ≡ refused c bad-abi → parts.OnRow returning after-dots c arg ws out r out
+  pub row-missing-refused : descriptions ≤ c .abi → r ≡ refused c bad-abi → parts.OnRow returning after-dots c arg ws out r out
   unfolding parts.performed parts.performedIn
-  row-refused h er = record { answers = rw (er, row-missing (c .abi) h); writes = rw (row-missing (c .abi) h) }
+  row-missing-refused h er = record { answers = rw (er, row-missing (c .abi) h); writes = rw (row-missing (c .abi) h) }
 
-  module _ (h : c .abi < descriptions) (b : Brief) (eb : b ≡ briefOf (described (c .abi))) (dots : Dots) (ed : dots ≡ parts.dotsFor after-dots (b .terms .variadic)) (after : List ℕ) where
-    by-row : (list : List Rule) → list ≡ parts.rulesFor returning (described (c .abi)) → parts.By (b .terms) list returning dots c arg ws out r after
-        → parts.OnRow returning after-dots c arg ws out r after
-    by-row list el e =
-        let ed′ : dots ≡ parts.dotsFor after-dots (described (c .abi) .variadic) = rw eb at ed in
-        let e′ : parts.By (termsOf (described (c .abi))) list returning dots c arg ws out r after = rw eb at e in
-        rw (row-there (c .abi) h, ← ed′, ← el) e′
+  module _ (h : c .abi < descriptions) (b : Brief) (eb : b ≡ briefOf (described (c .abi))) (n : ℕ) (en : n ≡ checked (b .terms) (c .left) arg ws) where
+    checks : n ≡ checked (termsOf (described (c .abi))) (c .left) arg ws
+    checks = rw eb at en
 
-    pub row-aggregate : (list : Rules) → list ≡ parts.listFor returning b → parts.By (b .terms) (listed list) returning dots c arg ws out r after
-        → parts.OnRow returning after-dots c arg ws out r after
-    row-aggregate list el e = by-row (listed list) (list-is (c .abi) b eb returning list el) e
+    pub row-refused : (n ≡ accepted → ⊥) → r ≡ refused c n → parts.OnRow returning after-dots c arg ws out r out
+    unfolding parts.performed parts.performedIn
+    row-refused z er = record { answers = rw (er, row-there (c .abi) h, ← checks) (or-refused n c _ z); writes = rw (row-there (c .abi) h, ← checks) (kept n _ out z) }
 
--- a scalar's rules are no list's
+    module _ (z : n ≡ accepted) (b′ : Brief) (eb′ : b′ ≡ briefOf (described (c .abi)))
+        (dots : Dots) (ed : dots ≡ parts.dotsFor after-dots (b′ .terms .variadic)) (after : List ℕ) where
+      by-row : (list : List Rule) → list ≡ parts.rulesFor returning (described (c .abi)) → parts.By (b′ .terms) list returning dots c arg ws out r after
+          → parts.OnRow returning after-dots c arg ws out r after
+      unfolding parts.performed parts.performedIn
+      by-row list el e =
+          let ed′ : dots ≡ parts.dotsFor after-dots (described (c .abi) .variadic) = rw eb′ at ed in
+          let e′ : parts.By (termsOf (described (c .abi))) list returning dots c arg ws out r after = rw eb′ at e in
+          rw (row-there (c .abi) h, ← checks, z, ← ed′, ← el) e′
+
+      pub row-aggregate : (list : Rules) → list ≡ parts.listFor returning b′ → parts.By (b′ .terms) (listed list) returning dots c arg ws out r after
+          → parts.OnRow returning after-dots c arg ws out r after
+      row-aggregate list el e = by-row (listed list) (list-is (c .abi) b′ eb′ returning list el) e
+
+-- a scalar's rules are no list's, and its terms are those that the checks looked at
 pub row-scalar : (returning after-dots : Bool) (c : Call) (s : Scalar) (out : List ℕ) (r : Answer) → c .abi < descriptions
-    → (b : Brief) → b ≡ briefOf (described (c .abi)) → (dots : Dots) → dots ≡ parts.dotsFor after-dots (b .terms .variadic) → (after : List ℕ)
+    → (b : Brief) → b ≡ briefOf (described (c .abi)) → (n : ℕ) → n ≡ checked (b .terms) (c .left) (parts.scalarArg s) [] → n ≡ accepted
+    → (dots : Dots) → dots ≡ parts.dotsFor after-dots (b .terms .variadic) → (after : List ℕ)
     → parts.By (b .terms) [] returning dots c (parts.scalarArg s) [] out r after
     → parts.OnRow returning after-dots c (parts.scalarArg s) [] out r after
-unfolding parts.performed parts.performedIn
-row-scalar returning after-dots c s out r h b eb dots ed after e =
-    by-row returning after-dots c (parts.scalarArg s) [] out r h b eb dots ed after (parts.rulesFor returning (described (c .abi))) refl e
+row-scalar returning after-dots c s out r h b eb n en z dots ed after e =
+    by-row returning after-dots c (parts.scalarArg s) [] out r h b eb n en z b eb dots ed after (parts.rulesFor returning (described (c .abi))) refl e
 
 -- ---- what decides a value comes to what is promised, where the rules agree with the Rust
 

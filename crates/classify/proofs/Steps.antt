@@ -3,9 +3,8 @@
 use Prim.Native.Nat.{ℕ, zero, suc, _/_, _≤_, _<_}
 use mathlib.Core.Path.{_≡_, refl}
 use mathlib.Core.List.{List, []}
-use mathlib.Core.Bool.{Bool, true, false, _&&_, _||_, not}
-use borrow.Author.Tests.{lt-ltb, le-ltb, le-leb, lt-leb}
-use lib.Dec.{ltb}
+use mathlib.Core.Bool.{true, false}
+use borrow.Author.Tests.{lt-ltb, le-ltb, le-leb, lt-leb, eq-eqb, ne-eqb}
 use lib.ListN.{length}
 use Rattle.shape.specs.declared.Arg as args
 use Rattle.shape.specs.declared.Scalar.{Scalar}
@@ -31,7 +30,7 @@ use Rattle.spend.specs.declared.Left.{Left}
 use Rattle.spend.specs.declared.Decision.{Decision}
 use Rattle.spend.specs.declared.Spent.{Spent}
 use Rattle.spend.specs.declared.Way.the-variants.{Ignore}
-use Rattle.spend.specs.Ways.{nothing, marked, withMark, wayNumber, leftAfter}
+use Rattle.spend.specs.Ways.{nothing, no-mark, withMark, wayNumber, leftAfter}
 use Rattle.writing.specs.Slots.{slotsIn, slotsInScalar}
 use Rattle.memory.specs.InMemory.{inMemoryBy}
 use Rattle.classify.specs.declared.Call.{Call}
@@ -62,17 +61,29 @@ mark-is BothBanks = refl
 mark-is IntegersOnly = refl
 mark-is UnnamedIntegers = refl
 
-module _ (T : Terms) (left : Left) (dots : Dots) (ed : dots ≡ dotsOf (T .variadic)) where
-  abbrev isBad : Bool
-  isBad = (ltb (T .banks .integer) (left .integer) || ltb (T .banks .float) (left .float)) || (marked left && not (dots .mark))
-
-  pub left-bad : isBad ≡ true → bad-call ≡ leftRefusal T left
+module _ (T : Terms) (left : Left) where
+  pub left-integers : T .banks .integer < left .integer → bad-call ≡ leftRefusal T left
   unfolding leftRefusal
-  left-bad t = rw (mark-is (T .variadic), ← ed, t)
+  left-integers h = rw (lt-ltb _ _ h)
 
-  pub left-good : isBad ≡ false → accepted ≡ leftRefusal T left
-  unfolding leftRefusal
-  left-good t = rw (mark-is (T .variadic), ← ed, t)
+  module _ (i : left .integer ≤ T .banks .integer) where
+    pub left-floats : T .banks .float < left .float → bad-call ≡ leftRefusal T left
+    unfolding leftRefusal
+    left-floats h = rw (le-ltb _ _ i, lt-ltb _ _ h)
+
+    module _ (f : left .float ≤ T .banks .float) where
+      pub left-unmarked : left .«integers_only» ≡ no-mark → accepted ≡ leftRefusal T left
+      unfolding leftRefusal
+      left-unmarked h = rw (le-ltb _ _ i, le-ltb _ _ f, eq-eqb (left .«integers_only») no-mark h)
+
+      module _ (m : left .«integers_only» ≡ no-mark → ⊥) (dots : Dots) (ed : dots ≡ dotsOf (T .variadic)) where
+        pub left-marked : dots .mark ≡ true → accepted ≡ leftRefusal T left
+        unfolding leftRefusal
+        left-marked h = rw (le-ltb _ _ i, le-ltb _ _ f, ne-eqb (left .«integers_only») no-mark m, mark-is (T .variadic), ← ed, h)
+
+        pub left-marked-badly : dots .mark ≡ false → bad-call ≡ leftRefusal T left
+        unfolding leftRefusal
+        left-marked-badly h = rw (le-ltb _ _ i, le-ltb _ _ f, ne-eqb (left .«integers_only») no-mark m, mark-is (T .variadic), ← ed, h)
 
 module _ (T : Terms) (left : Left) (r : ℕ) (er : r ≡ leftRefusal T left) where
   pub checked-left : (arg : args.Arg) (ws : List ℕ) → (r ≡ accepted → ⊥) → r ≡ checked T left arg ws

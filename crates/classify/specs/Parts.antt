@@ -81,10 +81,13 @@ Finishes c d ps out r after = Leaves (finished c (d .decision) out) (finishedIn 
 abbrev pub FinishesScalar : Call → Decision → List ℕ → Answer → List ℕ → Type 0
 FinishesScalar c d out r after = Leaves (finished c d out) (finishedScalarIn d out) r after
 
--- ---- a whole operation, by terms and a list, and what their source refuses
+-- ---- an operation by terms and a list: where nothing refuses it, and whole
 
 abbrev pub decidedFor : Terms → List Rule → Bool → Dots → Call → args.Arg → List Piece → Decided
 decidedFor T rules returning dots c arg ps = decidedBy (choice T rules returning dots (c .left) arg ps) arg ps
+
+abbrev pub By : Terms → List Rule → Bool → Dots → Call → args.Arg → List ℕ → List ℕ → Answer → List ℕ → Type 0
+By T rules returning dots c arg ws out r after = Finishes c (decidedFor T rules returning dots c arg (piecesOf ws)) (piecesOf ws) out r after
 
 unfoldable pub performed : ℕ → Terms → List Rule → Bool → Dots → Call → args.Arg → List ℕ → List ℕ → Answer
 performed source T rules returning dots c arg ws out =
@@ -93,10 +96,6 @@ performed source T rules returning dots c arg ws out =
 unfoldable pub performedIn : ℕ → Terms → List Rule → Bool → Dots → Call → args.Arg → List ℕ → List ℕ → List ℕ
 performedIn source T rules returning dots c arg ws out =
     unlessRefused (orElse source (checked T (c .left) arg ws)) (finishedIn (decidedFor T rules returning dots c arg (piecesOf ws)) (piecesOf ws) out) out
-
-abbrev pub By : Terms → List Rule → Bool → Dots → Call → args.Arg → List ℕ → List ℕ → Answer → List ℕ → Type 0
-By T rules returning dots c arg ws out r after =
-    Leaves (performed numbers.accepted T rules returning dots c arg ws out) (performedIn numbers.accepted T rules returning dots c arg ws out) r after
 
 -- ---- and on a row
 

@@ -220,8 +220,8 @@ impl Call {
     }
 }
 
-// ---- an operation, by the number of its description: that is read, once, or refused. A scalar's way is apart from an aggregate's, whose walk
-// it doesn't need.
+// ---- an operation, by the number of its description: that is read, or refused; then the checks, and what the terms decide. A scalar's way is
+// apart from an aggregate's, whose walk it doesn't need.
 
 fn perform_scalar(
     call: Call,
@@ -237,11 +237,17 @@ fn perform_scalar(
     }
     let brief = abis::read(call.abi);
     let terms = brief.terms;
+    let refusal = check_scalar(terms, call.left, s);
+    if refusal != shape::ACCEPTED {
+        return refused(call, refusal);
+    }
     let variadic = terms.variadic;
     let dots = dots_for(after_dots, variadic);
     scalar_by(terms, returning, dots, call, s, out)
 }
 
+// Read for the checks, and again behind them: what is read is constants, of which the compiler keeps those that are used, so a refusal pays for
+// the few that the checks look at. A scalar's terms are few, and are read once.
 fn perform_aggregate(
     call: Call,
     returning: bool,
@@ -254,6 +260,11 @@ fn perform_aggregate(
 {
     if call.abi >= abis::DESCRIPTIONS {
         return refused(call, shape::BAD_ABI);
+    }
+    let checked = abis::read(call.abi);
+    let refusal = check_aggregate(checked.terms, call.left, shape, words);
+    if refusal != shape::ACCEPTED {
+        return refused(call, refusal);
     }
     let brief = abis::read(call.abi);
     let terms = brief.terms;
@@ -283,7 +294,7 @@ fn dots_for(after_dots: bool, variadic: Variadic) -> Dots
     describe::as_fixed()
 }
 
-// ---- an operation, by a description's terms and one of its lists, in its parts: check, decide, then room, writing and the answer
+// ---- an operation that passed the checks, by a description's terms and one of its lists: decide, then room, writing and the answer
 
 fn scalar_by(
     terms: Terms,
@@ -295,12 +306,7 @@ fn scalar_by(
 ) -> Answer
     ensures { λ r. ⌜ parts.By terms [] returning dots call (parts.scalarArg s) [] (now (out .entry)) r (now (out .exit)) ⌝ }
 {
-    let left = call.left;
-    let refusal = check_scalar(terms, left, s);
-    if refusal != shape::ACCEPTED {
-        return refused(call, refusal);
-    }
-    let decision = decide_scalar(terms, returning, dots, left, s);
+    let decision = decide_scalar(terms, returning, dots, call.left, s);
     finish_scalar(call, decision, out)
 }
 
@@ -317,12 +323,7 @@ fn aggregate_by(
     requires { ⌜ Ends (listed list) ⌝ }
     ensures { λ r. ⌜ parts.By terms (listed list) returning dots call (parts.aggregateArg shape) (now (words .entry)) (now (out .entry)) r (now (out .exit)) ⌝ }
 {
-    let left = call.left;
-    let refusal = check_aggregate(terms, left, shape, words);
-    if refusal != shape::ACCEPTED {
-        return refused(call, refusal);
-    }
-    let decided = decide_aggregate(terms, list, returning, dots, left, shape, words);
+    let decided = decide_aggregate(terms, list, returning, dots, call.left, shape, words);
     finish(call, decided, words, out)
 }
 
@@ -348,18 +349,26 @@ fn check_aggregate(terms: Terms, left: Left, shape: Shape, words: &[u64]) -> u64
     checks::check_shape(shape, words)
 }
 
-// A count above its bank's start, or a mark that the description doesn't use.
+// A count above its bank's start, or a mark that the description doesn't use. What a good call passes is two comparisons and a test for 0.
 fn check_left(terms: Terms, left: Left) -> u64
     ensures { λ r. ⌜ r ≡ answers.leftRefusal terms left ⌝ }
 {
     let banks = terms.banks;
-    let variadic = terms.variadic;
-    let dots = describe::dots_of(variadic);
-    let is_marked = left.integers_only != spend::NO_MARK;
-    if (banks.integer < left.integer) | (banks.float < left.float) | (is_marked & !dots.mark) {
+    if banks.integer < left.integer {
         return shape::BAD_CALL;
     }
-    shape::ACCEPTED
+    if banks.float < left.float {
+        return shape::BAD_CALL;
+    }
+    if left.integers_only == spend::NO_MARK {
+        return shape::ACCEPTED;
+    }
+    let variadic = terms.variadic;
+    let dots = describe::dots_of(variadic);
+    if dots.mark {
+        return shape::ACCEPTED;
+    }
+    shape::BAD_CALL
 }
 
 // ---- decide

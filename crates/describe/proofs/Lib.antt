@@ -3,4 +3,5 @@ pub mod Numbers
 pub mod Inverse
 pub mod Ends
 mod Dotted
+mod References
 mod Unique

@@ -189,7 +189,10 @@ pub fn as_fixed() -> Dots
 pub fn scalar_is_by_reference(scalars: Scalars, size: u64) -> bool
     ensures { λ r. ⌜ r ≡ isByReference scalars size ⌝ }
 {
-    scalars.wide_is_by_reference & !register_size(size)
+    if scalars.wide_is_by_reference {
+        return !register_size(size);
+    }
+    false
 }
 
 // Whether a scalar of this size comes back through the address that the caller passes.
@@ -210,8 +213,12 @@ pub fn wide_integer_returns_in(scalars: Scalars, size: u64) -> u64
     }
 }
 
+// The sizes beyond a register's, 16 first of all, are told by one comparison.
 fn register_size(size: u64) -> bool
     ensures { λ r. ⌜ r ≡ registerSize size ⌝ }
 {
+    if size > 8 {
+        return false;
+    }
     (size == 1) | (size == 2) | (size == 4) | (size == 8)
 }

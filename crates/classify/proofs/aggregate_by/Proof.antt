@@ -1,6 +1,6 @@
--- `aggregate_by` refuses what the checks refuse, and else answers what decides the aggregate. Assumes nothing.
+-- `aggregate_by` answers what decides the aggregate, where nothing refuses it. Assumes nothing.
 use borrow.Author.Needs.{needs}
-use Rattle.classify.proofs.Operations.{by-refused, aggregate-done}
+use Rattle.classify.proofs.Operations.{aggregate-done}
 use Rattle.classify.proofs.aggregate_by.Statement.{statement}
 use Rattle.classify.proofs.aggregate_by.Tie as tie
 
@@ -8,9 +8,6 @@ pub aggregate-by-spec : {M : Type 1} → statement M
 aggregate-by-spec =
     tie.close
     (tie.spec
-    (λ c κs. search needs)
-    (λ c κs. search needs)
-    (λ c. search (by-refused))
     (λ c κs. search needs)
     (λ c κs. search needs)
     (λ c. search needs)

@@ -1,6 +1,6 @@
 -- `check_left` answers the refusal of what is left. Assumes nothing.
 use borrow.Author.Needs.{needs}
-use Rattle.classify.proofs.Steps.{left-bad, left-good}
+use Rattle.classify.proofs.Steps.{left-integers, left-floats, left-unmarked, left-marked, left-marked-badly}
 use Rattle.classify.proofs.check_left.Statement.{statement}
 use Rattle.classify.proofs.check_left.Tie as tie
 
@@ -8,6 +8,9 @@ pub check-left-spec : {M : Type 1} → statement M
 check-left-spec =
     tie.close
     (tie.spec
+    (λ c. search (left-integers))
+    (λ c. search (left-floats))
+    (λ c. search (left-unmarked))
     (λ c κs. search needs)
-    (λ c. search (left-bad))
-    (λ c. search (left-good)))
+    (λ c. search (left-marked))
+    (λ c. search (left-marked-badly)))

@@ -1,6 +1,6 @@
--- `scalar_by` refuses what the checks refuse, and else answers what decides the scalar. Assumes nothing.
+-- `scalar_by` answers what decides the scalar, where nothing refuses it. Assumes nothing.
 use borrow.Author.Needs.{needs}
-use Rattle.classify.proofs.Operations.{by-refused, scalar-done}
+use Rattle.classify.proofs.Operations.{scalar-done}
 use Rattle.classify.proofs.scalar_by.Statement.{statement}
 use Rattle.classify.proofs.scalar_by.Tie as tie
 
@@ -8,9 +8,6 @@ pub scalar-by-spec : {M : Type 1} → statement M
 scalar-by-spec =
     tie.close
     (tie.spec
-    (λ c κs. search needs)
-    (λ c κs. search needs)
-    (λ c. search (by-refused))
     (λ c κs. search needs)
     (λ c κs. search needs)
     (λ c. search needs)

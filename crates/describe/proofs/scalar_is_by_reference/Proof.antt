@@ -1,5 +1,6 @@
--- `scalar_is_by_reference` is the flag and the size test that `register_size` answers.
+-- `scalar_is_by_reference` asks the size where the flag is set. Assumes nothing.
 use borrow.Author.Needs.{needs}
+use Rattle.describe.proofs.References.{reference-where, reference-nowhere}
 use Rattle.describe.proofs.scalar_is_by_reference.Statement.{statement}
 use Rattle.describe.proofs.scalar_is_by_reference.Tie as tie
 
@@ -8,4 +9,5 @@ scalar-is-by-reference-spec =
     tie.close
     (tie.spec
     (λ c κs. search needs)
-    (λ c. simp (c .before .register-size .ensures)))
+    (λ c. search (reference-where))
+    (λ c. search (reference-nowhere)))
