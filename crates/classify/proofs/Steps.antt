@@ -155,9 +155,9 @@ pub refuses : (c : Call) (n way : ℕ) → way ≡ wayNumber Ignore → (spent :
     → _≡_ {A = Answer} (record { next = c; outcome = record { refusal = n; way = way; spent = spent; slots = 0 } }) (refused c n)
 refuses c n way ew spent es = rw (ew, es)
 
-pub accepts : (c : Call) (d : Decision) (left : Left) → left ≡ leftAfter (c .left) (d .spent) → (way : ℕ) → way ≡ wayNumber (d .way)
-    → _≡_ {A = Answer} (record { next = callWith (c .abi) left; outcome = record { refusal = accepted; way = way; spent = d .spent; slots = d .count } }) (parts.accepted c d)
-accepts c d left el way ew = rw (el, ew)
+pub accepts : (c : Call) (d : Decision) (left : Left) → left ≡ leftAfter (c .left) (d .spent) → (way : ℕ) → way ≡ wayNumber (d .way) → (spent : Spent) → spent ≡ d .spent
+    → _≡_ {A = Answer} (record { next = callWith (c .abi) left; outcome = record { refusal = accepted; way = way; spent = spent; slots = d .count } }) (parts.accepted c d)
+accepts c d left el way ew spent es = rw (el, ew, es)
 
 module _ (out : List ℕ) (room : ℕ) (er : room ≡ length out / slotSize) (c : Call) (r : Answer) where
   module _ (d : Decision) where
