@@ -156,8 +156,8 @@ pub fn wide_integer_returns_in(d: u64, size: u64) -> AskedFormat
 fn scalars(d: u64) -> Scalars
     ensures { λ r. ⌜ r ≡ described d .scalars ⌝ }
 {
-    let read = read(d);
-    let terms = read.terms;
+    let brief = read(d);
+    let terms = brief.terms;
     terms.scalars
 }
 

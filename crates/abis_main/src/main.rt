@@ -172,7 +172,13 @@ fn test_numbers(test: Test) -> [u64; 5] {
     match test {
         Test::Anything => [0, 0, 0, 0, 0],
         Test::Empty => [1, 0, 0, 0, 0],
-        Test::SizeOneOf(_, a, b, c, d) => [2, a, b, c, d],
+        Test::SizeOneOf(k, a, b, c, d) => [
+            2,
+            counted(k, 0, a),
+            counted(k, 1, b),
+            counted(k, 2, c),
+            counted(k, 3, d),
+        ],
         Test::SizeAtMost(limit) => [3, limit, 0, 0, 0],
         Test::Homogeneous(limit) => [4, limit, 0, 0, 0],
         Test::FloatPair => [5, 0, 0, 0, 0],
@@ -182,6 +188,11 @@ fn test_numbers(test: Test) -> [u64; 5] {
         Test::ComplexFloat => [9, 0, 0, 0, 0],
         Test::Eightbytes(limit) => [10, limit, 0, 0, 0],
     }
+}
+
+// A size that its place among the four puts beyond the count isn't one of the list's.
+fn counted(count: u64, place: u64, size: u64) -> u64 {
+    if place < count { size } else { 0 }
 }
 
 fn travel(travel: Travel) -> u64 {

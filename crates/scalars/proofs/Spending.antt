@@ -2,7 +2,7 @@
 -- promises as the code has them. Assumes nothing.
 use Prim.Native.Nat.{ℕ, _-_, _%_, _≤_, _<_, min}
 use mathlib.Core.Path.{_≡_, refl, sym, _∙_}
-use mathlib.Core.Bool.{Bool, true, false, _&&_, _||_, not, cond}
+use mathlib.Core.Bool.{Bool, true, false, _&&_, _||_, not, cond, and-true, and-false}
 use borrow.Author.Tests.{le-leb, lt-leb, eq-eqb, ne-eqb}
 use lib.Dec.{eqb, leb, ltb}
 use Rattle.shape.specs.declared.Scalar.{Scalar}
@@ -62,14 +62,6 @@ module _ (start : ℕ) (S : Scalars) (I want : ℕ) (r : Decision) where
       pair-short h d er = rw (er, opened, lt-leb _ _ h, d)
 
 -- ---- a scalar argument
-
-and-true : (b : Bool) → (b && true) ≡ b
-and-true true = refl
-and-true false = refl
-
-and-false : (b : Bool) → (b && false) ≡ false
-and-false true = refl
-and-false false = refl
 
 pub not-by-reference : (S : Scalars) (size : ℕ) (byref : Bool) → byref ≡ isByReference S size → byref ≡ false → isByReference S size ≡ false
 not-by-reference S size byref eb h = sym eb ∙ h
