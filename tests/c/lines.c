@@ -1,7 +1,7 @@
 /*
  * lines rows | lines lookups | lines sheet <SHEET: prints through the entries of barkpaddle.h what the original prints of its descriptions,
  * of its lookups, and for the operations of a sheet (oracle/README.md, REFERENCE 11). The original's own lines are stored with the programs
- * abis_main, lookup_main and callsheet; tests/c/run compares. A sheet here has to be a good one: what can't be read ends it with status 2.
+ * abis_main, targets_main and callsheet; tests/c/run compares. A sheet here has to be a good one: what can't be read ends it with status 2.
  */
 #include <stdio.h>
 #include <string.h>

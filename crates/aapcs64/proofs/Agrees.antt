@@ -1,5 +1,5 @@
 -- Description 1 is AAPCS64 on the aggregates of the domain: an argument goes to the same registers, to the stack, or by the address of a copy, and
--- leaves the same registers; a result comes back in the same registers or through x8. Assumes nothing.
+-- leaves the same registers; a result comes back in the same registers or through x8.
 use Prim.Native.Nat.{ℕ, zero, suc, _+_, _-_, _/_, _≤_, _<_}
 use mathlib.Core.Path.{_≡_, refl, _∙_}
 use mathlib.Core.List.{List, [], _∷_}
@@ -10,6 +10,7 @@ use native.Mathlib.Decide.{decLe}
 use lib.Dec.{leb}
 use lib.ListN.{length}
 use borrow.Author.Tests.{leb-true, le-leb, lt-leb, lt-ltb, le-ltb}
+use Rattle.shape.proofs.Bools.{both-true}
 use Rattle.shape.specs.declared.Arg.the-variants.{Aggregate}
 use Rattle.shape.specs.declared.Piece.{Piece}
 use Rattle.shape.specs.declared.Shape.{Shape}
@@ -19,14 +20,13 @@ use Rattle.slots.specs.Cut.{upTo, partOf, cut}
 use Rattle.slots.proofs.Cut.{length-cut}
 use Rattle.abis.specs.Abis.{described, descriptions}
 use Rattle.classify.specs.Pass.{reference}
-use Rattle.classify.specs.Classify.{passed, counts, leaves, call, argument, returns}
+use Rattle.classify.specs.Classify.{passed, counts, call, argument, returns}
 use Rattle.aapcs64.specs.Aapcs64.{Composite, addressable, count, doublewords, memberParts, wordParts, x, registers, stack, copy, copyOnStack, state, passing, parameter, stageC, stageA, isHfa, result}
 use Rattle.aapcs64.specs.Told.{composite, mostAlign, mostNatural, stateOf, partsOf, told, toldPassed, toldResult, toldReturned}
 use Rattle.aapcs64.specs.Domain.{Domain, every}
 use Rattle.aapcs64.proofs.Enough.{Enough, enough}
 use Rattle.aapcs64.proofs.Hfa.{Vectors, Others, Agreed, vectors, others, agreement}
 use Rattle.aapcs64.proofs.Row.{spent, argument-found, argument-small, argument-large, returns-found, returns-small, returns-large}
-use Rattle.find.proofs.Each.{and-true}
 
 -- ---- the natural alignment
 
@@ -34,7 +34,7 @@ few-aligns : (ps : List Piece) → every (λ (p : Piece). leb (p .align) 8) ps �
 unfolding every mostAlign
 few-aligns [] e = omega arith
 few-aligns (p ∷ ps) e =
-    let a = and-true (leb (p .align) 8) _ e in
+    let a = both-true (leb (p .align) 8) _ e in
     let h : p .align ≤ 8 = leb-true _ _ (a .0) in
     omega (arith, few-aligns ps (a .1))
 

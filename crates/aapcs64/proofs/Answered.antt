@@ -1,5 +1,5 @@
 -- The same of the answers that the methods promise: where a call on description 1 isn't refused, its way, its slots as they are written and the next
--- call are the standard's. What isn't refused has no more than eight registers left of each bank and isn't integers-only. Assumes nothing.
+-- call are the standard's. What isn't refused has no more than eight registers left of each bank and isn't integers-only.
 use Prim.Native.Nat.{ℕ, _≤_}
 use mathlib.Core.Path.{_≡_, refl, subst}
 use mathlib.Core.List.{List}
@@ -19,7 +19,7 @@ use Rattle.spend.specs.Ways.{no-mark, wayFrom}
 use Rattle.spend.proofs.Ways.{back}
 use Rattle.classify.specs.declared.Call.{Call}
 use Rattle.classify.specs.declared.Answer.{Answer}
-use Rattle.classify.specs.Pass.{wayOf, slotsOf}
+use Rattle.classify.specs.Pass.{wayOf, passSlots}
 use Rattle.classify.specs.Classify.{Passed, argument, returns}
 use Rattle.classify.specs.Answers.{rowRefusal, refusalOf, answerTo, writtenTo, argumentAnswerBy, argumentWrittenBy, returnsAnswerBy, returnsWrittenBy, argumentAnswer, argumentWritten, returnsAnswer, returnsWritten}
 use Rattle.classify.proofs.Accepted.{Sound, sound, call-checked, unmarked, accepted-so}
@@ -53,7 +53,7 @@ pub record Answers (a : Answer) (out buffer : List ℕ) (says : List Slot → Ty
 module _ (c : Call) (abi : c .abi ≡ 1) (shape : Shape) (ws out : List ℕ) where
   -- what is said of the Rust's pass is said of an accepted answer
   answered : (p : Passed) (spent : Spent) (says : Way → List Slot → Left → Type 0)
-      → answerTo (refusalOf c (Aggregate shape) ws) c p spent out .outcome .refusal ≡ accepted → (Good c → says (wayOf (p .pass)) (slotsOf (p .pass)) (p .left))
+      → answerTo (refusalOf c (Aggregate shape) ws) c p spent out .outcome .refusal ≡ accepted → (Good c → says (wayOf (p .pass)) (passSlots (p .pass)) (p .left))
       → Answers (answerTo (refusalOf c (Aggregate shape) ws) c p spent out) out (writtenTo (refusalOf c (Aggregate shape) ws) p out)
       (λ (slots : List Slot). says (wayFrom (answerTo (refusalOf c (Aggregate shape) ws) c p spent out .outcome .way)) slots (answerTo (refusalOf c (Aggregate shape) ws) c p spent out .next .left))
   unfolding refusalOf
@@ -62,7 +62,7 @@ module _ (c : Call) (abi : c .abi ≡ 1) (shape : Shape) (ws out : List ℕ) whe
       let s = sound (rowRefusal (c .abi)) (described (c .abi)) c (call-checked (rowRefusal (c .abi)) (described (c .abi)) c (Aggregate shape) ws (a .checks-pass)) .1 in
       rw (a .answer, a .words-are)
       (record {
-        slots = slotsOf (p .pass);
+        slots = passSlots (p .pass);
         count = refl;
         in-buffer = refl;
         description = abi;

@@ -1,4 +1,4 @@
--- What an answer says in the standard's terms is all that it says: the way, the slots and what is left are read back from it. Assumes nothing.
+-- What an answer says in the standard's terms is all that it says: the way, the slots and what is left are read back from it.
 use Prim.Native.Nat.{ℕ, _+_, _-_, _≤_}
 use mathlib.Core.Path.{_≡_, refl, ap, sym, _∙_}
 use mathlib.Core.List.{List, [], _∷_, map}
@@ -12,7 +12,7 @@ use Rattle.slots.specs.declared.Slot.{Slot}
 use Rattle.slots.specs.Words.{slot, integerSlot, floatSlot}
 use Rattle.spend.specs.declared.Left.{Left}
 use Rattle.spend.specs.Ways.{no-mark}
-use Rattle.classify.specs.Pass.{Pass, ignore, direct, pieces, reference, memory, wayOf, slotsOf}
+use Rattle.classify.specs.Pass.{Pass, ignore, direct, pieces, reference, memory, wayOf, passSlots}
 use Rattle.classify.specs.Classify.{Passed, passed, counts, leaves}
 use Rattle.aapcs64.specs.Aapcs64.{Register, v, x, Part, Place, registers, stack, copy, copyOnStack, State, Passing, passing}
 use Rattle.aapcs64.specs.Told.{stateOf, partsOf, copyOf, placeOf, passingOf, told, toldPassed}
@@ -78,7 +78,7 @@ left-back i f hi hf =
     rw (a, b)
 
 module _ (before : Left) (i f : ℕ) (hi : i ≤ 8) (hf : f ≤ 8) (q : Passing) where
-  back : (pass : Pass) → AllKept (slotsOf pass) → toldPassed before (passed pass (counts i f)) ≡ some q → passedFor q ≡ passed pass (counts i f)
+  back : (pass : Pass) → AllKept (passSlots pass) → toldPassed before (passed pass (counts i f)) ≡ some q → passedFor q ≡ passed pass (counts i f)
   unfolding told
   back ignore h e = absurd (let z : _≡_ {A = ℕ} 0 1 = cc in omega arith)
   back direct h e = absurd (let z : _≡_ {A = ℕ} 0 1 = cc in omega arith)
@@ -107,9 +107,9 @@ module _ (before : Left) (i f : ℕ) (hi : i ≤ 8) (hf : f ≤ 8) (q : Passing)
 
   told-unmarked : (p : Passed) → toldPassed before p ≡ some q → p .left .«integers_only» ≡ no-mark
   unfolding told
-  told-unmarked p e = none-marked (placeOf (wayOf (p .pass)) before (slotsOf (p .pass)) (p .left)) (p .left) e
+  told-unmarked p e = none-marked (placeOf (wayOf (p .pass)) before (passSlots (p .pass)) (p .left)) (p .left) e
 
-pub told-back : (before : Left) (p : Passed) → AllKept (slotsOf (p .pass)) → p .left .integer ≤ 8 → p .left .float ≤ 8 → (q : Passing)
+pub told-back : (before : Left) (p : Passed) → AllKept (passSlots (p .pass)) → p .left .integer ≤ 8 → p .left .float ≤ 8 → (q : Passing)
     → toldPassed before p ≡ some q → passedFor q ≡ p
 told-back before p h hi hf q e =
     let m : p .left ≡ counts (p .left .integer) (p .left .float) = λ j. leaves (p .left .integer) (p .left .float) (told-unmarked before (p .left .integer) (p .left .float) hi hf q p e j) in

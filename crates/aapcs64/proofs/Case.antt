@@ -1,4 +1,4 @@
--- One shape on one call, with both answers, each computed by antt: what Needed.antt and Examples.antt are tables of. Assumes nothing.
+-- One shape on one call, with both answers, each computed by antt: what Needed.antt and Examples.antt are tables of.
 use Prim.Native.Nat.{ℕ, _-_}
 use mathlib.Core.Path.{_≡_}
 use mathlib.Core.List.{List}

@@ -1,5 +1,5 @@
 -- The clauses of the domain that the theorem uses. It holds without the other three (nonzero sizes, no holes, the end at the size): what they leave out,
--- the standard and the description judge alike. Needed.antt shows that it doesn't hold without any of these six. Assumes nothing.
+-- the standard and the description judge alike. Needed.antt shows that it doesn't hold without any of these six.
 use Prim.Native.Nat.{_<_, _≤_}
 use mathlib.Core.Path.{_≡_}
 use mathlib.Core.List.{List}

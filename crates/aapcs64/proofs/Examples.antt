@@ -1,9 +1,9 @@
 -- The domain has shapes for every way that an aggregate can go: each of these is in it, with both answers as an argument and as a result, computed.
--- The last table is of fundamental types, of which the standard's rules are stated and no theorem is: they leave the same registers. Assumes nothing.
+-- The last table is of fundamental types, of which the standard's rules are stated and no theorem is: they leave the same registers.
 use Prim.Native.Nat.{ℕ, _-_}
 use mathlib.Core.Path.{_≡_, refl}
 use mathlib.Core.List.{[], _∷_}
-use mathlib.Core.Bool.{true, false}
+use mathlib.Core.Bool.{true}
 use Rattle.shape.specs.declared.Arg.the-variants as args
 use Rattle.shape.specs.declared.Scalar.{Scalar}
 use Rattle.shape.specs.Numbers.{integer, single, double}
@@ -15,9 +15,9 @@ use Rattle.find.specs.Find.{foundIf, floatsAt, allSame, isHomogeneous, homogene
 use Rattle.abis.specs.Abis.{described, descriptions}
 use Rattle.spend.specs.declared.Left.{Left}
 use Rattle.spend.specs.Spending.{wantOf}
-use Rattle.search.specs.Matches.{matches}
+use Rattle.find.specs.Matches.{matches}
 use Rattle.classify.specs.Pass.{direct, pieces, reference, memory}
-use Rattle.classify.specs.Classify.{Passed, passed, counts, shortOf, inRegisters, travel, apply, afterScalar, argument, returns}
+use Rattle.classify.specs.Classify.{Passed, passed, counts, shortOf, slotsInRegisters, travel, apply, afterScalar, argument, returns}
 use Rattle.classify.specs.Classify as classify
 use Rattle.aapcs64.specs.Aapcs64.{Fundamental, integral, floating, fundamental, v, x, part, registers, stack, copy, copyOnStack, state, Passing, passing, allOf, insert, addressable, count, isHfaOf, isHfa, memberParts, wordParts, stageC, parameter, comes, throughX8, Returning, returning, result}
 use Rattle.aapcs64.specs.Aapcs64 as precision
@@ -98,7 +98,7 @@ pub record Examples : Type 0 where
   pub large-without-x-is : Example large-without-x (passed reference (counts 0 8)) (passing copyOnStack (state 8 0)) (passed reference (counts 0 8)) (returning throughX8 (state 8 0))
 
 pub examples : Examples
-unfolding every any inOrder apart furthest below mostAlign argument returns described descriptions apply matches foundIf travel inRegisters shortOf homogeneous isHomogeneous allSame floatsAt cut upTo floatsIn parameter stageC isHfa isHfaOf allOf count addressable insert memberParts wordParts result told toldResult partsOf
+unfolding every any inOrder apart furthest below mostAlign argument returns described descriptions apply matches foundIf travel slotsInRegisters shortOf homogeneous isHomogeneous allSame floatsAt cut upTo floatsIn parameter stageC isHfa isHfaOf allOf count addressable insert memberParts wordParts result told toldResult partsOf
 examples =
     record {
       one-double-is = record { inside = refl; allowed = refl; row-is = refl; standard-is = refl; same = refl; row-result-is = refl; standard-result-is = refl; same-result = refl };

@@ -1,5 +1,5 @@
 -- The test for homogeneous pieces finds exactly the HFAs: pieces of one floating-point type have one kind, size and alignment, and in offset order
--- and without overlap no two of them share an address. Assumes nothing.
+-- and without overlap no two of them share an address.
 use Prim.Native.Nat.{ℕ, _+_, _*_, _≤_, _<_}
 use mathlib.Core.Path.{_≡_, refl, sym, ap, _∙_}
 use mathlib.Core.List.{List, [], _∷_, map}
@@ -9,6 +9,7 @@ use native.Mathlib.Nat.{mul-comm}
 use lib.Dec.{leb, eqb}
 use lib.ListN.{length, length-map}
 use borrow.Author.Tests.{eqb-true, eqb-false, eq-eqb, ne-eqb, leb-true, le-leb, lt-ltb}
+use Rattle.shape.proofs.Bools.{both-true}
 use Rattle.shape.specs.declared.Piece.{Piece}
 use Rattle.shape.specs.declared.Shape.{Shape}
 use Rattle.shape.specs.Words.{piece}
@@ -16,7 +17,7 @@ use Rattle.shape.specs.Questions.{isFloat}
 use Rattle.slots.specs.declared.Slot.{Slot}
 use Rattle.slots.specs.Search.{found, nothing, floatsIn}
 use Rattle.find.specs.Find.{foundIf, floatsAt, allSame, isHomogeneous, homogeneous}
-use Rattle.find.proofs.Each.{and-true, length-at, floats-at}
+use Rattle.find.proofs.Each.{length-at, floats-at}
 use Rattle.aapcs64.specs.Aapcs64.{Precision, single, double, bytesOf, Fundamental, integral, floating, sizeOf, Composite, isOf, allOf, insert, addressable, count, isHfaOf, isHfa, memberParts}
 use Rattle.aapcs64.specs.Told.{typeOf, memberOf, composite, formatBytes, partsOf}
 use Rattle.aapcs64.specs.Domain.{every, isUsual, end, inOrder, apart}
@@ -31,8 +32,8 @@ data Usual : ℕ → ℕ → ℕ → Type 0 where
 
 scalar : (k s a kind size : ℕ) → Usual kind size size → eqb k kind && eqb s size && eqb a size ≡ true → Usual k s a
 scalar k s a kind size u e =
-    let x = and-true (eqb k kind && eqb s size) (eqb a size) e in
-    let y = and-true (eqb k kind) (eqb s size) (x .0) in
+    let x = both-true (eqb k kind && eqb s size) (eqb a size) e in
+    let y = both-true (eqb k kind) (eqb s size) (x .0) in
     rw (eqb-true k kind (y .0), eqb-true s size (y .1), eqb-true a size (x .1)) u
 
 usual : (p : Piece) → isUsual p ≡ true → Usual (p .kind) (p .size) (p .align)
@@ -94,7 +95,7 @@ module _ (kind : ℕ) (p : Precision) (st : Stands kind p) where
   unfolding allSame allOf every
   same-type o [] u = refl
   same-type o (q ∷ ps) u =
-      let x = and-true (isUsual q) (every isUsual ps) u in
+      let x = both-true (isUsual q) (every isUsual ps) u in
       rw (st .told (q .kind) (q .size) (q .align) (usual q (x .0)), same-type o ps (x .1))
 
   -- of two that follow one another, the second starts behind the first
@@ -119,14 +120,14 @@ module _ (kind : ℕ) (p : Precision) (st : Stands kind p) where
   by-address [] u i a t = refl
   by-address (q ∷ []) u i a t = refl
   by-address (q ∷ r ∷ ps) u i a t =
-      let uq = and-true (isUsual q) (every isUsual (r ∷ ps)) u in
-      let ur = and-true (isUsual r) (every isUsual ps) (uq .1) in
-      let iq = and-true _ (inOrder (r ∷ ps)) i in
-      let ir = and-true (leb (q .offset) (r .offset)) _ (iq .0) in
-      let aq = and-true _ (apart (r ∷ ps)) a in
-      let ar = and-true (leb (end q) (r .offset) || leb (end r) (q .offset)) _ (aq .0) in
-      let tq = and-true (isOf p (typeOf (q .kind) (q .size))) (allOf p (map memberOf (r ∷ ps))) t in
-      let tr = and-true (isOf p (typeOf (r .kind) (r .size))) (allOf p (map memberOf ps)) (tq .1) in
+      let uq = both-true (isUsual q) (every isUsual (r ∷ ps)) u in
+      let ur = both-true (isUsual r) (every isUsual ps) (uq .1) in
+      let iq = both-true _ (inOrder (r ∷ ps)) i in
+      let ir = both-true (leb (q .offset) (r .offset)) _ (iq .0) in
+      let aq = both-true _ (apart (r ∷ ps)) a in
+      let ar = both-true (leb (end q) (r .offset) || leb (end r) (q .offset)) _ (aq .0) in
+      let tq = both-true (isOf p (typeOf (q .kind) (q .size))) (allOf p (map memberOf (r ∷ ps))) t in
+      let tr = both-true (isOf p (typeOf (r .kind) (r .size))) (allOf p (map memberOf ps)) (tq .1) in
       let h : q .offset < r .offset = behind q r (usual q (uq .0)) (usual r (ur .0)) (tq .0) (tr .0) (leb-true _ _ (ir .0)) (ar .0) in
       rw (by-address (r ∷ ps) (uq .1) (iq .1) (aq .1) (tq .1), lt-ltb (q .offset) (r .offset) h)
 
@@ -135,7 +136,7 @@ module _ (kind : ℕ) (p : Precision) (st : Stands kind p) where
   unfolding partsOf floatsAt memberParts allOf
   in-v n s [] e = refl
   in-v n s (q ∷ ps) e =
-      let a = and-true (isOf p (typeOf (q .kind) (q .size))) (allOf p (map memberOf ps)) e in
+      let a = both-true (isOf p (typeOf (q .kind) (q .size))) (allOf p (map memberOf ps)) e in
       rw (st .float, st .format, size-of p (typeOf (q .kind) (q .size)) (a .0), in-v n (s + 1) ps (a .1))
 
 -- ---- the two tests
@@ -204,9 +205,9 @@ module _ (natural : ℕ) (shape : Shape) where
         where
           go : (b : Bool) → isHomogeneous 4 shape (first kind p st o) whole ≡ b → Agreed natural shape whole
           go true t =
-              let x = and-true (allOf p (c .members) && (leb 1 (count c) && leb (count c) 4)) (eqb (c .size) (count c * bytesOf p)) (sym tests ∙ t) in
-              let y = and-true (allOf p (c .members)) (leb 1 (count c) && leb (count c) 4) (x .0) in
-              let z = and-true (leb 1 (count c)) (leb (count c) 4) (y .1) in
+              let x = both-true (allOf p (c .members) && (leb 1 (count c) && leb (count c) 4)) (eqb (c .size) (count c * bytesOf p)) (sym tests ∙ t) in
+              let y = both-true (allOf p (c .members)) (leb 1 (count c) && leb (count c) 4) (x .0) in
+              let z = both-true (leb 1 (count c)) (leb (count c) 4) (y .1) in
               vectors (record {
                 slots = floatsAt kind whole;
                 finds = rw t;
@@ -228,4 +229,4 @@ module _ (natural : ℕ) (shape : Shape) where
   pub agreement : (ps : List Piece) → Enough shape ps → Agreed natural shape ps
   unfolding homogeneous isHfa isHfaOf allOf count addressable every
   agreement [] d = others (record { finds = refl; test = refl })
-  agreement (p ∷ ps) d = started (p .kind) (p .size) (p .align) (p .offset) ps (usual p (and-true (isUsual p) (every isUsual ps) (d .usual) .0)) d
+  agreement (p ∷ ps) d = started (p .kind) (p .size) (p .align) (p .offset) ps (usual p (both-true (isUsual p) (every isUsual ps) (d .usual) .0)) d

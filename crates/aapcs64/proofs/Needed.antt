@@ -1,6 +1,6 @@
 -- Which clauses of the domain are needed: for each of six a shape that breaks it alone, with both answers, computed, which differ. Nonzero sizes, no
 -- holes and the end at the size are not needed: `argument-agrees` and `returns-agrees` do without them, since a member that isn't of the one
--- floating-point type and a size that isn't that many times the type's make no HFA on either side. Assumes nothing.
+-- floating-point type and a size that isn't that many times the type's make no HFA on either side.
 use Prim.Native.Nat.{ℕ, zero, suc, _+_, _*_, _-_}
 use mathlib.Core.Path.{_≡_, refl, ap}
 use mathlib.Core.List.{List, [], _∷_}
@@ -9,6 +9,7 @@ use mathlib.Core.Option.{Option}
 use mathlib.Core.Option.Option.{none, some}
 use lib.Dec.{leb, ltb, eqb}
 use borrow.Author.Tests.{ltb-true, leb-true, eqb-true, eqb-false}
+use Rattle.shape.proofs.Bools.{both-true}
 use Rattle.shape.specs.declared.Piece.{Piece}
 use Rattle.shape.specs.declared.Shape.{Shape}
 use Rattle.shape.specs.Numbers.{integer, single, x87-extended, quad}
@@ -17,11 +18,10 @@ use Rattle.slots.specs.Words.{integerSlot, floatSlot}
 use Rattle.slots.specs.Search.{floatsIn}
 use Rattle.slots.specs.Cut.{upTo, cut}
 use Rattle.find.specs.Find.{foundIf, floatsAt, allSame, isHomogeneous, homogeneous}
-use Rattle.find.proofs.Each.{and-true}
 use Rattle.abis.specs.Abis.{described, descriptions}
-use Rattle.search.specs.Matches.{matches}
+use Rattle.find.specs.Matches.{matches}
 use Rattle.classify.specs.Pass.{ignore, pieces}
-use Rattle.classify.specs.Classify.{Passed, passed, counts, leaves, shortOf, inRegisters, travel, apply, argument}
+use Rattle.classify.specs.Classify.{Passed, passed, counts, shortOf, slotsInRegisters, travel, apply, argument}
 use Rattle.aapcs64.specs.Aapcs64.{Register, v, x, part, Place, registers, stack, copy, copyOnStack, state, Passing, passing, allOf, insert, addressable, count, isHfaOf, isHfa, memberParts, wordParts, stageC, parameter}
 use Rattle.aapcs64.specs.Told.{mostAlign, partsOf, told, toldPassed}
 use Rattle.aapcs64.specs.Domain.{every, any, isUsual, inOrder, apart, furthest, below, covered, Domain}
@@ -55,15 +55,15 @@ allBut (suc k) (b ∷ bs) = b && allBut k bs
 -- the tests are the domain
 pub tests-are-domain : (shape : Shape) (ps : List Piece) → all (tests shape ps) ≡ true → Domain shape ps
 tests-are-domain shape ps e =
-    let a = and-true (ltb 0 (shape .size)) _ e in
-    let b = and-true (leb (shape .align) 8) _ (a .1) in
-    let c = and-true (every (λ (p : Piece). leb (p .align) 8) ps) _ (b .1) in
-    let d = and-true (every isUsual ps) _ (c .1) in
-    let f = and-true (every (λ (p : Piece). ltb 0 (p .size)) ps) _ (d .1) in
-    let g = and-true (inOrder ps) _ (f .1) in
-    let h = and-true (apart ps) _ (g .1) in
-    let i = and-true (covered ps) _ (h .1) in
-    let j = and-true (eqb (furthest ps) (shape .size)) _ (i .1) in
+    let a = both-true (ltb 0 (shape .size)) _ e in
+    let b = both-true (leb (shape .align) 8) _ (a .1) in
+    let c = both-true (every (λ (p : Piece). leb (p .align) 8) ps) _ (b .1) in
+    let d = both-true (every isUsual ps) _ (c .1) in
+    let f = both-true (every (λ (p : Piece). ltb 0 (p .size)) ps) _ (d .1) in
+    let g = both-true (inOrder ps) _ (f .1) in
+    let h = both-true (apart ps) _ (g .1) in
+    let i = both-true (covered ps) _ (h .1) in
+    let j = both-true (eqb (furthest ps) (shape .size)) _ (i .1) in
     record {
       some = ltb-true _ _ (a .0);
       shape-align = leb-true _ _ (b .0);
@@ -150,7 +150,7 @@ pub record Needed : Type 0 where
   pub no-overlap : Differs 6 union (passed (pieces (integerSlot 0 4 ∷ [])) (counts 7 8)) (passing (registers (part (v 0) 0 4 ∷ [])) (state 0 1))
 
 pub needed : Needed
-unfolding every any inOrder apart furthest below mostAlign argument described descriptions apply matches foundIf travel inRegisters shortOf homogeneous isHomogeneous allSame floatsAt cut upTo floatsIn parameter stageC isHfa isHfaOf allOf count addressable insert memberParts wordParts told partsOf
+unfolding every any inOrder apart furthest below mostAlign argument described descriptions apply matches foundIf travel slotsInRegisters shortOf homogeneous isHomogeneous allSame floatsAt cut upTo floatsIn parameter stageC isHfa isHfaOf allOf count addressable insert memberParts wordParts told partsOf
 needed =
     record {
       some = record { only = refl; allowed = refl; row-is = refl; standard-is = refl; differ = refl };
@@ -195,7 +195,7 @@ pub record Unneeded : Type 0 where
   pub format : Alike 3 quads (passed (pieces (floatSlot quad 0 ∷ [])) (counts 8 7)) (passing (registers (part (v 0) 0 16 ∷ [])) (state 0 1))
 
 pub unneeded : Unneeded
-unfolding every any inOrder apart furthest below mostAlign argument described descriptions apply matches foundIf travel inRegisters shortOf homogeneous isHomogeneous allSame floatsAt cut upTo floatsIn parameter stageC isHfa isHfaOf allOf count addressable insert memberParts wordParts told partsOf
+unfolding every any inOrder apart furthest below mostAlign argument described descriptions apply matches foundIf travel slotsInRegisters shortOf homogeneous isHomogeneous allSame floatsAt cut upTo floatsIn parameter stageC isHfa isHfaOf allOf count addressable insert memberParts wordParts told partsOf
 unneeded =
     record {
       sizes = record { only = refl; allowed = refl; row-is = refl; standard-is = refl; same = refl };

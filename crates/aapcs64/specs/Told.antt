@@ -17,7 +17,7 @@ use Rattle.spend.specs.declared.Left.{Left}
 use Rattle.spend.specs.declared.Way.{Way}
 use Rattle.spend.specs.Ways.{marked}
 use Rattle.spend.specs.declared.Way.the-variants.{Ignore, Direct, Pieces, Reference, Memory}
-use Rattle.classify.specs.Pass.{wayOf, slotsOf}
+use Rattle.classify.specs.Pass.{wayOf, passSlots}
 use Rattle.classify.specs.Classify.{Passed}
 use Rattle.aapcs64.specs.Aapcs64.{Fundamental, integral, floating, single, double, quad, Member, Composite, v, x, Part, part, Place, registers, stack, copy, copyOnStack, State, state, Passing, passing, Result, comes, throughX8, Returning, returning}
 
@@ -84,7 +84,7 @@ unfoldable pub told : Left → Way → List Slot → Left → Option Passing
 told before way slots after = passingOf (placeOf way before slots after) after
 
 abbrev pub toldPassed : Left → Passed → Option Passing
-toldPassed before p = told before (wayOf (p .pass)) (slotsOf (p .pass)) (p .left)
+toldPassed before p = told before (wayOf (p .pass)) (passSlots (p .pass)) (p .left)
 
 -- a result comes back in the first registers of each bank, or at an address that goes where the description says
 abbrev pub addressedBy : ReturnPointer → Option Result
@@ -108,4 +108,4 @@ unfoldable pub toldResult : ReturnPointer → Way → List Slot → Left → Opt
 toldResult pointer way slots after = returningOf (resultBy way pointer slots) after
 
 abbrev pub toldReturned : ReturnPointer → Passed → Option Returning
-toldReturned pointer p = toldResult pointer (wayOf (p .pass)) (slotsOf (p .pass)) (p .left)
+toldReturned pointer p = toldResult pointer (wayOf (p .pass)) (passSlots (p .pass)) (p .left)

@@ -7,11 +7,11 @@ use native.Mathlib.Omega.{arith}
 use borrow.Author.Tests.{eq-eqb}
 use lib.Dec.{T, eqb, eqb→eq}
 use lib.ListN.{getD}
+use Rattle.shape.proofs.Bools.{and-left, and-right}
 use Rattle.describe.specs.declared.Variadic.the-variants.{AlwaysMemory, IntegersOnly, UnnamedIntegers}
 use Rattle.describe.specs.declared.StackArgs.the-variants.{Packed}
 use Rattle.describe.specs.Description.{Description}
-use Rattle.describe.specs.Codes.{variadicCode, stackArgsCode}
-use Rattle.describe.proofs.Numbers.{and-left, and-right}
+use Rattle.rows.specs.Codes.{variadicCode, stackArgsCode}
 use Rattle.abis.specs.Abis.{described, descriptions, blank}
 
 -- Of the rows from i on, none but row k has the number n.

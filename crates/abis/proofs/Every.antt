@@ -5,7 +5,7 @@ use Prim.Native.Nat.{ℕ, zero, suc, _<_}
 use native.Mathlib.Nat.{le-of-suc-le-suc, not-suc-le-zero}
 use lib.Dec.{T}
 use lib.ListN.{length, getD}
-use Rattle.describe.proofs.Numbers.{and-left, and-right}
+use Rattle.shape.proofs.Bools.{and-left, and-right}
 
 abbrev pub every : {A : Type 0} → (A → Bool) → List A → Bool
 every f [] = true

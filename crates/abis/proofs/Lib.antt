@@ -3,4 +3,5 @@ pub mod Rows
 pub mod Lists
 pub mod Apart
 mod Questions
+mod Names
 mod Unique

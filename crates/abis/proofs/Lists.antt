@@ -3,9 +3,9 @@ use mathlib.Core.Bool.{_&&_}
 use Prim.Native.Nat.{ℕ, _<_, _≤_}
 use lib.Dec.{T, leb, leb→le}
 use lib.ListN.{length}
+use Rattle.shape.proofs.Bools.{and-left, and-right}
 use Rattle.describe.specs.Description.{Description, Ends}
 use Rattle.describe.proofs.Ends.{isEnding, ends}
-use Rattle.describe.proofs.Numbers.{and-left, and-right}
 use Rattle.abis.specs.Abis.{described, descriptions, blank, description-count}
 use Rattle.abis.proofs.Every.{within, anywhere}
 

@@ -7,11 +7,11 @@ use native.Mathlib.Nat.{le-of-suc-le-suc, not-suc-le-zero}
 use mathlib.Core.Bool.{_&&_}
 use lib.Dec.{T, leb}
 use lib.ListN.{length, getD, List·getD-map, List·getD-eq-default}
+use Rattle.shape.proofs.Bools.{and-left, and-right}
 use Rattle.describe.specs.Description.{Description, past, termsOf, othersOf}
-use Rattle.describe.specs.Row.{encode, decode, held, heldBanks, heldFormats, heldRules, heldTests, packed, listed, returnRule, argumentRule, termsFrom, othersFrom}
-use Rattle.describe.proofs.Inverse.{return-rule-back, argument-rule-back, terms-back, others-back, decode-back}
-use Rattle.rules.proofs.Packed.{listed-packed, returns-packed, arguments-packed}
-use Rattle.describe.proofs.Numbers.{and-left, and-right}
+use Rattle.rows.specs.Row.{encode, decode, held, heldBanks, heldFormats, heldRules, heldTests, packed, listed, returnRule, argumentRule, termsFrom, othersFrom}
+use Rattle.rows.proofs.Inverse.{return-rule-back, argument-rule-back, terms-back, others-back, decode-back}
+use Rattle.rows.proofs.Packed.{listed-packed, returns-packed, arguments-packed}
 use Rattle.abis.specs.declared.Brief.{Brief}
 use Rattle.abis.specs.Abis.{described, descriptions, blank, description-count}
 use Rattle.abis.specs.Brief.{briefOf, briefFrom}

@@ -2,7 +2,7 @@
 use Prim.Native.Nat.{ℕ}
 use mathlib.Core.List.{List}
 use Rattle.describe.specs.Description.{Description, termsOf}
-use Rattle.describe.specs.Row.{termsFrom, packed, listOf}
+use Rattle.rows.specs.Row.{termsFrom, packed, listOf}
 use Rattle.abis.specs.declared.Brief.{Brief}
 
 abbrev pub briefOf : Description → Brief

@@ -1,18 +1,20 @@
-// The thirty descriptions, read by number (REFERENCE 5.5), and the questions of REFERENCE 5.7 asked of a number. The table is the one place
-// that has their order.
+// The thirty descriptions, read by number (REFERENCE 5.5): what classification reads of one, its row and its name; and the questions of
+// REFERENCE 5.7 asked of a number. The table is the one place that has their order.
 ghost use mathlib.Core.Path.{_≡_};
-ghost use Rattle.describe.specs.Row.{encode};
+ghost use Rattle.rows.specs.Row.{encode};
 ghost use Rattle.abis.specs.Abis.{described};
 ghost use Rattle.abis.specs.Brief.{briefOf, briefFrom};
-ghost use Rattle.abis.specs.Answers.{isByReferenceAnswer, returnsByReferenceAnswer, wideReturnsInAnswer, questionRefusal};
+ghost use lib.ListN.{length};
+ghost use Rattle.abis.specs.Answers.{nameAnswer, nameWritten, isByReferenceAnswer, returnsByReferenceAnswer, wideReturnsInAnswer, questionRefusal};
 
 mod table;
 
-use describe::Rules;
 use describe::Scalars;
 use describe::Terms;
-use describe::WIDTH;
+use rows::Rules;
+use rows::WIDTH;
 use table::*;
+use text::Written;
 
 pub const DESCRIPTIONS: u64 = 30;
 
@@ -80,9 +82,9 @@ fn read_of(row: [u8; WIDTH]) -> Brief
     ensures { λ r. ⌜ r ≡ briefFrom row ⌝ }
 {
     Brief {
-        terms: describe::terms_of(row),
-        returns: rules::return_rules(row),
-        arguments: rules::argument_rules(row),
+        terms: rows::terms_of(row),
+        returns: rows::return_rules(row),
+        arguments: rows::argument_rules(row),
     }
 }
 
@@ -97,6 +99,22 @@ pub fn row(d: u64) -> [u8; WIDTH]
     } else {
         [0; WIDTH]
     }
+}
+
+// Its name, into a lent buffer: the bytes go to the front of `out`. A refusal writes nothing.
+pub fn name(d: u64, out: &mut [u8]) -> Written
+    ensures { λ r. ⌜ (r ≡ nameAnswer d (length (now (out .entry)))) × (now (out .exit) ≡ nameWritten d (now (out .entry))) ⌝ }
+{
+    if DESCRIPTIONS <= d {
+        return Written {
+            refusal: shape::BAD_ABI,
+            length: 0,
+        };
+    }
+    let i = d as usize;
+    let name = NAMES[i];
+    let length = LENGTHS[i];
+    text::put(&name[..length], out)
 }
 
 // Whether a scalar of this size travels as the address of a copy.

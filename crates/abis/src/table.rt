@@ -2,8 +2,8 @@
 // width; flags; formats; return pointer and variadic; stack arguments, narrow and bit-precise integers, cleanup; then four rules
 // for returns and four for arguments, each its test, the test's number, and the way of travel with what happens when short.
 use crate::DESCRIPTIONS;
-use describe::WIDTH;
-use describe::codes::*;
+use rows::WIDTH;
+use rows::codes::*;
 
 pub const TABLE: [[u8; WIDTH]; DESCRIPTIONS as usize] = [
     SYSV_AMD64,
@@ -502,4 +502,57 @@ pub const I386_MSVC_FASTCALL: [u8; WIDTH] = [
     FLOATING_MODE, 0, IN_MEMORY + UNCHANGED,
     ANYTHING, 0, IN_MEMORY_AND_SPEND + UNCHANGED,
     NO_RULE, 0, 0,
+];
+
+// The names, in the same order: each with blanks behind it up to the length of the longest, and its own length.
+pub const LONGEST_NAME: usize = 48;
+pub const NAMES: [[u8; LONGEST_NAME]; DESCRIPTIONS as usize] = [
+    *b"SysV AMD64                                      ",
+    *b"AAPCS64                                         ",
+    *b"Darwin arm64                                    ",
+    *b"Windows arm64                                   ",
+    *b"Windows x64                                     ",
+    *b"RISC-V LP64D                                    ",
+    *b"i386 SysV                                       ",
+    *b"i386 SysV regparm(1)                            ",
+    *b"i386 SysV regparm(2)                            ",
+    *b"i386 SysV regparm(3)                            ",
+    *b"i386 SysV -freg-struct-return                   ",
+    *b"i386 SysV regparm(1) -freg-struct-return        ",
+    *b"i386 SysV regparm(2) -freg-struct-return        ",
+    *b"i386 SysV regparm(3) -freg-struct-return        ",
+    *b"i386 SysV stdcall                               ",
+    *b"i386 SysV stdcall regparm(1)                    ",
+    *b"i386 SysV stdcall regparm(2)                    ",
+    *b"i386 SysV stdcall regparm(3)                    ",
+    *b"i386 SysV stdcall -freg-struct-return           ",
+    *b"i386 SysV stdcall regparm(1) -freg-struct-return",
+    *b"i386 SysV stdcall regparm(2) -freg-struct-return",
+    *b"i386 SysV stdcall regparm(3) -freg-struct-return",
+    *b"i386 SysV fastcall                              ",
+    *b"i386 SysV fastcall -freg-struct-return          ",
+    *b"i386 Windows (mingw)                            ",
+    *b"i386 Windows (MSVC)                             ",
+    *b"i386 Windows stdcall (mingw)                    ",
+    *b"i386 Windows fastcall (mingw)                   ",
+    *b"i386 Windows stdcall (MSVC)                     ",
+    *b"i386 Windows fastcall (MSVC)                    ",
+];
+pub const LENGTHS: [usize; DESCRIPTIONS as usize] = [
+    10,
+    7, 12, 13,
+    11,
+    12,
+    9,
+    20, 20, 20,
+    29,
+    40, 40, 40,
+    17,
+    28, 28, 28,
+    37,
+    48, 48, 48,
+    18, 38,
+    20, 19,
+    28, 29,
+    27, 28,
 ];

@@ -34,7 +34,7 @@ fn description(d: u64) {
 
 fn name(out: &mut [u8], d: u64) -> usize {
     let mut space = [0u8; 64];
-    let written = names::name(d, &mut space);
+    let written = abis::name(d, &mut space);
     let a = begin(out, 0, d, b" name ");
     if written.length > 64 {
         return a;
@@ -84,7 +84,7 @@ fn others(out: &mut [u8], at: usize, d: u64) -> usize {
     let pointer = terms.return_pointer;
     let dots = terms.variadic;
     let stack = terms.stack_args;
-    let others = describe::others_of(abis::row(d));
+    let others = rows::others_of(abis::row(d));
     let narrowed = others.narrow;
     let bits = others.bit_ints;
     let cleaner = others.cleanup;
@@ -104,11 +104,11 @@ fn others(out: &mut [u8], at: usize, d: u64) -> usize {
 fn rules(out: &mut [u8], from: usize, d: u64, returning: bool) -> usize {
     let row = abis::row(d);
     let mut at = from;
-    for i in 0..describe::RULES {
+    for i in 0..rows::RULES {
         let numbers = if returning {
-            rule_numbers(rules::return_rule(row, i), i)
+            rule_numbers(rows::return_rule(row, i), i)
         } else {
-            rule_numbers(rules::argument_rule(row, i), i)
+            rule_numbers(rows::argument_rule(row, i), i)
         };
         at = rule_line(out, at, d, returning, numbers);
         if decides(numbers) {

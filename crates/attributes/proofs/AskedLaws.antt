@@ -1,11 +1,11 @@
--- The walk through the names that `asked` knows, each law with the tests and the calls' answers as its premises. Assumes nothing.
+-- The walk through the names that `asked` knows, each law with the tests and the calls' answers as its premises.
 use Prim.Native.Nat.{ℕ}
 use mathlib.Core.Path.{_≡_}
 use mathlib.Core.List.{List}
 use mathlib.Core.Bool.{Bool, true, false, _&&_}
-use Rattle.codes.specs.Codes.{conventionCode, isWindows, isElf, noneNumber, codeOf}
+use Rattle.targets.specs.Codes.{conventionCode, isWindows, isElf, noneNumber, codeOf}
 use Rattle.attributes.specs.Attributes.{is, askedOnX86, askedOnX86-64}
-use Rattle.codes.specs.declared.System.{System}
+use Rattle.targets.specs.declared.codes.System.{System}
 
 module _ (system : System) (name : List ℕ) {elf a : Bool} (e : elf ≡ isElf system) (ea : a ≡ is name "no_callee_saved_registers") where
   pub asks-no-callee-saved : (a && elf) ≡ true → 5 ≡ codeOf (askedOnX86-64 system name)

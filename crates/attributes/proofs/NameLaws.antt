@@ -1,4 +1,4 @@
--- Names as bytes: comparing them byte by byte. Assumes nothing.
+-- Names as bytes: comparing them byte by byte.
 use Prim.Native.Nat.{ℕ, suc, _+_, _≤_, _<_}
 use mathlib.Core.Path.{_≡_, refl, ap, sym, _∙_}
 use mathlib.Core.List.{List, [], _∷_}

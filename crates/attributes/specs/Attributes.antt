@@ -1,4 +1,4 @@
--- Which convention an attribute's name asks for, and whose callee pops (REFERENCE 6.4).
+-- Which convention an attribute's name asks for (REFERENCE 6.4).
 use Prim.Native.Nat.{ℕ}
 use Prim.Native.String.{String}
 use mathlib.Core.List.{List, [], _∷_}
@@ -6,12 +6,12 @@ use mathlib.Core.Bool.{Bool, true, false, cond, _&&_}
 use mathlib.Core.Option.{Option, none, some}
 use lib.Dec.{eqb}
 use Rattle.text.specs.Text.{bytes}
-use Rattle.codes.specs.Codes.{isWindows, isElf}
-use Rattle.codes.specs.declared.Architecture.{Architecture}
-use Rattle.codes.specs.declared.Architecture.the-variants.{X86, «X86_64», Aarch64, Riscv64, Other}
-use Rattle.codes.specs.declared.System.{System}
-use Rattle.codes.specs.declared.Convention.{Convention}
-use Rattle.codes.specs.declared.Convention.the-variants.{Target, Ms, Sysv, Stdcall, Fastcall, Regparm, NoCalleeSaved, PreserveNone}
+use Rattle.targets.specs.Codes.{isWindows, isElf}
+use Rattle.targets.specs.declared.codes.Architecture.{Architecture}
+use Rattle.targets.specs.declared.codes.Architecture.the-variants.{X86, «X86_64», Aarch64, Riscv64, Other}
+use Rattle.targets.specs.declared.codes.System.{System}
+use Rattle.targets.specs.declared.codes.Convention.{Convention}
+use Rattle.targets.specs.declared.codes.Convention.the-variants.{Target, Ms, Sysv, Stdcall, Fastcall, NoCalleeSaved, PreserveNone}
 
 -- whether two lists of bytes are the same, length and every byte
 unfoldable pub sameBytes : List ℕ → List ℕ → Bool
@@ -43,13 +43,3 @@ asked X86 system name = askedOnX86 name
 asked Aarch64 system name = none
 asked Riscv64 system name = none
 asked Other system name = none
-
-abbrev pub calleePops : Convention → Bool
-calleePops Target = false
-calleePops Ms = false
-calleePops Sysv = false
-calleePops Stdcall = true
-calleePops Fastcall = true
-calleePops (Regparm n) = false
-calleePops NoCalleeSaved = false
-calleePops PreserveNone = false

@@ -1,1 +1,3 @@
 pub mod Attributes
+pub mod Spellings
+pub mod Answers

@@ -1,80 +1,40 @@
-// Attributes by name: which convention one asks for (REFERENCE 6.4). The crate spellings has the name that asks for a convention.
+// Attributes (REFERENCE 6.4): which convention a name asks for, and the name that asks for a convention. Architectures, systems and conventions
+// come as codes; a code that isn't known answers none, also where the lookup would not read it.
+mod asking;
+mod spellings;
+
+pub use asking::by_name;
+pub use spellings::write_attribute;
+use targets::NONE;
+use targets::architecture_of;
+use targets::convention_of;
+use targets::is_convention;
+use targets::is_target;
+use targets::system_of;
+use text::Written;
 ghost use mathlib.Core.Path.{_≡_};
-ghost use Rattle.codes.specs.Codes.{codeOf};
-ghost use Rattle.attributes.specs.Attributes.{askedOnX86, askedOnX86-64, sameBytes, asked as askedOf};
-use codes::Architecture;
-use codes::FASTCALL;
-use codes::MS;
-use codes::NO_CALLEE_SAVED;
-use codes::NONE;
-use codes::PRESERVE_NONE;
-use codes::STDCALL;
-use codes::SYSV;
-use codes::System;
-use codes::TARGET;
-use codes::is_elf;
-use codes::is_windows;
+ghost use lib.ListN.{length};
+ghost use Rattle.attributes.specs.Answers.{askedAnswer, attributeAnswer, attributeWritten};
 
-// The code of the convention that a name asks for.
-pub fn asked(architecture: Architecture, system: System, name: &[u8]) -> u64
-    ensures { λ r. ⌜ r ≡ codeOf (askedOf architecture system (now (name .entry))) ⌝ }
+// The code of the convention that an attribute's name asks for on a target. MSVC changes nothing here; a target is passed whole all the same.
+pub fn asked(architecture: u64, system: u64, msvc: bool, name: &[u8]) -> u64
+    ensures { λ r. ⌜ r ≡ askedAnswer architecture system msvc (now (name .entry)) ⌝ }
 {
-    match architecture {
-        Architecture::X86_64 => asked_on_x86_64(system, name),
-        Architecture::X86 => asked_on_x86(name),
-        Architecture::Aarch64 => NONE,
-        Architecture::Riscv64 => NONE,
-        Architecture::Other => NONE,
+    if !is_target(architecture, system) {
+        return NONE;
     }
+    by_name(architecture_of(architecture), system_of(system), name)
 }
 
-// A convention that the target follows already is the target's own.
-fn asked_on_x86_64(system: System, name: &[u8]) -> u64
-    ensures { λ r. ⌜ r ≡ codeOf (askedOnX86-64 system (now (name .entry))) ⌝ }
+// The name of the attribute that asks for a convention, written to the front of `out`.
+pub fn attribute(convention: u64, out: &mut [u8]) -> Written
+    ensures { λ r. ⌜ (r ≡ attributeAnswer convention (length (now (out .entry)))) × (now (out .exit) ≡ attributeWritten convention (now (out .entry))) ⌝ }
 {
-    let elf = is_elf(system);
-    if same(name, b"no_callee_saved_registers") & elf {
-        return NO_CALLEE_SAVED;
+    if !is_convention(convention) {
+        return Written {
+            refusal: shape::ACCEPTED,
+            length: NONE,
+        };
     }
-    if same(name, b"preserve_none") & elf {
-        return PRESERVE_NONE;
-    }
-    if same(name, b"ms_abi") {
-        return if is_windows(system) { TARGET } else { MS };
-    }
-    if same(name, b"sysv_abi") {
-        return if is_windows(system) { SYSV } else { TARGET };
-    }
-    NONE
-}
-
-fn asked_on_x86(name: &[u8]) -> u64
-    ensures { λ r. ⌜ r ≡ codeOf (askedOnX86 (now (name .entry))) ⌝ }
-{
-    if same(name, b"stdcall") {
-        return STDCALL;
-    }
-    if same(name, b"fastcall") {
-        return FASTCALL;
-    }
-    if same(name, b"cdecl") {
-        return TARGET;
-    }
-    NONE
-}
-
-fn same(name: &[u8], text: &[u8]) -> bool
-    ensures { λ r. ⌜ r ≡ sameBytes (now (name .entry)) (now (text .entry)) ⌝ }
-{
-    if name.len() != text.len() {
-        return false;
-    }
-    let mut i = 0;
-    while i < name.len() {
-        if name[i] != text[i] {
-            return false;
-        }
-        i += 1;
-    }
-    true
+    write_attribute(convention_of(convention), out)
 }

@@ -1,7 +1,7 @@
 -- The walk of the forms over a lent call that ask about nothing else, by hand as in Asking.antt:
 --     fn f(call: &mut Call) -> Outcome
 --     { let answer = f_of(*call); *call = answer.next; answer.outcome }
--- whatever the value form `f_of` is and whatever definition the contracts of both name. Assumes nothing.
+-- whatever the value form `f_of` is and whatever definition the contracts of both name.
 use mathlib.Core.Path.{_≡_, refl, ap}
 use Prim.Native.Nat.{ℕ}
 use mathlib.Core.List.{[], _∷_, List}

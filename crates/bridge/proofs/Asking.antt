@@ -4,7 +4,6 @@
 --     { let answer = f_of(*call, what, words, slots); *call = answer.next; answer.outcome }
 -- whatever the value form `f_of` is and whatever two definitions the contracts of both name. Nothing is used of the value form but that it
 -- meets its contract. The slot buffer goes to it for good, so nothing is lent twice; the call's borrow is open from the copy to the store.
--- Assumes nothing.
 use mathlib.Core.Path.{_≡_, refl, ap}
 use Prim.Native.Nat.{ℕ}
 use mathlib.Core.List.{[], _∷_, List}

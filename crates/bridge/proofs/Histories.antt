@@ -1,5 +1,5 @@
 -- A history through the forms over a lent call is one of the value form: the same outcomes, and the same call after each operation.
--- So the ledger (REFERENCE 10) holds of it. Assumes nothing.
+-- So the ledger (REFERENCE 10) holds of it.
 use Prim.Native.Nat.{ℕ, _<_}
 use mathlib.Core.Path.{_≡_, refl, ap, sym, _∙_}
 use mathlib.Core.List.{List, [], _∷_, map}
@@ -11,14 +11,14 @@ use Rattle.classify.specs.declared.Call.{Call}
 use Rattle.classify.specs.declared.Answer.{Answer}
 use Rattle.classify.specs.Answers.{descriptions, freshAnswer}
 use Rattle.ledger.specs.Ledger as values
-use Rattle.ledger.specs.Ledger.{answerOf, answersFrom, history, Ledger}
+use Rattle.ledger.specs.Ledger.{answerFor, answersFrom, history, Ledger}
 use Rattle.ledger.specs.Performed.{Started}
 use Rattle.ledger.proofs.Ledger.{ledger}
 use Rattle.bridge.specs.declared.What.{What}
 use Rattle.bridge.specs.Lent.{argOf}
 use Rattle.bridge.proofs.barkpaddle_bridge_variadic as on-mark
 use Rattle.bridge.proofs.barkpaddle_bridge_argument as on-value
-use Rattle.bridge.proofs.Promised.{Marks, Returns, Passes, PassesAfterDots}
+use Rattle.bridge.proofs.Promised.{Marks, Returns, Passes, PassesVariadic}
 
 -- ---- what is said
 
@@ -27,14 +27,14 @@ pub data Operation : Type 0 where
   mark : Operation
   return : What → List ℕ → List ℕ → Operation
   argument : What → List ℕ → List ℕ → Operation
-  after-dots : What → List ℕ → List ℕ → Operation
+  variadic-argument : What → List ℕ → List ℕ → Operation
 
 -- the operation of the value form that it stands for
 abbrev pub operationOf : Operation → values.Operation
 operationOf mark = values.mark
 operationOf (return what words out) = values.return (argOf what) words out
 operationOf (argument what words out) = values.argument (argOf what) words out
-operationOf (after-dots what words out) = values.after-dots (argOf what) words out
+operationOf (variadic-argument what words out) = values.variadic-argument (argOf what) words out
 
 -- what one leaves: the call that stands behind the reference afterwards, and the outcome
 abbrev pub After : Type 0
@@ -54,7 +54,7 @@ Lends c mark x =
     (κs : Lfts 1) × (b : RefT Call) × (e : AtExit on-mark.ended κs) × (now b ≡ c) × (now (e .0) ≡ x .next) × Marks κs (b, tt) (x .outcome) e
 Lends c (return what words out) x = Asked (λ κs a x e. Returns κs a (x .outcome) e) c what words out x
 Lends c (argument what words out) x = Asked (λ κs a x e. Passes κs a (x .outcome) e) c what words out x
-Lends c (after-dots what words out) x = Asked (λ κs a x e. PassesAfterDots κs a (x .outcome) e) c what words out x
+Lends c (variadic-argument what words out) x = Asked (λ κs a x e. PassesVariadic κs a (x .outcome) e) c what words out x
 
 -- a list of operations, each on the call as the one before left it where it stands
 abbrev pub AllLent : Call → List Operation → List After → Type 0
@@ -68,14 +68,14 @@ AllLent c (op ∷ ops) (x ∷ past) = Lends c op x × AllLent (x .next) ops past
 both-parts : (x : After) (a : Answer) → x .next ≡ a .next → x .outcome ≡ a .outcome → x ≡ a
 both-parts x a n o = rw (← n, ← o)
 
-lends-is : (c : Call) (op : Operation) (x : After) → Lends c op x → x ≡ answerOf (operationOf op) c
-lends-is c mark x p = both-parts x (answerOf values.mark c) (rw (← p .3) (sym (p .4) ∙ p .5 .1)) (rw (← p .3) (p .5 .0))
+lends-is : (c : Call) (op : Operation) (x : After) → Lends c op x → x ≡ answerFor (operationOf op) c
+lends-is c mark x p = both-parts x (answerFor values.mark c) (rw (← p .3) (sym (p .4) ∙ p .5 .1)) (rw (← p .3) (p .5 .0))
 lends-is c (return what words out) x p =
-    both-parts x (answerOf (values.return (argOf what) words out) c) (rw (← p .5, ← p .6, ← p .7) (sym (p .8) ∙ p .9 .call)) (rw (← p .5, ← p .6, ← p .7) (p .9 .outcome))
+    both-parts x (answerFor (values.return (argOf what) words out) c) (rw (← p .5, ← p .6, ← p .7) (sym (p .8) ∙ p .9 .call)) (rw (← p .5, ← p .6, ← p .7) (p .9 .outcome))
 lends-is c (argument what words out) x p =
-    both-parts x (answerOf (values.argument (argOf what) words out) c) (rw (← p .5, ← p .6, ← p .7) (sym (p .8) ∙ p .9 .call)) (rw (← p .5, ← p .6, ← p .7) (p .9 .outcome))
-lends-is c (after-dots what words out) x p =
-    both-parts x (answerOf (values.after-dots (argOf what) words out) c) (rw (← p .5, ← p .6, ← p .7) (sym (p .8) ∙ p .9 .call)) (rw (← p .5, ← p .6, ← p .7) (p .9 .outcome))
+    both-parts x (answerFor (values.argument (argOf what) words out) c) (rw (← p .5, ← p .6, ← p .7) (sym (p .8) ∙ p .9 .call)) (rw (← p .5, ← p .6, ← p .7) (p .9 .outcome))
+lends-is c (variadic-argument what words out) x p =
+    both-parts x (answerFor (values.variadic-argument (argOf what) words out) c) (rw (← p .5, ← p .6, ← p .7) (sym (p .8) ∙ p .9 .call)) (rw (← p .5, ← p .6, ← p .7) (p .9 .outcome))
 
 all-lent-are : (c : Call) (ops : List Operation) (past : List After) → AllLent c ops past → past ≡ answersFrom c (map operationOf ops)
 unfolding answersFrom

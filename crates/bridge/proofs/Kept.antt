@@ -1,4 +1,4 @@
--- A refused operation leaves the lent call as it was, and every word of the slot buffer: from the promises of the four forms. Assumes nothing.
+-- A refused operation leaves the lent call as it was, and every word of the slot buffer: from the promises of the four forms.
 use Prim.Native.Nat.{ℕ, zero, suc}
 use mathlib.Core.Path.{_≡_, refl, ap, _∙_}
 use mathlib.Core.List.{List}
@@ -12,11 +12,11 @@ use Rattle.abis.specs.Abis.{described}
 use Rattle.classify.specs.declared.Call.{Call}
 use Rattle.classify.specs.declared.Answer.{Answer}
 use Rattle.classify.specs.declared.Outcome.{Outcome}
-use Rattle.classify.specs.Answers.{rowRefusal, callRefusalBy, done, orAnswer, variadicAnswerBy, variadicAnswer, returnsAnswerBy, returnsWrittenBy, returnsAnswer, returnsWritten, argumentAnswerBy, argumentWrittenBy, argumentAnswer, argumentWritten, dotsAnswerBy, dotsWrittenBy, dotsAnswer, dotsWritten}
+use Rattle.classify.specs.Answers.{rowRefusal, callRefusalBy, done, orAnswer, variadicAnswerBy, variadicAnswer, returnsAnswerBy, returnsWrittenBy, returnsAnswer, returnsWritten, argumentAnswerBy, argumentWrittenBy, argumentAnswer, argumentWritten, variadicArgumentAnswerBy, variadicArgumentWrittenBy, variadicArgumentAnswer, variadicArgumentWritten}
 use Rattle.classify.proofs.Accepted.{refused-so}
 use Rattle.bridge.proofs.barkpaddle_bridge_variadic as variadic
 use Rattle.bridge.proofs.barkpaddle_bridge_argument as argument
-use Rattle.bridge.proofs.Promised.{Marks, Returns, Passes, PassesAfterDots}
+use Rattle.bridge.proofs.Promised.{Marks, Returns, Passes, PassesVariadic}
 
 -- ---- of the definitions
 
@@ -36,9 +36,9 @@ module _ (c : Call) (arg : Arg) (words out : List ℕ) where
   unfolding argumentAnswer argumentWritten argumentAnswerBy argumentWrittenBy
   argument-keeps = refused-so _ c _ _ out
 
-  dots-keep : Keeps c out (dotsAnswer c arg words out) (dotsWritten c arg words out)
-  unfolding dotsAnswer dotsWritten dotsAnswerBy dotsWrittenBy
-  dots-keep = refused-so _ c _ _ out
+  variadic-argument-keep : Keeps c out (variadicArgumentAnswer c arg words out) (variadicArgumentWritten c arg words out)
+  unfolding variadicArgumentAnswer variadicArgumentWritten variadicArgumentAnswerBy variadicArgumentWrittenBy
+  variadic-argument-keep = refused-so _ c _ _ out
 
 marked-by : (n : ℕ) (c next : Call) → IsRefused (orAnswer n c (done next)) → orAnswer n c (done next) .next ≡ c
 marked-by zero c next h = absurd (h refl)
@@ -71,7 +71,7 @@ module _ (κs : Lfts 3) (a : ArgsD argument.signature κs) (r : Outcome) (e : At
       let k = argument-keeps (now (a .0)) _ _ (now (a .1 .1 .1 .0)) (λ none. h (ap refusalIn (p .outcome) ∙ none)) in
       (p .call ∙ k .0, p .writes ∙ k .1)
 
-  pub variadic-argument-refused : PassesAfterDots κs a r e → Same
+  pub variadic-argument-refused : PassesVariadic κs a r e → Same
   variadic-argument-refused p h =
-      let k = dots-keep (now (a .0)) _ _ (now (a .1 .1 .1 .0)) (λ none. h (ap refusalIn (p .outcome) ∙ none)) in
+      let k = variadic-argument-keep (now (a .0)) _ _ (now (a .1 .1 .1 .0)) (λ none. h (ap refusalIn (p .outcome) ∙ none)) in
       (p .call ∙ k .0, p .writes ∙ k .1)

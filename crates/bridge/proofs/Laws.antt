@@ -1,4 +1,4 @@
--- The argument that a question stands for, one law for each form, and what a method leaves where it is asked so. Assumes nothing.
+-- The argument that a question stands for, one law for each form, and what a method leaves where it is asked so.
 use mathlib.Core.Path.{_≡_}
 use mathlib.Core.List.{List}
 use borrow.Author.Tests.{eq-eqb, ne-eqb}
@@ -9,7 +9,7 @@ use Rattle.shape.specs.declared.Shape.{Shape}
 use Rattle.classify.specs.declared.Call.{Call}
 use Rattle.classify.specs.declared.Answer.{Answer}
 use Rattle.classify.specs.Answers.{Leaves}
-use Rattle.numbers.specs.Numbers.{shapeFrom}
+use Rattle.export_numbers.specs.Numbers.{shapeFrom}
 use Rattle.bridge.specs.declared.What.{What}
 use Rattle.bridge.specs.Lent.{argOf}
 

@@ -1,6 +1,5 @@
 -- What the four forms over a lent call promise, as claims: each contract is the fact of its claim, at every model of the logic and by computation,
 -- so a loosened promise fails here. (The checker makes such claims itself where it covers a function, and it covers none that is lent a struct.)
--- Assumes nothing.
 use mathlib.Core.Path.{_≡_, refl}
 use mathlib.Core.List.{List}
 use Prim.Native.Nat.{ℕ}
@@ -19,7 +18,7 @@ use Rattle.shape.specs.declared.Arg.{Arg}
 use Rattle.classify.specs.declared.Call.{Call}
 use Rattle.classify.specs.declared.Answer.{Answer}
 use Rattle.classify.specs.declared.Outcome.{Outcome}
-use Rattle.classify.specs.Answers.{variadicAnswer, returnsAnswer, returnsWritten, argumentAnswer, argumentWritten, dotsAnswer, dotsWritten}
+use Rattle.classify.specs.Answers.{variadicAnswer, returnsAnswer, returnsWritten, argumentAnswer, argumentWritten, variadicArgumentAnswer, variadicArgumentWritten}
 use Rattle.bridge.specs.Lent.{argOf, Lends}
 use Rattle.bridge.proofs.barkpaddle_bridge_variadic as variadic
 use Rattle.bridge.proofs.barkpaddle_bridge_returns as returns
@@ -43,8 +42,8 @@ Returns = Asks returnsAnswer returnsWritten
 abbrev pub Passes : (κs : Lfts 3) → ArgsD argument.signature κs → Outcome → AtExit argument.ended κs → Type 0
 Passes = Asks argumentAnswer argumentWritten
 
-abbrev pub PassesAfterDots : (κs : Lfts 3) → ArgsD argument.signature κs → Outcome → AtExit argument.ended κs → Type 0
-PassesAfterDots = Asks dotsAnswer dotsWritten
+abbrev pub PassesVariadic : (κs : Lfts 3) → ArgsD argument.signature κs → Outcome → AtExit argument.ended κs → Type 0
+PassesVariadic = Asks variadicArgumentAnswer variadicArgumentWritten
 
 module _ {M : Type 1} (𝓤 : URA M) (H : Heap 𝓤) (A : Atoms 𝓤) (mem : Memory → SProp 𝓤) (run : Routine → Fun 𝓤) where
   pub variadic-promises : (κs : Lfts 1) (a : ArgsD variadic.signature κs) (r : Outcome) (e : AtExit variadic.ended κs)
@@ -59,6 +58,6 @@ module _ {M : Type 1} (𝓤 : URA M) (H : Heap 𝓤) (A : Atoms 𝓤) (mem : Mem
       → argument.clauses 𝓤 H A mem run κs a .ensures tt r e ≡ fact 𝓤 (Passes κs a r e)
   argument-promises κs a r e = refl
 
-  pub dots-promises : (κs : Lfts 3) (a : ArgsD dots.signature κs) (r : Outcome) (e : AtExit dots.ended κs)
-      → dots.clauses 𝓤 H A mem run κs a .ensures tt r e ≡ fact 𝓤 (PassesAfterDots κs a r e)
-  dots-promises κs a r e = refl
+  pub variadic-argument-promises : (κs : Lfts 3) (a : ArgsD dots.signature κs) (r : Outcome) (e : AtExit dots.ended κs)
+      → dots.clauses 𝓤 H A mem run κs a .ensures tt r e ≡ fact 𝓤 (PassesVariadic κs a r e)
+  variadic-argument-promises κs a r e = refl

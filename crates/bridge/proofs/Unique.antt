@@ -1,10 +1,10 @@
 -- No second outcome, no other call behind the reference and no other words in the lent slot buffer meet the promise of a public function, as
--- Promised.antt reads it from the contract. Assumes nothing.
+-- Promised.antt reads it from the contract.
 use mathlib.Core.Path.{sym, _∙_}
 use contract.Lifetimes.{Lfts}
 use denote.Ref.{now}
 use Rattle.shape.proofs.OneAnswer.{OneAnswer, OneExit}
-use Rattle.bridge.proofs.Promised.{Marks, Returns, Passes, PassesAfterDots}
+use Rattle.bridge.proofs.Promised.{Marks, Returns, Passes, PassesVariadic}
 
 variadic-decides : (κs : Lfts 1) → OneAnswer (Marks κs)
 variadic-decides κs a r q s t p p′ = p .0 ∙ sym (p′ .0)
@@ -30,11 +30,11 @@ argument-call κs a r q s t p p′ = p .call ∙ sym (p′ .call)
 argument-words : (κs : Lfts 3) → OneExit (Passes κs) (λ s. now (s .1 .1 .1 .0))
 argument-words κs a r q s t p p′ = p .writes ∙ sym (p′ .writes)
 
-variadic-argument-decides : (κs : Lfts 3) → OneAnswer (PassesAfterDots κs)
+variadic-argument-decides : (κs : Lfts 3) → OneAnswer (PassesVariadic κs)
 variadic-argument-decides κs a r q s t p p′ = p .outcome ∙ sym (p′ .outcome)
 
-variadic-argument-call : (κs : Lfts 3) → OneExit (PassesAfterDots κs) (λ s. now (s .0))
+variadic-argument-call : (κs : Lfts 3) → OneExit (PassesVariadic κs) (λ s. now (s .0))
 variadic-argument-call κs a r q s t p p′ = p .call ∙ sym (p′ .call)
 
-variadic-argument-words : (κs : Lfts 3) → OneExit (PassesAfterDots κs) (λ s. now (s .1 .1 .1 .0))
+variadic-argument-words : (κs : Lfts 3) → OneExit (PassesVariadic κs) (λ s. now (s .1 .1 .1 .0))
 variadic-argument-words κs a r q s t p p′ = p .writes ∙ sym (p′ .writes)

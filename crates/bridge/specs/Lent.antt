@@ -8,19 +8,19 @@ use Rattle.shape.specs.declared.Arg.{Arg}
 use Rattle.classify.specs.declared.Call.{Call}
 use Rattle.classify.specs.declared.Outcome.{Outcome}
 use Rattle.classify.specs.declared.Answer.{Answer}
-use Rattle.classify.specs.Answers.{returnsAnswer, returnsWritten, argumentAnswer, argumentWritten, dotsAnswer, dotsWritten}
-use Rattle.numbers.specs.Numbers as numbers
+use Rattle.classify.specs.Answers.{returnsAnswer, returnsWritten, argumentAnswer, argumentWritten, variadicArgumentAnswer, variadicArgumentWritten}
+use Rattle.export_numbers.specs.Numbers as numbers
 use Rattle.bridge.specs.declared.What.{What}
 
 -- forms: void, a scalar, an aggregate
-abbrev pub void : ℕ
-void = 0
+abbrev pub formVoid : ℕ
+formVoid = 0
 
-abbrev pub scalar : ℕ
-scalar = 1
+abbrev pub formScalar : ℕ
+formScalar = 1
 
-abbrev pub aggregate : ℕ
-aggregate = 2
+abbrev pub formAggregate : ℕ
+formAggregate = 2
 
 -- a kind that no scalar has: the first number above the kinds
 abbrev pub no-kind : ℕ
@@ -29,10 +29,10 @@ no-kind = 5
 -- the argument that a question stands for; a form that isn't known stands for a scalar of no kind
 unfoldable pub argOf : What → Arg
 argOf w =
-    cond (eqb (w .form) void) numbers.void
-    (cond (eqb (w .form) scalar) (numbers.scalar (w .kind) (w .size) (w .align))
-    (cond (eqb (w .form) aggregate) (numbers.aggregate (w .size) (w .align) (w .complex) (w .floating))
-    (numbers.scalar no-kind 0 0)))
+    cond (eqb (w .form) formVoid) numbers.voidArg
+    (cond (eqb (w .form) formScalar) (numbers.scalarFrom (w .kind) (w .size) (w .align))
+    (cond (eqb (w .form) formAggregate) (numbers.aggregateFrom (w .size) (w .align) (w .complex) (w .floating))
+    (numbers.scalarFrom no-kind 0 0)))
 
 -- ---- what an operation over a lent call leaves: its outcome, the call behind the reference, and the words of the buffer
 
@@ -48,5 +48,5 @@ LentReturns c what words out = Lends (returnsAnswer c (argOf what) words out) (r
 abbrev pub LentPasses : Call → What → List ℕ → List ℕ → Outcome → Call → List ℕ → Type 0
 LentPasses c what words out = Lends (argumentAnswer c (argOf what) words out) (argumentWritten c (argOf what) words out)
 
-abbrev pub LentPassesAfterDots : Call → What → List ℕ → List ℕ → Outcome → Call → List ℕ → Type 0
-LentPassesAfterDots c what words out = Lends (dotsAnswer c (argOf what) words out) (dotsWritten c (argOf what) words out)
+abbrev pub LentPassesVariadic : Call → What → List ℕ → List ℕ → Outcome → Call → List ℕ → Type 0
+LentPassesVariadic c what words out = Lends (variadicArgumentAnswer c (argOf what) words out) (variadicArgumentWritten c (argOf what) words out)

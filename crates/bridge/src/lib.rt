@@ -6,8 +6,8 @@ use classify::Outcome;
 use shape::Arg;
 use shape::Scalar;
 ghost use mathlib.Core.Path.{_≡_};
-ghost use Rattle.classify.specs.Answers.{variadicAnswer, Returns, Passes, PassesAfterDots};
-ghost use Rattle.bridge.specs.Lent.{argOf, LentReturns, LentPasses, LentPassesAfterDots};
+ghost use Rattle.classify.specs.Answers.{variadicAnswer, Returns, Passes, PassesVariadic};
+ghost use Rattle.bridge.specs.Lent.{argOf, LentReturns, LentPasses, LentPassesVariadic};
 
 // What is asked about: void, a scalar of this kind, size and alignment, or an aggregate of this size and alignment, which is complex and
 // has the floating mode where those aren't 0. An aggregate's pieces stand beside it, as words.
@@ -80,7 +80,7 @@ pub extern "C" fn barkpaddle_bridge_variadic_argument(
     words: &[u64],
     slots: &mut [u64],
 ) -> Outcome
-    ensures { λ r. ⌜ LentPassesAfterDots (now (call .entry)) what (now (words .entry)) (now (slots .entry)) r (now (call .exit)) (now (slots .exit)) ⌝ }
+    ensures { λ r. ⌜ LentPassesVariadic (now (call .entry)) what (now (words .entry)) (now (slots .entry)) r (now (call .exit)) (now (slots .exit)) ⌝ }
 {
     let answer = variadic_argument_of(*call, what, words, slots);
     *call = answer.next;
@@ -108,7 +108,7 @@ fn argument_of(call: Call, what: What, words: &[u64], slots: &mut [u64]) -> Answ
 }
 
 fn variadic_argument_of(call: Call, what: What, words: &[u64], slots: &mut [u64]) -> Answer
-    ensures { λ r. ⌜ PassesAfterDots call (argOf what) (now (words .entry)) (now (slots .entry)) r (now (slots .exit)) ⌝ }
+    ensures { λ r. ⌜ PassesVariadic call (argOf what) (now (words .entry)) (now (slots .entry)) r (now (slots .exit)) ⌝ }
 {
     call.variadic_argument(arg_of(what), words, slots)
 }
@@ -128,7 +128,7 @@ fn arg_of(what: What) -> Arg
         });
     }
     if what.form == AGGREGATE {
-        return Arg::Aggregate(numbers::shape_from(
+        return Arg::Aggregate(export_numbers::shape_from(
             what.size,
             what.align,
             what.complex,

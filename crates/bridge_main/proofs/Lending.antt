@@ -2,7 +2,7 @@
 --     fn f(call: Call, what: What, words: &[u64], slots: &mut [u64]) -> Answer
 --     { let mut lent = call; let outcome = form(&mut lent, what, words, slots); Answer { next: lent, outcome } }
 -- by hand, since the checker covers no reference to a struct, once for every form and the two definitions that its contract names. The copy is lent
--- for a lifetime that is made for the call and ended after it. Assumes nothing.
+-- for a lifetime that is made for the call and ended after it.
 use mathlib.Core.Path.{_≡_, refl, ap, subst}
 use Prim.Native.Nat.{ℕ}
 use mathlib.Core.List.{[], _∷_, List}

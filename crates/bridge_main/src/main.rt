@@ -13,7 +13,7 @@ use spend::Left;
 ghost use mathlib.Core.Path.{_≡_};
 ghost use Rattle.io.specs.Counts.{Counts};
 ghost use Rattle.classify.specs.Answers.{variadicAnswer};
-ghost use Rattle.bridge.specs.Lent.{LentReturns, LentPasses, LentPassesAfterDots};
+ghost use Rattle.bridge.specs.Lent.{LentReturns, LentPasses, LentPassesVariadic};
 
 const OPERATIONS: u64 = 60000;
 
@@ -342,7 +342,7 @@ fn lend(op: u64, call: Call, what: What, words: &[u64], slots: &mut [u64]) -> An
     if op < 11 {
         return argument(call, what, words, slots);
     }
-    after_dots(call, what, words, slots)
+    variadic_argument(call, what, words, slots)
 }
 
 fn mark(call: Call) -> Answer
@@ -378,8 +378,8 @@ fn argument(call: Call, what: What, words: &[u64], slots: &mut [u64]) -> Answer
     }
 }
 
-fn after_dots(call: Call, what: What, words: &[u64], slots: &mut [u64]) -> Answer
-    ensures { λ r. ⌜ LentPassesAfterDots call what (now (words .entry)) (now (slots .entry)) (r .outcome) (r .next) (now (slots .exit)) ⌝ }
+fn variadic_argument(call: Call, what: What, words: &[u64], slots: &mut [u64]) -> Answer
+    ensures { λ r. ⌜ LentPassesVariadic call what (now (words .entry)) (now (slots .entry)) (r .outcome) (r .next) (now (slots .exit)) ⌝ }
 {
     let mut lent = call;
     let outcome = bridge::barkpaddle_bridge_variadic_argument(&mut lent, what, words, slots);

@@ -2,7 +2,7 @@
 // front of the buffer for the rest of it.
 use libc::STDIN_FILENO;
 use libc::STDOUT_FILENO;
-use sheet::State;
+use sheet_perform::State;
 ghost use Prim.Native.Nat.{_≤_};
 ghost use lib.ListN.{length};
 
@@ -17,10 +17,10 @@ struct Turn {
 }
 
 fn main() {
-    let mut input = [0u8; RECORDS * reading::RECORD];
+    let mut input = [0u8; RECORDS * sheet_records::RECORD];
     let mut pieces = [0u64; sheet::PIECES];
     let mut slots = [0u64; slots::MOST_WORDS];
-    let mut out = [0u8; RECORDS * lines::LONGEST];
+    let mut out = [0u8; RECORDS * sheet_lines::LONGEST];
     run(&mut input, &mut pieces, &mut slots, &mut out);
 }
 
@@ -79,7 +79,7 @@ fn take_in(
 ) -> Turn
     requires { ⌜ have ≤ length (now input) ⌝ }
 {
-    let steps = state.steps(&input[..have], pieces, slots, out);
+    let steps = sheet::take_records(state, &input[..have], pieces, slots, out);
     let next = steps.next;
     let used = steps.used;
     let reader = next.reader;
@@ -104,11 +104,11 @@ fn read_behind(input: &mut [u8], from: usize) -> isize
 // The end of the input: bytes that wait are a short record, and a piece that is due is missing.
 fn end_sheet(state: State, rest: &[u8], pieces: &mut [u64], slots: &mut [u64], out: &mut [u8]) {
     if rest.len() > 0 {
-        let short = state.step(rest, pieces, slots, out, 0);
+        let short = sheet::take_record(state, rest, pieces, slots, out, 0);
         write(out, short.at);
         return;
     }
-    let end = state.finish(out, 0);
+    let end = sheet::finish(state, out, 0);
     write(out, end.at);
 }
 

@@ -1,4 +1,4 @@
--- What "not refused" gives its users: the limits that an accepted scalar, piece and list keep. Assumes nothing.
+-- What "not refused" gives its users: the limits that an accepted scalar, piece and list keep.
 use Prim.Native.Nat.{ℕ, zero, suc, _/_, _%_, _≤_}
 use mathlib.Core.Path.{_≡_, refl}
 use mathlib.Core.List.{List, _∷_}

@@ -1,4 +1,4 @@
--- The laws of the refusals: a test that holds decides, and one that fails moves on. Assumes nothing.
+-- The laws of the refusals: a test that holds decides, and one that fails moves on.
 use Prim.Native.Nat.{ℕ, zero, suc, _+_, _-_, _/_, _%_, _≤_, _<_}
 use mathlib.Core.Path.{_≡_, refl}
 use mathlib.Core.List.{List}

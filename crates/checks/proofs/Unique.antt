@@ -1,4 +1,4 @@
--- No second answer meets the promise of a public function. Assumes nothing.
+-- No second answer meets the promise of a public function.
 use mathlib.Core.Path.{sym, _∙_}
 use contract.Lifetimes.{Lfts}
 use Rattle.shape.proofs.OneAnswer.{OneAnswer}

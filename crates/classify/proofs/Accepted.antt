@@ -1,5 +1,5 @@
 -- An operation is refused, and then its call and its buffer are as they were; or it is accepted, and then nothing refuses it, its slots have room,
--- and its answer is the accepted one. A call is accepted where what it has left is sound. Each case split stands here alone. Assumes nothing.
+-- and its answer is the accepted one. A call is accepted where what it has left is sound. Each case split stands here alone.
 use Prim.Native.Nat.{ℕ, zero, suc, _/_, _≤_}
 use mathlib.Core.Path.{_≡_, refl, subst}
 use mathlib.Core.List.{List}
@@ -8,17 +8,17 @@ use native.Mathlib.Omega.{arith}
 use borrow.Author.Tests.{le-ltb, ltb-false, eqb-true}
 use lib.Dec.{T, eqb, ltb}
 use lib.ListN.{length}
+use Rattle.shape.proofs.Bools.{both-false}
 use Rattle.shape.specs.declared.Arg.{Arg}
 use Rattle.shape.specs.Numbers.{accepted}
 use Rattle.checks.proofs.Accepted.{refuse-none, else-none}
 use Rattle.slots.specs.Words.{slotSize, written}
-use Rattle.describe.specs.declared.Variadic.{Variadic}
 use Rattle.describe.specs.Description.{Description, termsOf}
 use Rattle.spend.specs.declared.Spent.{Spent}
 use Rattle.spend.specs.Ways.{no-mark, marked}
 use Rattle.classify.specs.declared.Call.{Call}
 use Rattle.classify.specs.declared.Answer.{Answer}
-use Rattle.classify.specs.Pass.{slotsOf}
+use Rattle.classify.specs.Pass.{passSlots}
 use Rattle.classify.specs.Classify.{Passed, isIntegersOnly}
 use Rattle.classify.specs.Answers.{isBadLeft, leftRefusal, argRefusal, checked, callRefusalBy, refusalBy, refused, acceptedAnswer, orAnswer, unlessRefused, wholeRefusal, answerTo, writtenTo}
 
@@ -28,22 +28,22 @@ module _ (checks : ℕ) (c : Call) (p : Passed) (spent : Spent) (out : List ℕ)
   -- what is said of an answer and the buffer beside it: of each refusal, and of the accepted answer where nothing refuses it
   pub by-cases : (P : Answer → List ℕ → Type 0)
       → ((n : ℕ) → wholeRefusal checks p out ≡ suc n → P (refused c (suc n)) out)
-      → (checks ≡ accepted → length (slotsOf (p .pass)) ≤ length out / slotSize → P (acceptedAnswer c p spent) (written (slotsOf (p .pass)) out))
+      → (checks ≡ accepted → length (passSlots (p .pass)) ≤ length out / slotSize → P (acceptedAnswer c p spent) (written (passSlots (p .pass)) out))
       → P (answerTo checks c p spent out) (writtenTo checks p out)
   unfolding answerTo writtenTo
   by-cases P when-refused when-accepted = go (wholeRefusal checks p out) refl
     where
-      go : (n : ℕ) → wholeRefusal checks p out ≡ n → P (orAnswer n c (acceptedAnswer c p spent)) (unlessRefused n (written (slotsOf (p .pass)) out) out)
+      go : (n : ℕ) → wholeRefusal checks p out ≡ n → P (orAnswer n c (acceptedAnswer c p spent)) (unlessRefused n (written (passSlots (p .pass)) out) out)
       go zero e =
           let both = else-none checks _ e in
-          when-accepted (both .0) (ltb-false _ _ (refuse-none (ltb (length out / slotSize) (length (slotsOf (p .pass)))) 6 _ (both .1) .0))
+          when-accepted (both .0) (ltb-false _ _ (refuse-none (ltb (length out / slotSize) (length (passSlots (p .pass)))) 6 _ (both .1) .0))
       go (suc n) e = when-refused n e
 
   pub record Accepted (a : Answer) (words : List ℕ) : Type 0 where
     pub checks-pass : checks ≡ accepted
-    pub room : length (slotsOf (p .pass)) ≤ length out / slotSize
+    pub room : length (passSlots (p .pass)) ≤ length out / slotSize
     pub answer : a ≡ acceptedAnswer c p spent
-    pub words-are : words ≡ written (slotsOf (p .pass)) out
+    pub words-are : words ≡ written (passSlots (p .pass)) out
 
   pub accepted-so : answerTo checks c p spent out .outcome .refusal ≡ accepted → Accepted (answerTo checks c p spent out) (writtenTo checks p out)
   accepted-so =
@@ -51,7 +51,7 @@ module _ (checks : ℕ) (c : Call) (p : Passed) (spent : Spent) (out : List ℕ)
       (λ n e z. absurd (omega arith))
       (λ z h x. record { checks-pass = z; room = h; answer = refl; words-are = refl })
 
-  pub accepted-where : checks ≡ accepted → length (slotsOf (p .pass)) ≤ length out / slotSize → Accepted (answerTo checks c p spent out) (writtenTo checks p out)
+  pub accepted-where : checks ≡ accepted → length (passSlots (p .pass)) ≤ length out / slotSize → Accepted (answerTo checks c p spent out) (writtenTo checks p out)
   unfolding answerTo writtenTo
   accepted-where z h = record { checks-pass = z; room = h; answer = rw (z, le-ltb _ _ h); words-are = rw (z, le-ltb _ _ h) }
 
@@ -63,10 +63,6 @@ module _ (checks : ℕ) (c : Call) (p : Passed) (spent : Spent) (out : List ℕ)
       (λ z h x. absurd (x refl))
 
 -- ---- a call
-
-or-none : (a b : Bool) → a || b ≡ false → (a ≡ false) × (b ≡ false)
-or-none true b e = absurd (subst T e tt)
-or-none false b e = (refl, e)
 
 -- no count is above its bank's start, and the mark is set only where the description uses it
 pub record Sound (D : Description) (c : Call) : Type 0 where
@@ -80,8 +76,8 @@ module _ (source : ℕ) (D : Description) (c : Call) where
   sound z =
       let both = else-none source _ z in
       let good = refuse-none (isBadLeft (termsOf D) (c .left)) 1 accepted (both .1) .0 in
-      let counts-mark = or-none (ltb (D .banks .integer) (c .left .integer) || ltb (D .banks .float) (c .left .float)) _ good in
-      let counts = or-none (ltb (D .banks .integer) (c .left .integer)) (ltb (D .banks .float) (c .left .float)) (counts-mark .0) in
+      let counts-mark = both-false (ltb (D .banks .integer) (c .left .integer) || ltb (D .banks .float) (c .left .float)) _ good in
+      let counts = both-false (ltb (D .banks .integer) (c .left .integer)) (ltb (D .banks .float) (c .left .float)) (counts-mark .0) in
       (both .0, record { integers = ltb-false _ _ (counts .0); floats = ltb-false _ _ (counts .1); mark-used = counts-mark .1 })
 
   pub sound-accepted : source ≡ accepted → Sound D c → callRefusalBy source D c ≡ accepted

@@ -36,49 +36,49 @@ use Rattle.describe.specs.Dots.{dots, dotsOf}
 use Rattle.describe.specs.Questions.{isByReference, returnsByReference}
 use Rattle.spend.specs.declared.Left.{Left}
 use Rattle.spend.specs.declared.Way.{Way}
-use Rattle.spend.specs.declared.Slots.{Slots}
+use Rattle.spend.specs.declared.Wanted.{Wanted}
 use Rattle.spend.specs.declared.Decision.{Decision}
 use Rattle.spend.specs.declared.Step as steps
 use Rattle.spend.specs.Ways as made
-use Rattle.spend.specs.Ways.{no-mark, marked, withMark, after, leftAfter}
+use Rattle.spend.specs.Ways.{no-mark, marked, withMark, bankAfter, leftAfter}
 use Rattle.spend.specs.Spending as rules
-use Rattle.scalars.specs.Spending as lone
-use Rattle.search.specs.Matches.{matches, sourceOf}
-use Rattle.writing.specs.Slots.{slotsIn}
-use Rattle.classify.specs.Pass.{Pass, ignore, direct, pieces, reference, memory, wayOf, slotsOf}
+use Rattle.spend_scalar.specs.Spending as lone
+use Rattle.find.specs.Matches.{matches, sourceOf}
+use Rattle.slot_writing.specs.Sources.{sourceSlots}
+use Rattle.classify.specs.Pass.{Pass, ignore, direct, pieces, reference, memory, wayOf, passSlots}
 use Rattle.classify.specs.Classify as rust
 use Rattle.classify.specs.Classify.{Passed, passed, leaves, less, lessBoth, returns, argument, variadicArgument}
 use Rattle.classify.specs.Spending as spending
-use Rattle.classify.specs.Spending.{Chosen, chosen, returnChoice, argumentChoice, dotsChoice}
+use Rattle.classify.specs.Spending.{Chosen, chosen, returnChoice, argumentChoice, variadicArgumentChoice}
 use Rattle.classify.specs.Parts.{argClasses}
 use Rattle.classify.proofs.Sources.{source-slots, floats-cut}
 
 -- what a decision of the rules comes to, against what the Rust answers
 pub record Agrees (left : Left) (p : Passed) (d : Decision) (ss : List Slot) : Type 0 where
   pub way : wayOf (p .pass) ≡ d .way
-  pub slots : slotsOf (p .pass) ≡ ss
-  pub count : length (slotsOf (p .pass)) ≡ d .count
+  pub slots : passSlots (p .pass) ≡ ss
+  pub count : length (passSlots (p .pass)) ≡ d .count
   pub left-is : p .left ≡ leftAfter left (d .spent)
   pub integers : d .spent .«integers_passed» + d .spent .«integers_given» ≤ left .integer
   pub floats : d .spent .«floats_passed» + d .spent .«floats_given» ≤ left .float
 
 -- the slots that a choice's decision stands for
 abbrev pub slotsFor : Chosen → args.Arg → List Piece → List Slot
-slotsFor c arg ps = slotsIn (c .decision .slots) (argClasses arg (c .when) ps) ps
+slotsFor c arg ps = sourceSlots (c .decision .source) (argClasses arg (c .when) ps) ps
 
 -- the counts, one bank at a time: i and f are left where so many are passed over and given
 record Counts (left : Left) (i f ip ig fp fg : ℕ) : Type 0 where
-  integers-left : i ≡ after (left .integer) ip ig
-  floats-left : f ≡ after (left .float) fp fg
+  integers-left : i ≡ bankAfter (left .integer) ip ig
+  floats-left : f ≡ bankAfter (left .float) fp fg
   integers-spent : ip + ig ≤ left .integer
   floats-spent : fp + fg ≤ left .float
 
 counted : (left : Left) (i f ip ig fp fg : ℕ) → Counts left i f ip ig fp fg
-    → leaves i f (left .«integers_only») ≡ leaves (after (left .integer) ip ig) (after (left .float) fp fg) (left .«integers_only»)
+    → leaves i f (left .«integers_only») ≡ leaves (bankAfter (left .integer) ip ig) (bankAfter (left .float) fp fg) (left .«integers_only»)
 counted left i f ip ig fp fg k = rw (k .integers-left, k .floats-left)
 
 -- a short bank passed over whole
-drained : (b : Bool) (n : ℕ) → (cond b 0 n ≡ after n (cond b n 0) 0) × (cond b n 0 + 0 ≤ n)
+drained : (b : Bool) (n : ℕ) → (cond b 0 n ≡ bankAfter n (cond b n 0) 0) × (cond b n 0 + 0 ≤ n)
 drained true n = (omega arith, omega arith)
 drained false n = (omega arith, omega arith)
 
@@ -88,9 +88,9 @@ module _ (arg : args.Arg) (ps : List Piece) (left : Left) where
 
   module _ (when : Test) where
     -- a way with no slots, of each kind
-    plainly : (p : Pass) (way : Way) (i f ip ig fp fg : ℕ) → wayOf p ≡ way → slotsOf p ≡ [] → Counts left i f ip ig fp fg
+    plainly : (p : Pass) (way : Way) (i f ip ig fp fg : ℕ) → wayOf p ≡ way → passSlots p ≡ [] → Counts left i f ip ig fp fg
         → Chooses (passed p (leaves i f (left .«integers_only»))) (chosen (made.plain way (made.spends ip ig fp fg)) when)
-    unfolding slotsIn
+    unfolding sourceSlots
     plainly p way i f ip ig fp fg ew es k =
         record {
           way = ew;
@@ -102,8 +102,8 @@ module _ (arg : args.Arg) (ps : List Piece) (left : Left) where
         }
 
     -- Pieces, in slots that stand where the decision says
-    in-pieces : (ss : List Slot) (slots : Slots) (i f ig fg : ℕ) → ss ≡ slotsIn (slots .source) (argClasses arg when ps) ps → length ss ≡ slots .count
-        → Counts left i f 0 ig 0 fg → Chooses (passed (pieces ss) (leaves i f (left .«integers_only»))) (chosen (made.piecesOf slots (made.spends 0 ig 0 fg)) when)
+    in-pieces : (ss : List Slot) (slots : Wanted) (i f ig fg : ℕ) → ss ≡ sourceSlots (slots .source) (argClasses arg when ps) ps → length ss ≡ slots .count
+        → Counts left i f 0 ig 0 fg → Chooses (passed (pieces ss) (leaves i f (left .«integers_only»))) (chosen (made.inPieces slots (made.spends 0 ig 0 fg)) when)
     in-pieces ss slots i f ig fg es en k =
         record {
           way = refl;
@@ -130,11 +130,11 @@ module _ (arg : args.Arg) (ps : List Piece) (left : Left) where
     abbrev I : ℕ
     I = left .integer
 
-    takes-integers : (p : Pass) (way : Way) (n : ℕ) → wayOf p ≡ way → slotsOf p ≡ []
+    takes-integers : (p : Pass) (way : Way) (n : ℕ) → wayOf p ≡ way → passSlots p ≡ []
         → Chooses (passed p (less n left)) (chosen (made.plain way (made.spends 0 (min n I) 0 0)) when)
     takes-integers p way n ew es = plainly p way _ _ 0 (min n I) 0 0 ew es (omega arith)
 
-    spends-nothing : (p : Pass) (way : Way) → wayOf p ≡ way → slotsOf p ≡ [] → Chooses (passed p left) (chosen (made.plain way made.nothing) when)
+    spends-nothing : (p : Pass) (way : Way) → wayOf p ≡ way → passSlots p ≡ [] → Chooses (passed p left) (chosen (made.plain way made.nothing) when)
     spends-nothing p way ew es = plainly p way _ _ 0 0 0 0 ew es (omega arith)
 
     all-passed : Chooses (passed direct (leaves 0 (left .float) (left .«integers_only»))) (chosen (rules.direct I 0 0 0) when)
@@ -191,8 +191,8 @@ module _ (arg : args.Arg) (ps : List Piece) (left : Left) where
           (λ _. takes-integers direct _ want refl refl))
 
       in-registers : (s : Scalar) (want : ℕ)
-          → Chooses (passed direct (rust.afterScalar D left s want)) (chosen (lone.inRegisters (D .banks) (D .scalars) left s want) when)
-      unfolding rust.afterScalar lone.inRegisters
+          → Chooses (passed direct (rust.afterScalar D left s want)) (chosen (lone.scalarInRegisters (D .banks) (D .scalars) left s want) when)
+      unfolding rust.afterScalar lone.scalarInRegisters
       in-registers s want =
           directly (D .banks .shared) _ _ _ _ (λ _. takes-integers direct _ 1 refl refl)
           (λ _. directly (isFloat (s .kind) && leb (s .size) (D .banks .«float_width»)) _ _ _ _
@@ -200,7 +200,7 @@ module _ (arg : args.Arg) (ps : List Piece) (left : Left) where
           (λ _. directly (isFloat (s .kind)) _ _ _ _ (λ _. takes-integers direct _ want refl refl) (λ _. an-integer want)))
 
       scalar-argument : (s : Scalar) → Chooses (rust.scalar D left s) (chosen (lone.scalarArgument (D .banks) (D .scalars) left s) when)
-      unfolding rust.scalar lone.scalarArgument slotsIn
+      unfolding rust.scalar lone.scalarArgument sourceSlots
       scalar-argument s =
           let want : ℕ = rules.wantOf (s .size) (D .banks .«integer_width») in
           by-test (isByReference (D .scalars) (s .size)) _ _ _ _ (λ _. takes-integers reference _ 1 refl refl)
@@ -212,7 +212,7 @@ module _ (arg : args.Arg) (ps : List Piece) (left : Left) where
 
       -- a scalar that comes back
       scalar-return : (s : Scalar) → Chooses (rust.returnedScalar D left s) (chosen (lone.scalarReturn (D .scalars) (D .«return_pointer») left s) when)
-      unfolding lone.scalarReturn slotsIn
+      unfolding lone.scalarReturn sourceSlots
       scalar-return s =
           by-test (not (returnsByReference (D .scalars) (s .size))) _ _ _ _ (λ _. spends-nothing direct _ refl refl)
           (λ _. by-test (eqb (s .kind) integer && not (eqb (D .scalars .«wide_integer_returns_in») integer)) _ _ _ _
@@ -222,9 +222,9 @@ module _ (arg : args.Arg) (ps : List Piece) (left : Left) where
   -- ---- an aggregate: a rule whose test matched, before what the rules after it come to
 
   module _ (rest : Passed) (next : Chosen) (later : Chooses rest next) (when : Test) where
-    module _ (ss : List Slot) (slots : Slots) (es : ss ≡ slotsIn (slots .source) (argClasses arg when ps) ps) (en : length ss ≡ slots .count) where
+    module _ (ss : List Slot) (slots : Wanted) (es : ss ≡ sourceSlots (slots .source) (argClasses arg when ps) ps) (en : length ss ≡ slots .count) where
       when-short : (short : Short) (i f : ℕ)
-          → Chooses (rust.orElse (rust.shortOf short left ss i f) rest) (spending.orNext (rules.whenShort short left slots i f) when next)
+          → Chooses (rust.orRest (rust.shortOf short left ss i f) rest) (spending.orNext (rules.whenShort short left slots i f) when next)
       unfolding rust.shortOf rules.whenShort
       when-short Unchanged i f =
           in-pieces when ss slots _ _ (min i (left .integer)) (min f (left .float)) es en (omega arith)
@@ -238,12 +238,12 @@ module _ (arg : args.Arg) (ps : List Piece) (left : Left) where
 
       where-fits : (short : Short) (returning : Bool) (i f : ℕ) (x y : Bool) → leb i (left .integer) ≡ x → leb f (left .float) ≡ y
           → Chooses
-          (rust.orElse
+          (rust.orRest
           (cond returning (some (passed (pieces ss) left)) (cond (x && y) (some (passed (pieces ss) (lessBoth i f left))) (rust.shortOf short left ss i f)))
           rest)
           (spending.orNext
-          (cond returning (steps.the-variants.Decided (made.piecesOf slots made.nothing))
-          (cond (x && y) (steps.the-variants.Decided (made.piecesOf slots (made.spends 0 i 0 f))) (rules.whenShort short left slots i f)))
+          (cond returning (steps.the-variants.Decided (made.inPieces slots made.nothing))
+          (cond (x && y) (steps.the-variants.Decided (made.inPieces slots (made.spends 0 i 0 f))) (rules.whenShort short left slots i f)))
           when next)
       where-fits short true i f x y ex ey = in-pieces when ss slots _ _ 0 0 es en (omega arith)
       where-fits short false i f true true ex ey =
@@ -255,16 +255,16 @@ module _ (arg : args.Arg) (ps : List Piece) (left : Left) where
       where-fits short false i f false false ex ey = when-short short i f
 
       in-slots : (shared returning : Bool) (short : Short) → floatsIn ss ≡ slots .floats
-          → Chooses (rust.orElse (rust.inRegisters shared left short ss returning) rest) (spending.orNext (rules.inSlots shared returning left short slots) when next)
-      unfolding rust.inRegisters rules.inSlots
+          → Chooses (rust.orRest (rust.slotsInRegisters shared left short ss returning) rest) (spending.orNext (rules.inSlots shared returning left short slots) when next)
+      unfolding rust.slotsInRegisters rules.inSlots
       in-slots shared returning short ef = rw (en, ef) (where-fits short returning _ _ _ _ refl refl)
 
     travels : (D : Description) (then : Travel) (short : Short) (shape : Shape) (returning : Bool) (ss : List Slot)
-        → ss ≡ slotsIn (sourceOf when (shape .size)) (argClasses arg when ps) ps
-        → Chooses (rust.orElse (rust.travelBy then D left short ss shape returning) rest)
+        → ss ≡ sourceSlots (sourceOf when (shape .size)) (argClasses arg when ps) ps
+        → Chooses (rust.orRest (rust.travelIn then D left short ss shape returning) rest)
         (spending.orNext
-        (rules.travelBy then (D .banks) (D .«return_pointer») returning left short (shape .size) (spending.slotsOf when (shape .size) ss)) when next)
-    unfolding slotsIn floatsIn
+        (rules.travelBy then (D .banks) (D .«return_pointer») returning left short (shape .size) (spending.wantedBy when (shape .size) ss)) when next)
+    unfolding sourceSlots floatsIn
     travels D Ignore short shape returning ss es = spends-nothing when ignore _ refl refl
     travels D AsFound short shape returning ss es = in-slots ss _ es refl (D .banks .shared) returning short refl
     travels D AsIntegers short shape returning ss es =
@@ -290,20 +290,20 @@ module _ (D : Description) (returning : Bool) (left : Left) (shape : Shape) (ps 
   step rule rest next later (found ss) e = go ((marked left && not returning) && ltb 0 (floatsIn ss))
     where
       go : (b : Bool)
-          → Walks (cond b rest (rust.orElse (rust.travel D left rule ss shape returning) rest))
+          → Walks (cond b rest (rust.orRest (rust.travel D left rule ss shape returning) rest))
           (cond b next
           (spending.orNext
-          (rules.travelOf (D .banks) (D .«return_pointer») returning left rule (shape .size) (spending.slotsOf (rule .when) (shape .size) ss)) (rule .when) next))
+          (rules.travelOf (D .banks) (D .«return_pointer») returning left rule (shape .size) (spending.wantedBy (rule .when) (shape .size) ss)) (rule .when) next))
       go true = later
       go false =
           travels (args.the-variants.Aggregate shape) ps left rest next later (rule .when) D (rule .then) (rule .short) shape returning ss
           (sym (source-slots (D .banks) (rule .when) shape ps ss e))
 
-  pub aggregate-agrees : (rules : List Rule) → Walks (rust.apply D left rules shape ps returning) (spending.aggregate (termsOf D) returning left rules shape ps)
-  unfolding rust.apply spending.aggregate
+  pub aggregate-agrees : (rules : List Rule) → Walks (rust.apply D left rules shape ps returning) (spending.byRules (termsOf D) returning left rules shape ps)
+  unfolding rust.apply spending.byRules
   aggregate-agrees [] = spends-nothing (args.the-variants.Aggregate shape) ps left Anything memory _ refl refl
   aggregate-agrees (rule ∷ rules) =
-      step rule (rust.apply D left rules shape ps returning) (spending.aggregate (termsOf D) returning left rules shape ps) (aggregate-agrees rules) _ refl
+      step rule (rust.apply D left rules shape ps returning) (spending.byRules (termsOf D) returning left rules shape ps) (aggregate-agrees rules) _ refl
 
 -- ---- the operations
 
@@ -382,10 +382,10 @@ in-memory-agrees D left (args.the-variants.Aggregate shape) ps =
     let emptied : Left = leaves 0 0 (left .«integers_only») in
     freely-agrees left emptied _ _ _ (aggregate-agrees D false emptied shape ps (D .arguments))
 
-pub dots-agrees : (D : Description) (left : Left) (arg : args.Arg) (ps : List Piece) → (D .variadic ≡ UnnamedIntegers → left .«integers_only» ≡ no-mark)
-    → Agrees left (variadicArgument D left arg ps) (dotsChoice D left arg ps .decision) (slotsFor (dotsChoice D left arg ps) arg ps)
-unfolding variadicArgument dotsChoice
-dots-agrees D left arg ps mark = go (D .variadic) mark
+pub variadic-argument-agrees : (D : Description) (left : Left) (arg : args.Arg) (ps : List Piece) → (D .variadic ≡ UnnamedIntegers → left .«integers_only» ≡ no-mark)
+    → Agrees left (variadicArgument D left arg ps) (variadicArgumentChoice D left arg ps .decision) (slotsFor (variadicArgumentChoice D left arg ps) arg ps)
+unfolding variadicArgument variadicArgumentChoice
+variadic-argument-agrees D left arg ps mark = go (D .variadic) mark
   where
     go : (v : Variadic) → (v ≡ UnnamedIntegers → left .«integers_only» ≡ no-mark) → Dotted D left arg ps v
     go SameAsFixed h = fixed-agrees false D left arg ps

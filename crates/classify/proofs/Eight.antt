@@ -7,9 +7,10 @@ use mathlib.Core.Bool.{Bool, true, false, _&&_, _||_, not, cond}
 use mathlib.Core.Option.Option.{some}
 use native.Mathlib.Omega.{arith}
 use native.Mathlib.Nat.{div-lt-iff-lt-mul}
-use borrow.Author.Tests.{leb-true, ltb-false, eqb-true}
+use borrow.Author.Tests.{leb-true, eqb-true}
 use lib.Dec.{T, eqb, leb, ltb, leb→le}
 use lib.ListN.{length}
+use Rattle.shape.proofs.Bools.{both-true, and-left, and-right}
 use Rattle.shape.specs.declared.Arg as args
 use Rattle.shape.specs.declared.Piece.{Piece}
 use Rattle.shape.specs.declared.Scalar.{Scalar}
@@ -34,26 +35,24 @@ use Rattle.describe.specs.declared.Variadic.{Variadic}
 use Rattle.describe.specs.declared.Variadic.the-variants.{SameAsFixed, AlwaysMemory, BothBanks, IntegersOnly, UnnamedIntegers}
 use Rattle.describe.specs.Description.{Description, termsOf}
 use Rattle.describe.specs.Questions.{isByReference, returnsByReference}
-use Rattle.describe.proofs.Numbers.{and-left, and-right}
 use Rattle.abis.specs.Abis.{described, descriptions, blank}
 use Rattle.abis.proofs.Every.{every, anywhere}
 use Rattle.find.specs.Find.{foundIf, complexFloat}
-use Rattle.find.proofs.Each.{and-true}
 use Rattle.find.proofs.Finds.{homogeneous-few, pair-few, x87-few, lone-one, mode-slots, complex-slots}
 use Rattle.eightbytes.proofs.Found.{at-most}
 use Rattle.spend.specs.declared.Left.{Left}
 use Rattle.spend.specs.Ways.{marked, withMark}
 use Rattle.spend.specs.Spending.{wantOf}
-use Rattle.search.specs.Matches.{isOneOf, matches}
+use Rattle.find.specs.Matches.{isOneOf, matches}
 use Rattle.classify.specs.declared.Call.{Call}
-use Rattle.classify.specs.Pass.{pieces, slotsOf}
-use Rattle.classify.specs.Classify.{Passed, passed, leaves, lessBoth, isIntegersOnly, scalar, integerCostOf, floatCostOf, shortOf, inRegisters, travelBy, travel, orElse, tried, apply, returnedScalar, returns, argument, inMemoryAlways, variadicBy, variadicArgument}
+use Rattle.classify.specs.Pass.{pieces, passSlots}
+use Rattle.classify.specs.Classify.{Passed, passed, leaves, lessBoth, isIntegersOnly, scalar, integerCostOf, floatCostOf, shortOf, slotsInRegisters, travelIn, travel, orRest, tried, apply, returnedScalar, returns, argument, inMemoryAlways, variadicBy, variadicArgument}
 use Rattle.classify.specs.Answers.{leftRefusal, argRefusal, checked, rowRefusal, refusalBy, refusalOf}
 use Rattle.classify.proofs.Accepted.{sound, call-checked}
 use Rattle.classify.proofs.Sources.{none-found, floats-cut}
 
 abbrev slotCount : Passed → ℕ
-slotCount p = length (slotsOf (p .pass))
+slotCount p = length (passSlots (p .pass))
 
 -- ---- a size cut into integers
 
@@ -126,7 +125,7 @@ either size a n counts rest e h k = go rest (counts && eqb size a) refl refl e
   where
     go : (x y : Bool) → rest ≡ x → (counts && eqb size a) ≡ y → x || y ≡ true → size ≤ n
     go true y ex ey t = k ex
-    go false true ex ey t = omega (arith, eqb-true size a (and-true counts (eqb size a) ey .1))
+    go false true ex ey t = omega (arith, eqb-true size a (both-true counts (eqb size a) ey .1))
     go false false ex ey t = let z : _≡_ {A = ℕ} 0 1 = cc in absurd (omega arith)
 
 module _ (B : Banks) (shape : Shape) (ps : List Piece) (ss : List Slot) (n : ℕ) where
@@ -143,14 +142,14 @@ module _ (B : Banks) (shape : Shape) (ps : List Piece) (ss : List Slot) (n : ℕ
       let hc : c ≤ n = leb→le c n (and-left (leb c n) (leb d n) cd) in
       let hd : d ≤ n = leb→le d n (and-right (leb c n) (leb d n) cd) in
       either s d n (ltb 3 k) _ (holds (isOneOf s k a b c d) [] ss e) hd
-      (λ x. either s c n (ltb 2 k) _ x hc (λ y. either s b n (ltb 1 k) _ y hb (λ z. omega (arith, eqb-true s a (and-true (ltb 0 k) (eqb s a) z .1)))))
+      (λ x. either s c n (ltb 2 k) _ x hc (λ y. either s b n (ltb 1 k) _ y hb (λ z. omega (arith, eqb-true s a (both-true (ltb 0 k) (eqb s a) z .1)))))
   small (SizeAtMost limit) t e = omega (arith, leb→le limit n t, leb-true (shape .size) limit (holds (leb (shape .size) limit) [] ss e))
   small (Homogeneous limit) t e = absurd t
   small FloatPair t e = absurd t
   small X87Stack t e = absurd t
   small LoneFloat t e = absurd t
   small FloatingMode t e = absurd t
-  small ComplexFloat t e = omega (arith, leb→le 8 n t, eqb-true (shape .size) 8 (and-true (shape .complex && isAllOf single ps) (eqb (shape .size) 8) (holds _ [] ss e) .1))
+  small ComplexFloat t e = omega (arith, leb→le 8 n t, eqb-true (shape .size) 8 (both-true (shape .complex && isAllOf single ps) (eqb (shape .size) 8) (holds _ [] ss e) .1))
   small (Eightbytes limit) t e = absurd t
 
 -- ---- a rule
@@ -181,7 +180,7 @@ fewRule B returning rule = fewBy (rule .then) B returning (rule .when) (rule .sh
 module _ (left : Left) (rest : Passed) (later : slotCount rest ≤ 8) where
   -- slots that are few where they travel as pieces: they come back, or fit what is left, or nothing is done about a shortage
   module _ (ss : List Slot) (short : Short) (unchanged : short ≡ Unchanged → length ss ≤ 8) where
-    short-few : (s : Short) (i f : ℕ) → short ≡ s → slotCount (orElse (shortOf s left ss i f) rest) ≤ 8
+    short-few : (s : Short) (i f : ℕ) → short ≡ s → slotCount (orRest (shortOf s left ss i f) rest) ≤ 8
     unfolding shortOf
     short-few Unchanged i f e = unchanged e
     short-few Memory i f e = omega arith
@@ -189,14 +188,14 @@ module _ (left : Left) (rest : Passed) (later : slotCount rest ≤ 8) where
     short-few TryNextRule i f e = later
 
     in-few : (shared returning : Bool) → (returning ≡ true → length ss ≤ 8) → (integerCostOf shared ss ≤ left .integer → length ss ≤ 8)
-        → slotCount (orElse (inRegisters shared left short ss returning) rest) ≤ 8
-    unfolding inRegisters
+        → slotCount (orRest (slotsInRegisters shared left short ss returning) rest) ≤ 8
+    unfolding slotsInRegisters
     in-few shared true back fit = back refl
     in-few shared false back fit = go (leb (integerCostOf shared ss) (left .integer)) (leb (floatCostOf shared ss) (left .float)) refl
       where
         go : (x y : Bool) → leb (integerCostOf shared ss) (left .integer) ≡ x
             → slotCount
-            (orElse
+            (orRest
             (cond (x && y) (some (passed (pieces ss) (lessBoth (integerCostOf shared ss) (floatCostOf shared ss) left)))
             (shortOf short left ss (integerCostOf shared ss) (floatCostOf shared ss)))
             rest)
@@ -205,7 +204,7 @@ module _ (left : Left) (rest : Passed) (later : slotCount rest ≤ 8) where
         go true false e = short-few short _ _ refl
         go false y e = short-few short _ _ refl
 
-  few-slots : (shared returning : Bool) (short : Short) (ss : List Slot) → length ss ≤ 8 → slotCount (orElse (inRegisters shared left short ss returning) rest) ≤ 8
+  few-slots : (shared returning : Bool) (short : Short) (ss : List Slot) → length ss ≤ 8 → slotCount (orRest (slotsInRegisters shared left short ss returning) rest) ≤ 8
   few-slots shared returning short ss h = in-few ss short (λ _. h) shared returning (λ _. h) (λ _. h)
 
   module _ (D : Description) (shape : Shape) (ps : List Piece) (returning : Bool) (fits : returning ≡ false → left .integer ≤ D .banks .integer) where
@@ -217,14 +216,14 @@ module _ (left : Left) (rest : Passed) (later : slotCount rest ≤ 8) where
     cut-cost false = rw (floats-cut (shape .size) (D .banks .«integer_width»)) (omega arith)
 
     integers-few : (when : Test) (short : Short) (ss : List Slot) → matches (D .banks) when shape ps ≡ found ss → T (fewIntegers (D .banks) returning when short)
-        → slotCount (orElse (inRegisters (D .banks .shared) left short cutBy returning) rest) ≤ 8
+        → slotCount (orRest (slotsInRegisters (D .banks .shared) left short cutBy returning) rest) ≤ 8
     integers-few when short ss e t = go (sizesUpTo when most) refl t
       where
         most : ℕ
         most = 8 * max (D .banks .«integer_width») 1
 
         go : (b : Bool) → sizesUpTo when most ≡ b → T (b || (not returning && (stops short && leb (D .banks .integer) 8)))
-            → slotCount (orElse (inRegisters (D .banks .shared) left short cutBy returning) rest) ≤ 8
+            → slotCount (orRest (slotsInRegisters (D .banks .shared) left short cutBy returning) rest) ≤ 8
         go true u x =
             few-slots (D .banks .shared) returning short cutBy
             (few-cut (shape .size) (D .banks .«integer_width») (small (D .banks) shape ps ss most when (rw u tt) e))
@@ -237,7 +236,7 @@ module _ (left : Left) (rest : Passed) (later : slotCount rest ≤ 8) where
             (λ l. omega (arith, l, cut-cost (D .banks .shared), fits out))
 
     travel-few : (then : Travel) (when : Test) (short : Short) (ss : List Slot) → matches (D .banks) when shape ps ≡ found ss
-        → T (fewBy then (D .banks) returning when short) → slotCount (orElse (travelBy then D left short ss shape returning) rest) ≤ 8
+        → T (fewBy then (D .banks) returning when short) → slotCount (orRest (travelIn then D left short ss shape returning) rest) ≤ 8
     travel-few Ignore when short ss e t = omega arith
     travel-few AsFound when short ss e t = few-slots (D .banks .shared) returning short ss (few-found (D .banks) shape ps ss when t e)
     travel-few AsIntegers when short ss e t = integers-few when short ss e t
@@ -255,7 +254,7 @@ module _ (D : Description) (left : Left) (shape : Shape) (ps : List Piece) (retu
   tried-few rule rest later t nothing e = later
   tried-few rule rest later t (found ss) e = go ((marked left && not returning) && ltb 0 (floatsIn ss))
     where
-      go : (b : Bool) → slotCount (cond b rest (orElse (travel D left rule ss shape returning) rest)) ≤ 8
+      go : (b : Bool) → slotCount (cond b rest (orRest (travel D left rule ss shape returning) rest)) ≤ 8
       go true = later
       go false = travel-few left rest later D shape ps returning fits (rule .then) (rule .when) (rule .short) ss e t
 
@@ -317,7 +316,7 @@ module _ (D : Description) (left : Left) where
       (pick (isFloat (s .kind) && eqb (s .kind) (D .scalars .«in_memory»)) _ _ (λ _. omega arith)
       (pick ((D .scalars .«wide_integer_in_memory» && eqb (s .kind) integer) && ltb 1 (wantOf (s .size) (D .banks .«integer_width»))) _ _ (λ _. omega arith)
       (pick (marked left && isFloat (s .kind)) _ _
-      (λ e. few-cut (s .size) (D .banks .«integer_width») (omega (arith, wide-enough (and-true (marked left) (isFloat (s .kind)) e .0))))
+      (λ e. few-cut (s .size) (D .banks .«integer_width») (omega (arith, wide-enough (both-true (marked left) (isFloat (s .kind)) e .0))))
       (omega arith))))
 
   returned-few : (s : Scalar) → slotCount (returnedScalar D left s) ≤ 8
@@ -347,7 +346,7 @@ marks-it only IntegersOnly h e = refl
 marks-it only UnnamedIntegers h e = refl
 
 -- what comes back, from any call
-pub returns-eight : (d : ℕ) (left : Left) (arg : args.Arg) (ps : List Piece) → length (slotsOf (returns (described d) left arg ps .pass)) ≤ 8
+pub returns-eight : (d : ℕ) (left : Left) (arg : args.Arg) (ps : List Piece) → length (passSlots (returns (described d) left arg ps .pass)) ≤ 8
 unfolding returns
 returns-eight d left args.the-variants.Void ps = omega arith
 returns-eight d left (args.the-variants.Scalar s) ps = returned-few (described d) left s
@@ -366,14 +365,14 @@ module _ (d : ℕ) (left : Left) (fits : left .integer ≤ described d .banks .i
   wide-marked : marks (described d .variadic) ≡ true → 8 ≤ described d .banks .«integer_width»
   wide-marked = wide (described d) (and-right (fewArguments (described d)) (fewScalars (described d)) rest-few)
 
-  pub argument-eight : length (slotsOf (argument (described d) left arg ps .pass)) ≤ 8
+  pub argument-eight : length (passSlots (argument (described d) left arg ps .pass)) ≤ 8
   argument-eight =
       argument-few (described d) left arguments-few fits
       (λ e. wide-marked (marks-it (marked left) (described d .variadic) mark e)) arg ps h
 
-  pub dots-eight : length (slotsOf (variadicArgument (described d) left arg ps .pass)) ≤ 8
+  pub variadic-argument-eight : length (passSlots (variadicArgument (described d) left arg ps .pass)) ≤ 8
   unfolding variadicArgument
-  dots-eight = go (described d .variadic) refl
+  variadic-argument-eight = go (described d .variadic) refl
     where
       go : (v : Variadic) → described d .variadic ≡ v → slotCount (variadicBy v (described d) left arg ps) ≤ 8
       go SameAsFixed e = argument-eight
@@ -392,9 +391,9 @@ small-arg (args.the-variants.Scalar s) ws e = fits s e .size≤
 small-arg (args.the-variants.Aggregate shape) ws e = tt
 
 pub record Eight (c : Call) (arg : args.Arg) (ps : List Piece) : Type 0 where
-  pub returned : length (slotsOf (returns (described (c .abi)) (c .left) arg ps .pass)) ≤ 8
-  pub passed-on : length (slotsOf (argument (described (c .abi)) (c .left) arg ps .pass)) ≤ 8
-  pub after-dots : length (slotsOf (variadicArgument (described (c .abi)) (c .left) arg ps .pass)) ≤ 8
+  pub returned : length (passSlots (returns (described (c .abi)) (c .left) arg ps .pass)) ≤ 8
+  pub passed-on : length (passSlots (argument (described (c .abi)) (c .left) arg ps .pass)) ≤ 8
+  pub variadic-argument : length (passSlots (variadicArgument (described (c .abi)) (c .left) arg ps .pass)) ≤ 8
 
 pub eight : (c : Call) (arg : args.Arg) (ws : List ℕ) → refusalOf c arg ws ≡ accepted → Eight c arg (piecesOf ws)
 unfolding refusalOf refusalBy checked
@@ -405,5 +404,5 @@ eight c arg ws e =
     record {
       returned = returns-eight (c .abi) (c .left) arg (piecesOf ws);
       passed-on = argument-eight (c .abi) (c .left) (s .integers) (s .mark-used) arg (piecesOf ws) h;
-      after-dots = dots-eight (c .abi) (c .left) (s .integers) (s .mark-used) arg (piecesOf ws) h;
+      variadic-argument = variadic-argument-eight (c .abi) (c .left) (s .integers) (s .mark-used) arg (piecesOf ws) h;
     }

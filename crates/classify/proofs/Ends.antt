@@ -1,5 +1,5 @@
 -- A rule that decides never leaves the walk: it matches any shape with no slot, and never says to try the next rule, since where it falls short it
--- stays. Assumes nothing.
+-- stays.
 use Prim.Native.Nat.{ℕ}
 use mathlib.Core.Path.{_≡_, refl}
 use mathlib.Core.Bool.{Bool, true, false, _&&_, cond}
@@ -19,13 +19,13 @@ use Rattle.describe.specs.declared.Short as shorts
 use Rattle.describe.specs.declared.ReturnPointer.{ReturnPointer}
 use Rattle.describe.specs.Description.{Decides}
 use Rattle.spend.specs.declared.Left.{Left}
-use Rattle.spend.specs.declared.Slots.{Slots}
+use Rattle.spend.specs.declared.Wanted.{Wanted}
 use Rattle.spend.specs.declared.Decision.{Decision}
 use Rattle.spend.specs.declared.Step.{Step}
 use Rattle.spend.specs.declared.Step.the-variants.{Decided, TryNextRule}
 use Rattle.spend.specs.Ways as made
 use Rattle.spend.specs.Spending.{integerCost, floatCost, whenShort, inSlots, travelBy, travelOf}
-use Rattle.search.specs.Matches.{matches}
+use Rattle.find.specs.Matches.{matches}
 
 pub decides-found : (B : Banks) (rule : Rule) (shape : Shape) (ps : List Piece) → Decides rule → matches B (rule .when) shape ps ≡ found []
 unfolding matches
@@ -34,7 +34,7 @@ decides-found B rule shape ps h = rw (h .anything)
 decided : (d : Decision) → Decided d ≡ TryNextRule → ⊥
 decided d e = let z : _≡_ {A = ℕ} 0 1 = cc in omega arith
 
-module _ (left : Left) (slots : Slots) where
+module _ (left : Left) (slots : Wanted) where
   short-stays : (short : Short) (i f : ℕ) → (short ≡ shorts.the-variants.TryNextRule → ⊥) → whenShort short left slots i f ≡ TryNextRule → ⊥
   unfolding whenShort
   short-stays Unchanged i f h e = decided _ e
@@ -47,14 +47,14 @@ module _ (left : Left) (slots : Slots) where
   slots-stay shared returning short h e =
       let i : ℕ = integerCost shared (slots .count) (slots .floats) in
       let f : ℕ = floatCost shared (slots .floats) in
-      go returning (leb i (left .integer) && leb f (left .float)) (made.piecesOf slots made.nothing) (made.piecesOf slots (made.spends 0 i 0 f)) _ (short-stays short i f h) e
+      go returning (leb i (left .integer) && leb f (left .float)) (made.inPieces slots made.nothing) (made.inPieces slots (made.spends 0 i 0 f)) _ (short-stays short i f h) e
     where
       go : (b c : Bool) (d d′ : Decision) (s : Step) → (s ≡ TryNextRule → ⊥) → cond b (Decided d) (cond c (Decided d′) s) ≡ TryNextRule → ⊥
       go true c d d′ s k x = decided _ x
       go false true d d′ s k x = decided _ x
       go false false d d′ s k x = k x
 
-pub decides-step : (B : Banks) (pointer : ReturnPointer) (returning : Bool) (left : Left) (rule : Rule) (size : ℕ) (slots : Slots) → Decides rule
+pub decides-step : (B : Banks) (pointer : ReturnPointer) (returning : Bool) (left : Left) (rule : Rule) (size : ℕ) (slots : Wanted) → Decides rule
     → travelOf B pointer returning left rule size slots ≡ TryNextRule → ⊥
 unfolding travelOf
 decides-step B pointer returning left rule size slots h e = go (rule .then) e

@@ -1,6 +1,6 @@
--- The laws of the operations: what decides a value, and from there to the answer and the buffer that are promised. Assumes nothing.
+-- The laws of the operations: what decides a value, and from there to the answer and the buffer that are promised.
 use Prim.Native.Nat.{ℕ, zero, suc, _-_, _/_, _≤_, _<_}
-use mathlib.Core.Path.{_≡_, refl, ap, sym, _∙_}
+use mathlib.Core.Path.{_≡_, refl, _∙_}
 use mathlib.Core.List.{List, []}
 use mathlib.Core.Bool.{Bool, true, false, _&&_, _||_, not, cond}
 use native.Mathlib.Omega.{arith}
@@ -19,7 +19,7 @@ use Rattle.slots.specs.Words.{slotSize, written}
 use Rattle.describe.specs.declared.Banks.{Banks}
 use Rattle.describe.specs.declared.Dots.{Dots}
 use Rattle.describe.specs.declared.Rule.{Rule}
-use Rattle.describe.specs.declared.Rules.{Rules}
+use Rattle.rows.specs.declared.Rules.{Rules}
 use Rattle.describe.specs.declared.Scalars.{Scalars}
 use Rattle.describe.specs.declared.Terms.{Terms}
 use Rattle.describe.specs.declared.ReturnPointer.{ReturnPointer}
@@ -28,7 +28,7 @@ use Rattle.describe.specs.declared.Variadic.{Variadic}
 use Rattle.describe.specs.declared.Variadic.the-variants.{SameAsFixed, AlwaysMemory, BothBanks, IntegersOnly, UnnamedIntegers}
 use Rattle.describe.specs.Description.{Description, termsOf, Ends}
 use Rattle.describe.specs.Dots.{dotsOf, asFixed}
-use Rattle.describe.specs.Row.{packed, listed}
+use Rattle.rows.specs.Row.{listed}
 use Rattle.describe.specs.Questions.{isByReference, returnsByReference}
 use Rattle.abis.specs.declared.Brief.{Brief}
 use Rattle.abis.specs.Abis.{described}
@@ -42,10 +42,10 @@ use Rattle.spend.specs.declared.Decision.{Decision}
 use Rattle.spend.specs.Ways as made
 use Rattle.spend.specs.Ways.{marked, withMark}
 use Rattle.spend.specs.Spending.{wantOf, byPointer}
-use Rattle.scalars.specs.Spending.{skipOf, integerArgument, inRegisters, scalarArgument, scalarReturn}
-use Rattle.search.specs.Searched.{noClasses}
-use Rattle.writing.specs.Slots.{slotsIn, slotsInScalar}
-use Rattle.writing.proofs.Writing.{nothing-written}
+use Rattle.spend_scalar.specs.Spending.{skipOf, integerArgument, scalarInRegisters, scalarArgument, scalarReturn}
+use Rattle.find.specs.Matches.{noClasses}
+use Rattle.slot_writing.specs.Sources.{sourceSlots, scalarSlots}
+use Rattle.slot_writing.proofs.Writing.{nothing-written}
 use Rattle.classify.specs.declared.Call.{Call}
 use Rattle.classify.specs.declared.Answer.{Answer}
 use Rattle.classify.specs.declared.Decided.{Decided}
@@ -53,11 +53,11 @@ use Rattle.classify.specs.Pass as pass
 use Rattle.classify.specs.Classify as rust
 use Rattle.classify.specs.Classify.{Passed}
 use Rattle.classify.specs.Spending as rules
-use Rattle.classify.specs.Answers.{descriptions, leftRefusal, argRefusal, checked, callRefusalBy, refusalBy, rowRefusal, roomRefusal, refused, done, orAnswer, unlessRefused, answerTo, writtenTo, Leaves, voidAnswerBy, voidAnswer, returnsAnswerBy, returnsWrittenBy, argumentAnswerBy, argumentWrittenBy, dotsAnswerBy, dotsWrittenBy, returnsAnswer, returnsWritten, argumentAnswer, argumentWritten, dotsAnswer, dotsWritten, Returns, Passes, PassesAfterDots}
+use Rattle.classify.specs.Answers.{descriptions, leftRefusal, argRefusal, checked, callRefusalBy, refusalBy, rowRefusal, refused, done, orAnswer, unlessRefused, answerTo, writtenTo, Leaves, voidAnswerBy, voidAnswer, returnsAnswerBy, returnsWrittenBy, argumentAnswerBy, argumentWrittenBy, variadicArgumentAnswerBy, variadicArgumentWrittenBy, returnsAnswer, returnsWritten, argumentAnswer, argumentWritten, variadicArgumentAnswer, variadicArgumentWritten, Returns, Passes, PassesVariadic}
 use Rattle.classify.specs.Parts as parts
 use Rattle.classify.proofs.Accepted.{sound, call-checked, unmarked}
 use Rattle.classify.proofs.Steps.{row-there, row-missing, or-refused}
-use Rattle.classify.proofs.Agree.{Agrees, slotsFor, argument-agrees, returns-agrees, dots-agrees}
+use Rattle.classify.proofs.Agree.{Agrees, slotsFor, argument-agrees, returns-agrees, variadic-argument-agrees}
 
 -- ---- what decides a value
 
@@ -98,7 +98,7 @@ module _ (dots : Dots) (left : Left) where
     left-same e = rw (n, e)
 
 pub frees : (d : Decided) (spent : Spent) → spent ≡ made.nothing
-    → _≡_ {A = Decided} (record { decision = record { way = d .decision .way; slots = d .decision .slots; count = d .decision .count; spent = spent }; classes = d .classes }) (parts.freelyDecided d)
+    → _≡_ {A = Decided} (record { decision = record { way = d .decision .way; source = d .decision .source; count = d .decision .count; spent = spent }; classes = d .classes }) (parts.freelyDecided d)
 frees d spent e = rw e
 
 -- ---- what an operation reads of a row
@@ -129,7 +129,7 @@ aggregate-done T list returning dots c shape ws out r after d ed e = rw ed at e
 -- the slots of a scalar stand in no pieces and no classes
 module _ (cs : List ℕ) (ps : List Piece) where
   record Alone (d : Decision) : Type 0 where
-    same : slotsInScalar (d .slots) ≡ slotsIn (d .slots) cs ps
+    same : scalarSlots (d .source) ≡ sourceSlots (d .source) cs ps
 
   either : (b : Bool) (x y : Decision) → Alone x → Alone y → Alone (cond b x y)
   either true x y p q = p
@@ -137,7 +137,7 @@ module _ (cs : List ℕ) (ps : List Piece) where
 
   -- no slots, a size cut, or one slot
   empty : (w : ways.Way) (spent : Spent) → Alone (made.plain w spent)
-  unfolding slotsIn slotsInScalar
+  unfolding sourceSlots scalarSlots
   empty w spent = record { same = refl }
 
   integer-alone : (start : ℕ) (S : Scalars) (I want : ℕ) → Alone (integerArgument start S I want)
@@ -148,15 +148,15 @@ module _ (cs : List ℕ) (ps : List Piece) where
       (either (leb want (I - skipOf (S .«wide_integer_starts_even») (start - I) I)) _ _ (empty _ _) (either (S .«wide_integer_drains») _ _ (empty _ _) (empty _ _)))
       (empty _ _))
 
-  registers-alone : (B : Banks) (S : Scalars) (left : Left) (s : Scalar) (want : ℕ) → Alone (inRegisters B S left s want)
-  unfolding inRegisters
+  registers-alone : (B : Banks) (S : Scalars) (left : Left) (s : Scalar) (want : ℕ) → Alone (scalarInRegisters B S left s want)
+  unfolding scalarInRegisters
   registers-alone B S left s want =
       either (B .shared) _ _ (empty _ _)
       (either (isFloat (s .kind) && leb (s .size) (B .«float_width»)) _ _ (empty _ _)
       (either (isFloat (s .kind)) _ _ (empty _ _) (integer-alone (B .integer) S (left .integer) want)))
 
   argument-alone : (B : Banks) (S : Scalars) (left : Left) (s : Scalar) → Alone (scalarArgument B S left s)
-  unfolding scalarArgument slotsIn slotsInScalar
+  unfolding scalarArgument sourceSlots scalarSlots
   argument-alone B S left s =
       let want : ℕ = wantOf (s .size) (B .«integer_width») in
       either (isByReference S (s .size)) _ _ (empty _ _)
@@ -170,7 +170,7 @@ module _ (cs : List ℕ) (ps : List Piece) where
   pointer-alone Dedicated I = empty _ _
 
   return-alone : (S : Scalars) (p : ReturnPointer) (left : Left) (s : Scalar) → Alone (scalarReturn S p left s)
-  unfolding scalarReturn slotsIn slotsInScalar
+  unfolding scalarReturn sourceSlots scalarSlots
   return-alone S p left s =
       either (not (returnsByReference S (s .size))) _ _ (empty _ _)
       (either (eqb (s .kind) integer && not (eqb (S .«wide_integer_returns_in») integer)) _ _ (record { same = refl }) (pointer-alone p (left .integer)))
@@ -202,41 +202,41 @@ kept : (k : ℕ) (new out : List ℕ) → (k ≡ accepted → ⊥) → out ≡ u
 kept zero new out h = absurd (h refl)
 kept (suc k) new out h = refl
 
-module _ (returning after-dots : Bool) (c : Call) (arg : args.Arg) (ws out : List ℕ) (r : Answer) where
-  pub row-missing-refused : descriptions ≤ c .abi → r ≡ refused c bad-abi → parts.OnRow returning after-dots c arg ws out r out
-  unfolding parts.performed parts.performedIn
+module _ (returning variadic-argument : Bool) (c : Call) (arg : args.Arg) (ws out : List ℕ) (r : Answer) where
+  pub row-missing-refused : descriptions ≤ c .abi → r ≡ refused c bad-abi → parts.OnRow returning variadic-argument c arg ws out r out
+  unfolding parts.performedBy parts.performedByIn
   row-missing-refused h er = record { answers = rw (er, row-missing (c .abi) h); writes = rw (row-missing (c .abi) h) }
 
   module _ (h : c .abi < descriptions) (b : Brief) (eb : b ≡ briefOf (described (c .abi))) (n : ℕ) (en : n ≡ checked (b .terms) (c .left) arg ws) where
     checks : n ≡ checked (termsOf (described (c .abi))) (c .left) arg ws
     checks = rw eb at en
 
-    pub row-refused : (n ≡ accepted → ⊥) → r ≡ refused c n → parts.OnRow returning after-dots c arg ws out r out
-    unfolding parts.performed parts.performedIn
+    pub row-refused : (n ≡ accepted → ⊥) → r ≡ refused c n → parts.OnRow returning variadic-argument c arg ws out r out
+    unfolding parts.performedBy parts.performedByIn
     row-refused z er = record { answers = rw (er, row-there (c .abi) h, ← checks) (or-refused n c _ z); writes = rw (row-there (c .abi) h, ← checks) (kept n _ out z) }
 
     module _ (z : n ≡ accepted) (b′ : Brief) (eb′ : b′ ≡ briefOf (described (c .abi)))
-        (dots : Dots) (ed : dots ≡ parts.dotsFor after-dots (b′ .terms .variadic)) (after : List ℕ) where
+        (dots : Dots) (ed : dots ≡ parts.dotsFor variadic-argument (b′ .terms .variadic)) (after : List ℕ) where
       by-row : (list : List Rule) → list ≡ parts.rulesFor returning (described (c .abi)) → parts.By (b′ .terms) list returning dots c arg ws out r after
-          → parts.OnRow returning after-dots c arg ws out r after
-      unfolding parts.performed parts.performedIn
+          → parts.OnRow returning variadic-argument c arg ws out r after
+      unfolding parts.performedBy parts.performedByIn
       by-row list el e =
-          let ed′ : dots ≡ parts.dotsFor after-dots (described (c .abi) .variadic) = rw eb′ at ed in
+          let ed′ : dots ≡ parts.dotsFor variadic-argument (described (c .abi) .variadic) = rw eb′ at ed in
           let e′ : parts.By (termsOf (described (c .abi))) list returning dots c arg ws out r after = rw eb′ at e in
           rw (row-there (c .abi) h, ← checks, z, ← ed′, ← el) e′
 
       pub row-aggregate : (list : Rules) → list ≡ parts.listFor returning b′ → parts.By (b′ .terms) (listed list) returning dots c arg ws out r after
-          → parts.OnRow returning after-dots c arg ws out r after
+          → parts.OnRow returning variadic-argument c arg ws out r after
       row-aggregate list el e = by-row (listed list) (list-is (c .abi) b′ eb′ returning list el) e
 
 -- a scalar's rules are no list's, and its terms are those that the checks looked at
-pub row-scalar : (returning after-dots : Bool) (c : Call) (s : Scalar) (out : List ℕ) (r : Answer) → c .abi < descriptions
+pub row-scalar : (returning variadic-argument : Bool) (c : Call) (s : Scalar) (out : List ℕ) (r : Answer) → c .abi < descriptions
     → (b : Brief) → b ≡ briefOf (described (c .abi)) → (n : ℕ) → n ≡ checked (b .terms) (c .left) (parts.scalarArg s) [] → n ≡ accepted
-    → (dots : Dots) → dots ≡ parts.dotsFor after-dots (b .terms .variadic) → (after : List ℕ)
+    → (dots : Dots) → dots ≡ parts.dotsFor variadic-argument (b .terms .variadic) → (after : List ℕ)
     → parts.By (b .terms) [] returning dots c (parts.scalarArg s) [] out r after
-    → parts.OnRow returning after-dots c (parts.scalarArg s) [] out r after
-row-scalar returning after-dots c s out r h b eb n en z dots ed after e =
-    by-row returning after-dots c (parts.scalarArg s) [] out r h b eb n en z b eb dots ed after (parts.rulesFor returning (described (c .abi))) refl e
+    → parts.OnRow returning variadic-argument c (parts.scalarArg s) [] out r after
+row-scalar returning variadic-argument c s out r h b eb n en z dots ed after e =
+    by-row returning variadic-argument c (parts.scalarArg s) [] out r h b eb n en z b eb dots ed after (parts.rulesFor returning (described (c .abi))) refl e
 
 -- ---- what decides a value comes to what is promised, where the rules agree with the Rust
 
@@ -262,29 +262,29 @@ module _ (source : ℕ) (D : Description) (c : Call) (arg : args.Arg) (ws out : 
       go (suc n) e = refl
 
 module _ (source : ℕ) (D : Description) (c : Call) (arg : args.Arg) (ws out : List ℕ) (r : Answer) (after : List ℕ) where
-  pub returns-by : Leaves (parts.performed source (termsOf D) (D .returns) true asFixed c arg ws out) (parts.performedIn source (termsOf D) (D .returns) true asFixed c arg ws out) r after
+  pub returns-by : Leaves (parts.performedBy source (termsOf D) (D .returns) true asFixed c arg ws out) (parts.performedByIn source (termsOf D) (D .returns) true asFixed c arg ws out) r after
       → Leaves (returnsAnswerBy source D c arg ws out) (returnsWrittenBy source D c arg ws out) r after
-  unfolding returnsAnswerBy returnsWrittenBy refusalBy rules.returnChoice parts.performed parts.performedIn
+  unfolding returnsAnswerBy returnsWrittenBy refusalBy rules.returnChoice parts.performedBy parts.performedByIn
   returns-by e =
       let k = returns-agrees D (c .left) arg (piecesOf ws) in
       record { answers = e .answers ∙ answer-is source D c arg ws out _ _ (λ _. k); writes = e .writes ∙ words-are source D c arg ws out _ _ (λ _. k) }
 
-  pub argument-by : Leaves (parts.performed source (termsOf D) (D .arguments) false asFixed c arg ws out) (parts.performedIn source (termsOf D) (D .arguments) false asFixed c arg ws out) r after
+  pub argument-by : Leaves (parts.performedBy source (termsOf D) (D .arguments) false asFixed c arg ws out) (parts.performedByIn source (termsOf D) (D .arguments) false asFixed c arg ws out) r after
       → Leaves (argumentAnswerBy source D c arg ws out) (argumentWrittenBy source D c arg ws out) r after
-  unfolding argumentAnswerBy argumentWrittenBy refusalBy rules.argumentChoice parts.performed parts.performedIn
+  unfolding argumentAnswerBy argumentWrittenBy refusalBy rules.argumentChoice parts.performedBy parts.performedByIn
   argument-by e =
       let k = argument-agrees D (c .left) arg (piecesOf ws) in
       record { answers = e .answers ∙ answer-is source D c arg ws out _ _ (λ _. k); writes = e .writes ∙ words-are source D c arg ws out _ _ (λ _. k) }
 
   agreed : refusalBy source D c arg ws ≡ accepted
-      → Agrees (c .left) (rust.variadicArgument D (c .left) arg (piecesOf ws)) (rules.dotsChoice D (c .left) arg (piecesOf ws) .decision)
-      (slotsFor (rules.dotsChoice D (c .left) arg (piecesOf ws)) arg (piecesOf ws))
-  agreed z = dots-agrees D (c .left) arg (piecesOf ws) (λ e. unmarked D c (sound source D c (call-checked source D c arg ws z) .1) (rw e))
+      → Agrees (c .left) (rust.variadicArgument D (c .left) arg (piecesOf ws)) (rules.variadicArgumentChoice D (c .left) arg (piecesOf ws) .decision)
+      (slotsFor (rules.variadicArgumentChoice D (c .left) arg (piecesOf ws)) arg (piecesOf ws))
+  agreed z = variadic-argument-agrees D (c .left) arg (piecesOf ws) (λ e. unmarked D c (sound source D c (call-checked source D c arg ws z) .1) (rw e))
 
-  pub dots-by : Leaves (parts.performed source (termsOf D) (D .arguments) false (dotsOf (D .variadic)) c arg ws out) (parts.performedIn source (termsOf D) (D .arguments) false (dotsOf (D .variadic)) c arg ws out) r after
-      → Leaves (dotsAnswerBy source D c arg ws out) (dotsWrittenBy source D c arg ws out) r after
-  unfolding dotsAnswerBy dotsWrittenBy refusalBy rules.dotsChoice parts.performed parts.performedIn
-  dots-by e =
+  pub variadic-argument-by : Leaves (parts.performedBy source (termsOf D) (D .arguments) false (dotsOf (D .variadic)) c arg ws out) (parts.performedByIn source (termsOf D) (D .arguments) false (dotsOf (D .variadic)) c arg ws out) r after
+      → Leaves (variadicArgumentAnswerBy source D c arg ws out) (variadicArgumentWrittenBy source D c arg ws out) r after
+  unfolding variadicArgumentAnswerBy variadicArgumentWrittenBy refusalBy rules.variadicArgumentChoice parts.performedBy parts.performedByIn
+  variadic-argument-by e =
       record { answers = e .answers ∙ answer-is source D c arg ws out _ _ agreed; writes = e .writes ∙ words-are source D c arg ws out _ _ agreed }
 
 -- ---- the operations of a call on a row
@@ -298,9 +298,9 @@ module _ (c : Call) (arg : args.Arg) (ws out : List ℕ) (r : Answer) (after : L
   unfolding argumentAnswer argumentWritten
   argument-row e = argument-by (rowRefusal (c .abi)) (described (c .abi)) c arg ws out r after e
 
-  pub dots-row : parts.OnRow false true c arg ws out r after → PassesAfterDots c arg ws out r after
-  unfolding dotsAnswer dotsWritten
-  dots-row e = dots-by (rowRefusal (c .abi)) (described (c .abi)) c arg ws out r after e
+  pub variadic-argument-row : parts.OnRow false true c arg ws out r after → PassesVariadic c arg ws out r after
+  unfolding variadicArgumentAnswer variadicArgumentWritten
+  variadic-argument-row e = variadic-argument-by (rowRefusal (c .abi)) (described (c .abi)) c arg ws out r after e
 
 -- ---- the operations, by what is asked about
 
@@ -313,15 +313,15 @@ module _ (source : ℕ) (T : Terms) (list : List Rule) (returning : Bool) (dots 
   no-slots : ltb (length out / slotSize) 0 ≡ false
   no-slots = le-ltb (length out / slotSize) 0 (omega arith)
 
-  void-performed : orAnswer (orElse source (leftRefusal T (c .left))) c (done c) ≡ parts.performed source T list returning dots c args.the-variants.Void ws out
-  unfolding parts.performed parts.finished checked argRefusal
+  void-performed : orAnswer (orElse source (leftRefusal T (c .left))) c (done c) ≡ parts.performedBy source T list returning dots c args.the-variants.Void ws out
+  unfolding parts.performedBy parts.finished checked argRefusal
   void-performed =
       let i : c .left .integer - 0 - 0 ≡ c .left .integer = omega arith in
       let f : c .left .float - 0 - 0 ≡ c .left .float = omega arith in
       rw (or-accepted, no-slots, i, f)
 
-  void-kept : out ≡ parts.performedIn source T list returning dots c args.the-variants.Void ws out
-  unfolding parts.performedIn parts.finishedIn slotsIn checked argRefusal
+  void-kept : out ≡ parts.performedByIn source T list returning dots c args.the-variants.Void ws out
+  unfolding parts.performedByIn parts.finishedIn sourceSlots checked argRefusal
   void-kept = rw (or-accepted, no-slots) (same (orElse source (leftRefusal T (c .left))))
     where
       same : (n : ℕ) → out ≡ unlessRefused n (written [] out) out
@@ -330,9 +330,9 @@ module _ (source : ℕ) (T : Terms) (list : List Rule) (returning : Bool) (dots 
 
 module _ (c : Call) (arg : args.Arg) (ws out : List ℕ) (r : Answer) where
   module _ (e : arg ≡ args.the-variants.Void) (er : r ≡ voidAnswer c) where
-    void-row : (returning after-dots : Bool) → parts.OnRow returning after-dots c args.the-variants.Void ws out r out
+    void-row : (returning variadic-argument : Bool) → parts.OnRow returning variadic-argument c args.the-variants.Void ws out r out
     unfolding voidAnswer voidAnswerBy callRefusalBy
-    void-row returning after-dots = record { answers = er ∙ void-performed _ _ _ returning _ c ws out; writes = void-kept _ _ _ returning _ c ws out }
+    void-row returning variadic-argument = record { answers = er ∙ void-performed _ _ _ returning _ c ws out; writes = void-kept _ _ _ returning _ c ws out }
 
     pub returns-void : Returns c arg ws out r out
     returns-void = rw e (returns-row c args.the-variants.Void ws out r out (void-row true false))
@@ -340,8 +340,8 @@ module _ (c : Call) (arg : args.Arg) (ws out : List ℕ) (r : Answer) where
     pub argument-void : Passes c arg ws out r out
     argument-void = rw e (argument-row c args.the-variants.Void ws out r out (void-row false false))
 
-    pub dots-void : PassesAfterDots c arg ws out r out
-    dots-void = rw e (dots-row c args.the-variants.Void ws out r out (void-row false true))
+    pub variadic-argument-void : PassesVariadic c arg ws out r out
+    variadic-argument-void = rw e (variadic-argument-row c args.the-variants.Void ws out r out (void-row false true))
 
   -- a scalar has no pieces
   module _ (s : Scalar) (e : arg ≡ args.the-variants.Scalar s) (after : List ℕ) where
@@ -353,9 +353,9 @@ module _ (c : Call) (arg : args.Arg) (ws out : List ℕ) (r : Answer) where
     unfolding argumentAnswer argumentWritten argumentAnswerBy argumentWrittenBy refusalBy checked argRefusal rust.argument rules.argumentChoice
     argument-scalar k = rw e k
 
-    pub dots-scalar : PassesAfterDots c (parts.scalarArg s) [] out r after → PassesAfterDots c arg ws out r after
-    unfolding dotsAnswer dotsWritten dotsAnswerBy dotsWrittenBy refusalBy checked argRefusal rust.argument rust.variadicArgument rules.dotsChoice
-    dots-scalar k = rw (e, wordless (described (c .abi) .variadic) (described (c .abi)) (c .left)) k
+    pub variadic-argument-scalar : PassesVariadic c (parts.scalarArg s) [] out r after → PassesVariadic c arg ws out r after
+    unfolding variadicArgumentAnswer variadicArgumentWritten variadicArgumentAnswerBy variadicArgumentWrittenBy refusalBy checked argRefusal rust.argument rust.variadicArgument rules.variadicArgumentChoice
+    variadic-argument-scalar k = rw (e, wordless (described (c .abi) .variadic) (described (c .abi)) (c .left)) k
       where
         wordless : (v : Variadic) (D : Description) (left : Left)
             → rust.variadicBy v D left (args.the-variants.Scalar s) (piecesOf ws) ≡ rust.variadicBy v D left (args.the-variants.Scalar s) (piecesOf [])
@@ -372,5 +372,5 @@ module _ (c : Call) (arg : args.Arg) (ws out : List ℕ) (r : Answer) where
     pub argument-aggregate : Passes c (parts.aggregateArg shape) ws out r after → Passes c arg ws out r after
     argument-aggregate k = rw e k
 
-    pub dots-aggregate : PassesAfterDots c (parts.aggregateArg shape) ws out r after → PassesAfterDots c arg ws out r after
-    dots-aggregate k = rw e k
+    pub variadic-argument-aggregate : PassesVariadic c (parts.aggregateArg shape) ws out r after → PassesVariadic c arg ws out r after
+    variadic-argument-aggregate k = rw e k

@@ -1,4 +1,4 @@
--- The slots that a test found are those that stand where its source says: each piece's, those of the classes, or none. Assumes nothing.
+-- The slots that a test found are those that stand where its source says: each piece's, those of the classes, or none.
 use Prim.Native.Nat.{ℕ, zero, suc, _+_, max}
 use mathlib.Core.Path.{_≡_, refl, sym}
 use mathlib.Core.List.{List, [], _∷_, _++_}
@@ -15,9 +15,8 @@ use Rattle.describe.specs.declared.Test.the-variants.{Anything, Empty, SizeOneO
 use Rattle.find.specs.Find.{foundIf}
 use Rattle.find.proofs.Finds.{homogeneous-slots, pair-slots, x87-slots, lone-slots, mode-slots, complex-slots}
 use Rattle.eightbytes.proofs.Found.{answer}
-use Rattle.search.specs.Matches.{matches, sourceOf}
-use Rattle.search.specs.Searched.{classesBy}
-use Rattle.writing.specs.Slots.{slotsIn}
+use Rattle.find.specs.Matches.{matches, sourceOf, classesBy}
+use Rattle.slot_writing.specs.Sources.{sourceSlots}
 
 -- a test of the size alone finds no slot
 pub none-found : (b : Bool) (ss : List Slot) → foundIf b [] ≡ found ss → [] ≡ ss
@@ -26,8 +25,8 @@ none-found true ss e = cc
 none-found false ss e = cc
 
 pub source-slots : (B : Banks) (when : Test) (shape : Shape) (ps : List Piece) (ss : List Slot) → matches B when shape ps ≡ found ss
-    → slotsIn (sourceOf when (shape .size)) (classesBy when shape ps) ps ≡ ss
-unfolding matches slotsIn
+    → sourceSlots (sourceOf when (shape .size)) (classesBy when shape ps) ps ≡ ss
+unfolding matches sourceSlots
 source-slots B Anything shape ps ss e = cc
 source-slots B Empty shape ps ss e = none-found _ ss e
 source-slots B (SizeOneOf k a b c d) shape ps ss e = none-found _ ss e

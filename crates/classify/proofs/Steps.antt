@@ -1,5 +1,5 @@
 -- The laws of the parts of an operation: each way out of the code is one line of a definition. A law's premises are the tests and the callees'
--- promises as the code has them. Assumes nothing.
+-- promises as the code has them.
 use Prim.Native.Nat.{ℕ, zero, suc, _/_, _≤_, _<_}
 use mathlib.Core.Path.{_≡_, refl}
 use mathlib.Core.List.{List, []}
@@ -12,7 +12,7 @@ use Rattle.shape.specs.declared.Shape.{Shape}
 use Rattle.shape.specs.declared.Piece.{Piece}
 use Rattle.shape.specs.Numbers.{accepted, bad-abi, bad-call, no-room}
 use Rattle.shape.specs.Words.{piecesOf}
-use Rattle.checks.specs.Check.{orElse, scalarRefusal, shapeRefusal}
+use Rattle.checks.specs.Check.{scalarRefusal, shapeRefusal}
 use Rattle.checks.proofs.Check.{else-first}
 use Rattle.slots.specs.Words.{slotSize, written}
 use Rattle.describe.specs.declared.Dots.{Dots}
@@ -21,7 +21,7 @@ use Rattle.describe.specs.declared.Variadic.{Variadic}
 use Rattle.describe.specs.declared.Variadic.the-variants.{SameAsFixed, AlwaysMemory, BothBanks, IntegersOnly, UnnamedIntegers}
 use Rattle.describe.specs.Description.{termsOf}
 use Rattle.describe.specs.Dots.{dotsOf}
-use Rattle.describe.specs.Row.{listed}
+use Rattle.rows.specs.Row.{listed}
 use Rattle.abis.specs.declared.Brief.{Brief}
 use Rattle.abis.specs.Abis.{described}
 use Rattle.abis.specs.Brief.{briefOf}
@@ -31,14 +31,14 @@ use Rattle.spend.specs.declared.Decision.{Decision}
 use Rattle.spend.specs.declared.Spent.{Spent}
 use Rattle.spend.specs.declared.Way.the-variants.{Ignore}
 use Rattle.spend.specs.Ways.{nothing, no-mark, withMark, wayNumber, leftAfter}
-use Rattle.writing.specs.Slots.{slotsIn, slotsInScalar}
-use Rattle.memory.specs.InMemory.{inMemoryBy}
+use Rattle.slot_writing.specs.Sources.{sourceSlots, scalarSlots}
+use Rattle.stack_align.specs.InMemory.{inMemoryBy}
 use Rattle.classify.specs.declared.Call.{Call}
 use Rattle.classify.specs.declared.Answer.{Answer}
 use Rattle.classify.specs.declared.InMemory.{InMemory}
 use Rattle.classify.specs.declared.Decided.{Decided}
 use Rattle.classify.specs.Classify.{isIntegersOnly}
-use Rattle.classify.specs.Answers.{descriptions, callWith, unmarked, answered, leftRefusal, argRefusal, checked, callRefusalBy, refusalBy, rowRefusal, refused, done, orAnswer, unlessRefused, Leaves, freshAnswer, variadicAnswerBy, variadicAnswer, voidAnswerBy, voidAnswer, orAlign, inMemoryAnswerBy, inMemoryAnswer}
+use Rattle.classify.specs.Answers.{descriptions, callWith, unmarked, leftRefusal, argRefusal, checked, callRefusalBy, refusalBy, rowRefusal, refused, done, orAnswer, freshAnswer, variadicAnswerBy, variadicAnswer, voidAnswerBy, voidAnswer, orAlign, inMemoryAnswerBy, inMemoryAnswer}
 use Rattle.classify.specs.Parts as parts
 
 -- ---- a row
@@ -156,7 +156,7 @@ pub refuses : (c : Call) (n way : ℕ) → way ≡ wayNumber Ignore → (spent :
 refuses c n way ew spent es = rw (ew, es)
 
 pub accepts : (c : Call) (d : Decision) (left : Left) → left ≡ leftAfter (c .left) (d .spent) → (way : ℕ) → way ≡ wayNumber (d .way) → (spent : Spent) → spent ≡ d .spent
-    → _≡_ {A = Answer} (record { next = callWith (c .abi) left; outcome = record { refusal = accepted; way = way; spent = spent; slots = d .count } }) (parts.accepted c d)
+    → _≡_ {A = Answer} (record { next = callWith (c .abi) left; outcome = record { refusal = accepted; way = way; spent = spent; slots = d .count } }) (parts.acceptedBy c d)
 accepts c d left el way ew spent es = rw (el, ew, es)
 
 module _ (out : List ℕ) (room : ℕ) (er : room ≡ length out / slotSize) (c : Call) (r : Answer) where
@@ -165,7 +165,7 @@ module _ (out : List ℕ) (room : ℕ) (er : room ≡ length out / slotSize) (c 
     unfolding parts.finished parts.finishedScalarIn
     scalar-short h e = record { answers = rw (e, ← er, lt-ltb _ _ h); writes = rw (← er, lt-ltb _ _ h) }
 
-    pub scalar-fits : d .count ≤ room → r ≡ parts.accepted c d → (after : List ℕ) → after ≡ written (slotsInScalar (d .slots)) out → parts.FinishesScalar c d out r after
+    pub scalar-fits : d .count ≤ room → r ≡ parts.acceptedBy c d → (after : List ℕ) → after ≡ written (scalarSlots (d .source)) out → parts.FinishesScalar c d out r after
     unfolding parts.finished parts.finishedScalarIn
     scalar-fits h e after ew = record { answers = rw (e, ← er, le-ltb _ _ h); writes = rw (ew, ← er, le-ltb _ _ h) }
 
@@ -174,7 +174,7 @@ module _ (out : List ℕ) (room : ℕ) (er : room ≡ length out / slotSize) (c 
     unfolding parts.finished parts.finishedIn
     slots-short h e = record { answers = rw (e, ← er, lt-ltb _ _ h); writes = rw (← er, lt-ltb _ _ h) }
 
-    pub slots-fit : d .decision .count ≤ room → r ≡ parts.accepted c (d .decision) → (after : List ℕ) → after ≡ written (slotsIn (d .decision .slots) (d .classes) ps) out
+    pub slots-fit : d .decision .count ≤ room → r ≡ parts.acceptedBy c (d .decision) → (after : List ℕ) → after ≡ written (sourceSlots (d .decision .source) (d .classes) ps) out
         → parts.Finishes c d ps out r after
     unfolding parts.finished parts.finishedIn
     slots-fit h e after ew = record { answers = rw (e, ← er, le-ltb _ _ h); writes = rw (ew, ← er, le-ltb _ _ h) }

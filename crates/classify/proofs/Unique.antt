@@ -1,4 +1,4 @@
--- No second answer, and no other words in the lent slot buffer, meet the promise of a public function. Assumes nothing.
+-- No second answer, and no other words in the lent slot buffer, meet the promise of a public function.
 use mathlib.Core.Path.{sym, _∙_}
 use contract.Lifetimes.{Lfts}
 use denote.Ref.{now}

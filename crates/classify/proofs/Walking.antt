@@ -1,5 +1,5 @@
 -- The laws of the rule walk: what one rule's search and step decide of the list from there on, and that a rule that doesn't decide leaves
--- others behind it. Assumes nothing.
+-- others behind it.
 use Prim.Native.Nat.{ℕ, _<_}
 use mathlib.Core.Path.{_≡_, refl, ap, sym, _∙_}
 use mathlib.Core.List.{List, [], _∷_}
@@ -14,21 +14,20 @@ use Rattle.slots.specs.declared.Found as founds
 use Rattle.slots.specs.Search.{Search, found, nothing, foundOf, floatsIn}
 use Rattle.describe.specs.declared.Rule.{Rule}
 use Rattle.describe.specs.declared.Test.{Test}
-use Rattle.describe.specs.declared.Rules.{Rules}
+use Rattle.rows.specs.declared.Rules.{Rules}
 use Rattle.describe.specs.declared.Terms.{Terms}
 use Rattle.describe.specs.Description.{Decides, Ends}
-use Rattle.describe.specs.Row.{firstRule, laterRules, listed}
-use Rattle.rules.proofs.Packed.{later-less, listed-none, listed-next, ends-later}
+use Rattle.rows.specs.Row.{firstRule, laterRules, listed}
+use Rattle.rows.proofs.Packed.{later-less, listed-none, listed-next, ends-later}
 use Rattle.spend.specs.declared.Left.{Left}
 use Rattle.spend.specs.declared.Decision.{Decision}
 use Rattle.spend.specs.declared.Step as steps
 use Rattle.spend.specs.Ways.{marked}
 use Rattle.spend.specs.Spending.{travelOf}
-use Rattle.search.specs.declared.Searched.{Searched}
-use Rattle.search.specs.Matches.{matches, sourceOf}
-use Rattle.search.specs.Searched.{classesBy, searchedBy}
+use Rattle.find.specs.declared.Matched.{Matched}
+use Rattle.find.specs.Matches.{matches, sourceOf, classesBy, matchedBy}
 use Rattle.classify.specs.declared.Decided.{Decided}
-use Rattle.classify.specs.Spending.{slotsOf, aggregate}
+use Rattle.classify.specs.Spending.{wantedBy, byRules}
 use Rattle.classify.specs.Parts.{decided, walked}
 use Rattle.classify.proofs.Ends.{decides-found, decides-step}
 
@@ -64,27 +63,27 @@ no-float false t = let z : _≡_ {A = ℕ} 0 1 = cc in omega arith
 module _ (T : Terms) (returning : Bool) (left : Left) (shape : Shape) (ps : List Piece) (rule : Rule) (rest : List Rule) where
   step-nothing : matches (T .banks) (rule .when) shape ps ≡ nothing
       → walked T returning left (rule ∷ rest) shape ps ≡ walked T returning left rest shape ps
-  unfolding walked aggregate
+  unfolding walked byRules
   step-nothing e = rw e
 
   module _ (ss : List Slot) (e : matches (T .banks) (rule .when) shape ps ≡ found ss) where
     step-skipped : skipped left returning (floatsIn ss) ≡ true → walked T returning left (rule ∷ rest) shape ps ≡ walked T returning left rest shape ps
-    unfolding walked aggregate
+    unfolding walked byRules
     step-skipped h = rw (e, h)
 
     module _ (h : skipped left returning (floatsIn ss) ≡ false) where
-      step-short : travelOf (T .banks) (T .«return_pointer») returning left rule (shape .size) (slotsOf (rule .when) (shape .size) ss) ≡ steps.the-variants.TryNextRule
+      step-short : travelOf (T .banks) (T .«return_pointer») returning left rule (shape .size) (wantedBy (rule .when) (shape .size) ss) ≡ steps.the-variants.TryNextRule
           → walked T returning left (rule ∷ rest) shape ps ≡ walked T returning left rest shape ps
-      unfolding walked aggregate
+      unfolding walked byRules
       step-short t = rw (e, h, t)
 
       step-decided : (d : Decision)
-          → travelOf (T .banks) (T .«return_pointer») returning left rule (shape .size) (slotsOf (rule .when) (shape .size) ss) ≡ steps.the-variants.Decided d
+          → travelOf (T .banks) (T .«return_pointer») returning left rule (shape .size) (wantedBy (rule .when) (shape .size) ss) ≡ steps.the-variants.Decided d
           → walked T returning left (rule ∷ rest) shape ps ≡ decided d (classesBy (rule .when) shape ps)
-      unfolding walked aggregate
+      unfolding walked byRules
       step-decided d t = rw (e, h, t)
 
--- ---- the loop of `walk`, with what the code knows as premises
+-- ---- the loop of `apply`, with what the code knows as premises
 
 -- the rules that are left end with one that decides, and decide what the whole list decides
 pub record Remaining (T : Terms) (list : Rules) (returning : Bool) (left : Left) (shape : Shape) (ps : List Piece) (R : Rules) : Type 0 where
@@ -101,11 +100,11 @@ some-left R ends e = let z = (rw (listed-none R e) at ends) .some in omega arith
 
 module _ (T : Terms) (list : Rules) (returning : Bool) (left : Left) (shape : Shape) (ps : List Piece)
     (R : Rules) (inv : Remaining T list returning left shape ps R)
-    (R′ : Rules) (er : R′ ≡ laterRules R) (when : Test) (ew : when ≡ firstRule R .when) (s : Searched) (esw : s ≡ searchedBy (T .banks) when shape ps) where
+    (R′ : Rules) (er : R′ ≡ laterRules R) (when : Test) (ew : when ≡ firstRule R .when) (s : Matched) (esw : s ≡ matchedBy (T .banks) when shape ps) where
   abbrev rule : Rule
   rule = firstRule R
 
-  es : s ≡ searchedBy (T .banks) (rule .when) shape ps
+  es : s ≡ matchedBy (T .banks) (rule .when) shape ps
   es = rw (← ew) esw
 
   next : listed R ≡ rule ∷ listed R′
@@ -123,16 +122,16 @@ module _ (T : Terms) (list : Rules) (returning : Bool) (left : Left) (shape : Sh
   goes-on n w = record { ends = ends-later rule (listed R′) (rw next at (inv .ends)) n; decide = opened ∙ w }
 
   found-is : s .found ≡ foundOf (matches (T .banks) (rule .when) shape ps)
-  unfolding searchedBy
+  unfolding matchedBy
   found-is = rw es
 
   source-is : s .source ≡ sourceOf (rule .when) (shape .size)
-  unfolding searchedBy
-  source-is = ap (λ (x : Searched). x .source) es
+  unfolding matchedBy
+  source-is = ap (λ (x : Matched). x .source) es
 
   classes-are : s .classes ≡ classesBy (rule .when) shape ps
-  unfolding searchedBy
-  classes-are = ap (λ (x : Searched). x .classes) es
+  unfolding matchedBy
+  classes-are = ap (λ (x : Matched). x .classes) es
 
   module _ (e : s .found ≡ founds.the-variants.Nothing) where
     none : matches (T .banks) (rule .when) shape ps ≡ nothing
@@ -163,7 +162,7 @@ module _ (T : Terms) (list : Rules) (returning : Bool) (left : Left) (shape : Sh
       kept : skipped left returning (floatsIn (some .ss)) ≡ false
       kept = rw (← some .floats) h
 
-      travelled : t ≡ travelOf (T .banks) (T .«return_pointer») returning left rule (shape .size) (slotsOf (rule .when) (shape .size) (some .ss))
+      travelled : t ≡ travelOf (T .banks) (T .«return_pointer») returning left rule (shape .size) (wantedBy (rule .when) (shape .size) (some .ss))
       travelled =
           let eu : s .source ≡ sourceOf (rule .when) (shape .size) = source-is in
           let en : n ≡ length (some .ss) = some .count in

@@ -13,7 +13,6 @@ use Rattle.shape.specs.declared.Shape.{Shape}
 use Rattle.shape.specs.Numbers.{accepted, bad-abi, bad-call, no-room}
 use Rattle.shape.specs.Words.{piecesOf}
 use Rattle.checks.specs.Check.{refuse, orElse, scalarRefusal, shapeRefusal}
-use Rattle.slots.specs.declared.Slot.{Slot}
 use Rattle.slots.specs.Words.{slotSize, written}
 use Rattle.describe.specs.declared.Terms.{Terms}
 use Rattle.describe.specs.Description.{Description, termsOf}
@@ -23,13 +22,13 @@ use Rattle.spend.specs.declared.Way as ways
 use Rattle.spend.specs.declared.Spent.{Spent}
 use Rattle.spend.specs.Ways as made
 use Rattle.spend.specs.Ways.{marked, wayNumber}
-use Rattle.memory.specs.InMemory.{inMemory}
+use Rattle.stack_align.specs.InMemory.{inMemory}
 use Rattle.classify.specs.declared.Call.{Call}
 use Rattle.classify.specs.declared.Answer.{Answer}
 use Rattle.classify.specs.declared.InMemory.{InMemory}
-use Rattle.classify.specs.Pass.{wayOf, slotsOf}
+use Rattle.classify.specs.Pass.{wayOf, passSlots}
 use Rattle.classify.specs.Classify.{Passed, counts, call, variadic, isIntegersOnly, returns, argument, variadicArgument}
-use Rattle.classify.specs.Spending.{returnChoice, argumentChoice, dotsChoice}
+use Rattle.classify.specs.Spending.{returnChoice, argumentChoice, variadicArgumentChoice}
 
 abbrev pub descriptions : ℕ
 descriptions = description-count
@@ -100,7 +99,7 @@ done c = answered c accepted ways.the-variants.Ignore made.nothing 0
 
 -- the call with what the Rust leaves, the Rust's way and how many slots it has, and what the rules spend
 abbrev pub acceptedAnswer : Call → Passed → Spent → Answer
-acceptedAnswer c p spent = answered (callWith (c .abi) (p .left)) accepted (wayOf (p .pass)) spent (length (slotsOf (p .pass)))
+acceptedAnswer c p spent = answered (callWith (c .abi) (p .left)) accepted (wayOf (p .pass)) spent (length (passSlots (p .pass)))
 
 -- the refusal, if there is one, or the answer; and the buffer as it was, or with what is written
 abbrev pub orAnswer : ℕ → Call → Answer → Answer
@@ -113,14 +112,14 @@ unlessRefused (suc n) new old = old
 
 -- the refusal of an operation that its checks refuse so: NO_ROOM is judged by the slots that the value travels in
 abbrev pub wholeRefusal : ℕ → Passed → List ℕ → ℕ
-wholeRefusal checks p out = orElse checks (roomRefusal (length (slotsOf (p .pass))) out)
+wholeRefusal checks p out = orElse checks (roomRefusal (length (passSlots (p .pass))) out)
 
 unfoldable pub answerTo : ℕ → Call → Passed → Spent → List ℕ → Answer
 answerTo checks c p spent out = orAnswer (wholeRefusal checks p out) c (acceptedAnswer c p spent)
 
 -- the slots stand at the front, and all later words are as they were
 unfoldable pub writtenTo : ℕ → Passed → List ℕ → List ℕ
-writtenTo checks p out = unlessRefused (wholeRefusal checks p out) (written (slotsOf (p .pass)) out) out
+writtenTo checks p out = unlessRefused (wholeRefusal checks p out) (written (passSlots (p .pass)) out) out
 
 -- what an operation leaves: its answer, and the words of the buffer
 pub record Leaves (answer : Answer) (words : List ℕ) (r : Answer) (out : List ℕ) : Type 0 where
@@ -150,12 +149,12 @@ argumentAnswerBy source D c arg ws out =
 unfoldable pub argumentWrittenBy : ℕ → Description → Call → args.Arg → List ℕ → List ℕ → List ℕ
 argumentWrittenBy source D c arg ws out = writtenTo (refusalBy source D c arg ws) (argument D (c .left) arg (piecesOf ws)) out
 
-unfoldable pub dotsAnswerBy : ℕ → Description → Call → args.Arg → List ℕ → List ℕ → Answer
-dotsAnswerBy source D c arg ws out =
-    answerTo (refusalBy source D c arg ws) c (variadicArgument D (c .left) arg (piecesOf ws)) (dotsChoice D (c .left) arg (piecesOf ws) .decision .spent) out
+unfoldable pub variadicArgumentAnswerBy : ℕ → Description → Call → args.Arg → List ℕ → List ℕ → Answer
+variadicArgumentAnswerBy source D c arg ws out =
+    answerTo (refusalBy source D c arg ws) c (variadicArgument D (c .left) arg (piecesOf ws)) (variadicArgumentChoice D (c .left) arg (piecesOf ws) .decision .spent) out
 
-unfoldable pub dotsWrittenBy : ℕ → Description → Call → args.Arg → List ℕ → List ℕ → List ℕ
-dotsWrittenBy source D c arg ws out = writtenTo (refusalBy source D c arg ws) (variadicArgument D (c .left) arg (piecesOf ws)) out
+unfoldable pub variadicArgumentWrittenBy : ℕ → Description → Call → args.Arg → List ℕ → List ℕ → List ℕ
+variadicArgumentWrittenBy source D c arg ws out = writtenTo (refusalBy source D c arg ws) (variadicArgument D (c .left) arg (piecesOf ws)) out
 
 -- the alignment in the argument area, or a refusal of the call or of the shape
 abbrev pub orAlign : ℕ → ℕ → InMemory
@@ -189,11 +188,11 @@ argumentAnswer c = argumentAnswerBy (rowRefusal (c .abi)) (described (c .abi)) c
 unfoldable pub argumentWritten : Call → args.Arg → List ℕ → List ℕ → List ℕ
 argumentWritten c = argumentWrittenBy (rowRefusal (c .abi)) (described (c .abi)) c
 
-unfoldable pub dotsAnswer : Call → args.Arg → List ℕ → List ℕ → Answer
-dotsAnswer c = dotsAnswerBy (rowRefusal (c .abi)) (described (c .abi)) c
+unfoldable pub variadicArgumentAnswer : Call → args.Arg → List ℕ → List ℕ → Answer
+variadicArgumentAnswer c = variadicArgumentAnswerBy (rowRefusal (c .abi)) (described (c .abi)) c
 
-unfoldable pub dotsWritten : Call → args.Arg → List ℕ → List ℕ → List ℕ
-dotsWritten c = dotsWrittenBy (rowRefusal (c .abi)) (described (c .abi)) c
+unfoldable pub variadicArgumentWritten : Call → args.Arg → List ℕ → List ℕ → List ℕ
+variadicArgumentWritten c = variadicArgumentWrittenBy (rowRefusal (c .abi)) (described (c .abi)) c
 
 unfoldable pub inMemoryAnswer : Call → Shape → List ℕ → InMemory
 inMemoryAnswer c = inMemoryAnswerBy (rowRefusal (c .abi)) (described (c .abi)) c
@@ -205,5 +204,5 @@ Returns c arg ws out r after = Leaves (returnsAnswer c arg ws out) (returnsWritt
 abbrev pub Passes : Call → args.Arg → List ℕ → List ℕ → Answer → List ℕ → Type 0
 Passes c arg ws out r after = Leaves (argumentAnswer c arg ws out) (argumentWritten c arg ws out) r after
 
-abbrev pub PassesAfterDots : Call → args.Arg → List ℕ → List ℕ → Answer → List ℕ → Type 0
-PassesAfterDots c arg ws out r after = Leaves (dotsAnswer c arg ws out) (dotsWritten c arg ws out) r after
+abbrev pub PassesVariadic : Call → args.Arg → List ℕ → List ℕ → Answer → List ℕ → Type 0
+PassesVariadic c arg ws out r after = Leaves (variadicArgumentAnswer c arg ws out) (variadicArgumentWritten c arg ws out) r after

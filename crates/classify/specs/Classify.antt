@@ -1,6 +1,6 @@
 -- The Rust's behaviour, restated over readable descriptions, shapes and calls, function by function in the order of classify.rs: how each value
 -- travels, its slots, and the counts left as the Rust computes them. Subtraction stops at 0, as the Rust's saturating one does. What is passed
--- over and given is not here: that is spend/specs/Spending.antt, scalars/specs/Spending.antt and Spending.antt beside this file, and a theorem
+-- over and given is not here: that is spend/specs/Spending.antt, spend_scalar/specs/Spending.antt and Spending.antt beside this file, and a theorem
 -- has the two agree.
 use Prim.Native.Nat.{ℕ, _-_, _%_}
 use mathlib.Core.List.{List, [], _∷_}
@@ -34,7 +34,7 @@ use Rattle.describe.specs.Questions.{isByReference, returnsByReference}
 use Rattle.spend.specs.declared.Left.{Left}
 use Rattle.spend.specs.Ways.{no-mark, marked, withMark}
 use Rattle.spend.specs.Spending.{wantOf}
-use Rattle.search.specs.Matches.{matches}
+use Rattle.find.specs.Matches.{matches}
 use Rattle.classify.specs.Pass.{Pass, ignore, direct, pieces, reference, memory}
 
 -- what a call has left: integers, floats, and the integers-only mark, which is set where it isn't 0
@@ -136,41 +136,41 @@ shortOf MemoryAndDrain left ss i f =
     some (passed memory (leaves (drainedTo i (left .integer)) (drainedTo f (left .float)) (left .«integers_only»)))
 shortOf TryNextRule left ss i f = none
 
-unfoldable pub inRegisters : Bool → Left → Short → List Slot → Bool → Option Passed
-inRegisters shared left short ss returning =
+unfoldable pub slotsInRegisters : Bool → Left → Short → List Slot → Bool → Option Passed
+slotsInRegisters shared left short ss returning =
     let i : ℕ = integerCostOf shared ss in
     let f : ℕ = floatCostOf shared ss in
     cond returning (some (passed (pieces ss) left))
     (cond (leb i (left .integer) && leb f (left .float)) (some (passed (pieces ss) (lessBoth i f left))) (shortOf short left ss i f))
 
-abbrev pub travelBy : Travel → Description → Left → Short → List Slot → Shape → Bool → Option Passed
-travelBy Ignore D left short ss shape returning = some (passed ignore left)
-travelBy InMemory D left short ss shape returning = some (passed memory left)
-travelBy InMemoryAndSpend D left short ss shape returning =
+abbrev pub travelIn : Travel → Description → Left → Short → List Slot → Shape → Bool → Option Passed
+travelIn Ignore D left short ss shape returning = some (passed ignore left)
+travelIn InMemory D left short ss shape returning = some (passed memory left)
+travelIn InMemoryAndSpend D left short ss shape returning =
     some (passed memory (cond returning left (less (wantOf (shape .size) (D .banks .«integer_width»)) left)))
-travelBy ByReference D left short ss shape returning =
+travelIn ByReference D left short ss shape returning =
     some (passed reference (cond (not returning || isFirst (D .«return_pointer»)) (less 1 left) left))
-travelBy AsFound D left short ss shape returning = inRegisters (D .banks .shared) left short ss returning
-travelBy AsIntegers D left short ss shape returning =
-    inRegisters (D .banks .shared) left short (cut (shape .size) (D .banks .«integer_width»)) returning
-travelBy AsOneInteger D left short ss shape returning =
-    inRegisters (D .banks .shared) left short (integerSlot 0 (shape .size) ∷ []) returning
+travelIn AsFound D left short ss shape returning = slotsInRegisters (D .banks .shared) left short ss returning
+travelIn AsIntegers D left short ss shape returning =
+    slotsInRegisters (D .banks .shared) left short (cut (shape .size) (D .banks .«integer_width»)) returning
+travelIn AsOneInteger D left short ss shape returning =
+    slotsInRegisters (D .banks .shared) left short (integerSlot 0 (shape .size) ∷ []) returning
 
 -- the pass that a matched rule produces, or none if it ran short and said to try the next one
 unfoldable pub travel : Description → Left → Rule → List Slot → Shape → Bool → Option Passed
-travel D left rule ss shape returning = travelBy (rule .then) D left (rule .short) ss shape returning
+travel D left rule ss shape returning = travelIn (rule .then) D left (rule .short) ss shape returning
 
 -- ---- apply
 
-abbrev pub orElse : Option Passed → Passed → Passed
-orElse (some p) rest = p
-orElse none rest = rest
+abbrev pub orRest : Option Passed → Passed → Passed
+orRest (some p) rest = p
+orRest none rest = rest
 
 -- a rule whose test came back, before the rules after it: one that found a float for an argument that may not use one is skipped
 abbrev pub tried : Search → Description → Left → Rule → Shape → Bool → Passed → Passed
 tried nothing D left rule shape returning rest = rest
 tried (found ss) D left rule shape returning rest =
-    cond ((marked left && not returning) && ltb 0 (floatsIn ss)) rest (orElse (travel D left rule ss shape returning) rest)
+    cond ((marked left && not returning) && ltb 0 (floatsIn ss)) rest (orRest (travel D left rule ss shape returning) rest)
 
 -- the first rule whose test matches, with what it costs. Every list ends with a rule that decides (REFERENCE 5.6), so the empty list is never
 -- come to
@@ -224,4 +224,4 @@ variadicBy AlwaysMemory D left arg ps = inMemoryAlways D left arg ps
 unfoldable pub variadicArgument : Description → Left → args.Arg → List Piece → Passed
 variadicArgument D left arg ps = variadicBy (D .variadic) D left arg ps
 
--- ---- in_memory: memory/specs/InMemory.antt
+-- ---- in_memory: stack_align/specs/InMemory.antt

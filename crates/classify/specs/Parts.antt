@@ -3,7 +3,6 @@
 use Prim.Native.Nat.{ℕ}
 use mathlib.Core.List.{List}
 use mathlib.Core.Bool.{Bool, cond}
-use lib.ListN.{length}
 use Rattle.shape.specs.declared.Arg as args
 use Rattle.shape.specs.declared.Piece.{Piece}
 use Rattle.shape.specs.declared.Scalar.{Scalar}
@@ -14,7 +13,7 @@ use Rattle.checks.specs.Check.{orElse}
 use Rattle.slots.specs.Words.{written}
 use Rattle.describe.specs.declared.Dots.{Dots}
 use Rattle.describe.specs.declared.Rule.{Rule}
-use Rattle.describe.specs.declared.Rules.{Rules}
+use Rattle.rows.specs.declared.Rules.{Rules}
 use Rattle.describe.specs.declared.Terms.{Terms}
 use Rattle.describe.specs.declared.Test.{Test}
 use Rattle.describe.specs.declared.Variadic.{Variadic}
@@ -25,12 +24,12 @@ use Rattle.abis.specs.Abis.{described}
 use Rattle.spend.specs.declared.Left.{Left}
 use Rattle.spend.specs.declared.Decision.{Decision}
 use Rattle.spend.specs.Ways.{withMark, leftAfter}
-use Rattle.search.specs.Searched.{noClasses, classesBy}
-use Rattle.writing.specs.Slots.{slotsIn, slotsInScalar}
+use Rattle.find.specs.Matches.{noClasses, classesBy}
+use Rattle.slot_writing.specs.Sources.{sourceSlots, scalarSlots}
 use Rattle.classify.specs.declared.Call.{Call}
 use Rattle.classify.specs.declared.Answer.{Answer}
 use Rattle.classify.specs.declared.Decided.{Decided}
-use Rattle.classify.specs.Spending.{Chosen, aggregate, freely, aggregateBy, choice}
+use Rattle.classify.specs.Spending.{Chosen, byRules, freely, aggregateBy, choice}
 use Rattle.classify.specs.Answers.{callWith, checked, rowRefusal, roomRefusal, answered, orAnswer, unlessRefused, Leaves}
 
 abbrev pub scalarArg : Scalar → args.Arg
@@ -53,7 +52,7 @@ abbrev pub decidedBy : Chosen → args.Arg → List Piece → Decided
 decidedBy k arg ps = decided (k .decision) (argClasses arg (k .when) ps)
 
 unfoldable pub walked : Terms → Bool → Left → List Rule → Shape → List Piece → Decided
-walked T returning left rules shape ps = decidedBy (aggregate T returning left rules shape ps) (aggregateArg shape) ps
+walked T returning left rules shape ps = decidedBy (byRules T returning left rules shape ps) (aggregateArg shape) ps
 
 abbrev pub freelyDecided : Decided → Decided
 freelyDecided d = decided (freely (d .decision)) (d .classes)
@@ -63,17 +62,17 @@ aggregateDecided T rules returning dots left shape ps = decidedBy (aggregateBy T
 
 -- ---- the writing and the answer
 
-abbrev pub accepted : Call → Decision → Answer
-accepted c d = answered (callWith (c .abi) (leftAfter (c .left) (d .spent))) numbers.accepted (d .way) (d .spent) (d .count)
+abbrev pub acceptedBy : Call → Decision → Answer
+acceptedBy c d = answered (callWith (c .abi) (leftAfter (c .left) (d .spent))) numbers.accepted (d .way) (d .spent) (d .count)
 
 unfoldable pub finished : Call → Decision → List ℕ → Answer
-finished c d out = orAnswer (roomRefusal (d .count) out) c (accepted c d)
+finished c d out = orAnswer (roomRefusal (d .count) out) c (acceptedBy c d)
 
 unfoldable pub finishedIn : Decided → List Piece → List ℕ → List ℕ
-finishedIn d ps out = unlessRefused (roomRefusal (d .decision .count) out) (written (slotsIn (d .decision .slots) (d .classes) ps) out) out
+finishedIn d ps out = unlessRefused (roomRefusal (d .decision .count) out) (written (sourceSlots (d .decision .source) (d .classes) ps) out) out
 
 unfoldable pub finishedScalarIn : Decision → List ℕ → List ℕ
-finishedScalarIn d out = unlessRefused (roomRefusal (d .count) out) (written (slotsInScalar (d .slots)) out) out
+finishedScalarIn d out = unlessRefused (roomRefusal (d .count) out) (written (scalarSlots (d .source)) out) out
 
 abbrev pub Finishes : Call → Decided → List Piece → List ℕ → Answer → List ℕ → Type 0
 Finishes c d ps out r after = Leaves (finished c (d .decision) out) (finishedIn d ps out) r after
@@ -89,12 +88,12 @@ decidedFor T rules returning dots c arg ps = decidedBy (choice T rules returning
 abbrev pub By : Terms → List Rule → Bool → Dots → Call → args.Arg → List ℕ → List ℕ → Answer → List ℕ → Type 0
 By T rules returning dots c arg ws out r after = Finishes c (decidedFor T rules returning dots c arg (piecesOf ws)) (piecesOf ws) out r after
 
-unfoldable pub performed : ℕ → Terms → List Rule → Bool → Dots → Call → args.Arg → List ℕ → List ℕ → Answer
-performed source T rules returning dots c arg ws out =
+unfoldable pub performedBy : ℕ → Terms → List Rule → Bool → Dots → Call → args.Arg → List ℕ → List ℕ → Answer
+performedBy source T rules returning dots c arg ws out =
     orAnswer (orElse source (checked T (c .left) arg ws)) c (finished c (decidedFor T rules returning dots c arg (piecesOf ws) .decision) out)
 
-unfoldable pub performedIn : ℕ → Terms → List Rule → Bool → Dots → Call → args.Arg → List ℕ → List ℕ → List ℕ
-performedIn source T rules returning dots c arg ws out =
+unfoldable pub performedByIn : ℕ → Terms → List Rule → Bool → Dots → Call → args.Arg → List ℕ → List ℕ → List ℕ
+performedByIn source T rules returning dots c arg ws out =
     unlessRefused (orElse source (checked T (c .left) arg ws)) (finishedIn (decidedFor T rules returning dots c arg (piecesOf ws)) (piecesOf ws) out) out
 
 -- ---- and on a row
@@ -106,19 +105,19 @@ abbrev pub rulesFor : Bool → Description → List Rule
 rulesFor returning D = cond returning (D .returns) (D .arguments)
 
 abbrev pub dotsFor : Bool → Variadic → Dots
-dotsFor after-dots variadic = cond after-dots (dotsOf variadic) asFixed
+dotsFor variadic-argument variadic = cond variadic-argument (dotsOf variadic) asFixed
 
 abbrev pub markedBy : Variadic → Left → Left
 markedBy variadic left = cond (dotsOf variadic .mark) (withMark left) left
 
 abbrev pub performedOn : Description → Bool → Bool → Call → args.Arg → List ℕ → List ℕ → Answer
-performedOn D returning after-dots c arg ws out =
-    performed (rowRefusal (c .abi)) (termsOf D) (rulesFor returning D) returning (dotsFor after-dots (D .variadic)) c arg ws out
+performedOn D returning variadic-argument c arg ws out =
+    performedBy (rowRefusal (c .abi)) (termsOf D) (rulesFor returning D) returning (dotsFor variadic-argument (D .variadic)) c arg ws out
 
 abbrev pub performedInOn : Description → Bool → Bool → Call → args.Arg → List ℕ → List ℕ → List ℕ
-performedInOn D returning after-dots c arg ws out =
-    performedIn (rowRefusal (c .abi)) (termsOf D) (rulesFor returning D) returning (dotsFor after-dots (D .variadic)) c arg ws out
+performedInOn D returning variadic-argument c arg ws out =
+    performedByIn (rowRefusal (c .abi)) (termsOf D) (rulesFor returning D) returning (dotsFor variadic-argument (D .variadic)) c arg ws out
 
 abbrev pub OnRow : Bool → Bool → Call → args.Arg → List ℕ → List ℕ → Answer → List ℕ → Type 0
-OnRow returning after-dots c arg ws out r after =
-    Leaves (performedOn (described (c .abi)) returning after-dots c arg ws out) (performedInOn (described (c .abi)) returning after-dots c arg ws out) r after
+OnRow returning variadic-argument c arg ws out r after =
+    Leaves (performedOn (described (c .abi)) returning variadic-argument c arg ws out) (performedInOn (described (c .abi)) returning variadic-argument c arg ws out) r after

@@ -20,9 +20,9 @@ wayOf reference = Reference
 wayOf memory = Memory
 
 -- its slots: a way other than Pieces has none
-abbrev pub slotsOf : Pass → List Slot
-slotsOf ignore = []
-slotsOf direct = []
-slotsOf (pieces ss) = ss
-slotsOf reference = []
-slotsOf memory = []
+abbrev pub passSlots : Pass → List Slot
+passSlots ignore = []
+passSlots direct = []
+passSlots (pieces ss) = ss
+passSlots reference = []
+passSlots memory = []

@@ -1,4 +1,4 @@
--- How an operation spends registers (REFERENCE 9.3 to 9.5), over the lines of scalars/specs/Spending.antt and the ways of
+-- How an operation spends registers (REFERENCE 9.3 to 9.5), over the lines of spend_scalar/specs/Spending.antt and the ways of
 -- spend/specs/Spending.antt: what each value passes over and is given, and by which rule.
 use Prim.Native.Nat.{ℕ}
 use mathlib.Core.List.{List, [], _∷_}
@@ -20,14 +20,14 @@ use Rattle.describe.specs.Description.{Description, termsOf}
 use Rattle.describe.specs.Dots.{asFixed, dotsOf}
 use Rattle.spend.specs.declared.Left.{Left}
 use Rattle.spend.specs.declared.Way as ways
-use Rattle.spend.specs.declared.Slots.{Slots}
+use Rattle.spend.specs.declared.Wanted.{Wanted}
 use Rattle.spend.specs.declared.Decision.{Decision}
 use Rattle.spend.specs.declared.Step as steps
 use Rattle.spend.specs.Ways as made
 use Rattle.spend.specs.Ways.{marked, withMark}
 use Rattle.spend.specs.Spending.{travelOf}
-use Rattle.scalars.specs.Spending.{scalarArgument, scalarReturn}
-use Rattle.search.specs.Matches.{matches, sourceOf}
+use Rattle.spend_scalar.specs.Spending.{scalarArgument, scalarReturn}
+use Rattle.find.specs.Matches.{matches, sourceOf}
 
 -- what decides a value: the decision, and for an aggregate the test of the rule that made it
 pub record Chosen : Type 0 where
@@ -37,8 +37,8 @@ pub record Chosen : Type 0 where
 abbrev pub chosen : Decision → Test → Chosen
 chosen d t = record { decision = d; when = t }
 
-abbrev pub slotsOf : Test → ℕ → List Slot → Slots
-slotsOf test size ss = record { count = length ss; floats = floatsIn ss; source = sourceOf test size }
+abbrev pub wantedBy : Test → ℕ → List Slot → Wanted
+wantedBy test size ss = record { count = length ss; floats = floatsIn ss; source = sourceOf test size }
 
 -- a decision, or the rules after it
 abbrev pub orNext : steps.Step → Test → Chosen → Chosen
@@ -50,13 +50,13 @@ abbrev pub decideBy : Search → Terms → Bool → Left → Rule → Shape → 
 decideBy nothing T returning left rule shape rest = rest
 decideBy (found ss) T returning left rule shape rest =
     cond ((marked left && not returning) && ltb 0 (floatsIn ss)) rest
-    (orNext (travelOf (T .banks) (T .«return_pointer») returning left rule (shape .size) (slotsOf (rule .when) (shape .size) ss)) (rule .when) rest)
+    (orNext (travelOf (T .banks) (T .«return_pointer») returning left rule (shape .size) (wantedBy (rule .when) (shape .size) ss)) (rule .when) rest)
 
 -- an aggregate: the first rule that matches. Every list ends with a rule that decides (REFERENCE 5.6), so the empty list is never come to
-unfoldable pub aggregate : Terms → Bool → Left → List Rule → Shape → List Piece → Chosen
-aggregate T returning left [] shape ps = chosen (made.plain ways.the-variants.Memory made.nothing) Anything
-aggregate T returning left (rule ∷ rules) shape ps =
-    decideBy (matches (T .banks) (rule .when) shape ps) T returning left rule shape (aggregate T returning left rules shape ps)
+unfoldable pub byRules : Terms → Bool → Left → List Rule → Shape → List Piece → Chosen
+byRules T returning left [] shape ps = chosen (made.plain ways.the-variants.Memory made.nothing) Anything
+byRules T returning left (rule ∷ rules) shape ps =
+    decideBy (matches (T .banks) (rule .when) shape ps) T returning left rule shape (byRules T returning left rules shape ps)
 
 -- void is Ignore and spends nothing
 abbrev pub ignored : Chosen
@@ -77,12 +77,12 @@ scalarBy T returning dots left s =
 
 -- the same decision, spending nothing
 abbrev pub freely : Decision → Decision
-freely d = record { way = d .way; slots = d .slots; count = d .count; spent = made.nothing }
+freely d = record { way = d .way; source = d .source; count = d .count; spent = made.nothing }
 
 -- an aggregate, by what it finds left; one that finds its banks emptied spends nothing
 unfoldable pub aggregateBy : Terms → List Rule → Bool → Dots → Left → Shape → List Piece → Chosen
 aggregateBy T rules returning dots left shape ps =
-    let k : Chosen = aggregate T returning (leftFor dots left) rules shape ps in
+    let k : Chosen = byRules T returning (leftFor dots left) rules shape ps in
     cond (dots .emptied) (chosen (freely (k .decision)) (k .when)) k
 
 -- any value, by terms and a list
@@ -98,5 +98,5 @@ returnChoice D left arg ps = choice (termsOf D) (D .returns) true asFixed left a
 unfoldable pub argumentChoice : Description → Left → args.Arg → List Piece → Chosen
 argumentChoice D left arg ps = choice (termsOf D) (D .arguments) false asFixed left arg ps
 
-unfoldable pub dotsChoice : Description → Left → args.Arg → List Piece → Chosen
-dotsChoice D left arg ps = choice (termsOf D) (D .arguments) false (dotsOf (D .variadic)) left arg ps
+unfoldable pub variadicArgumentChoice : Description → Left → args.Arg → List Piece → Chosen
+variadicArgumentChoice D left arg ps = choice (termsOf D) (D .arguments) false (dotsOf (D .variadic)) left arg ps

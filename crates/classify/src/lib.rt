@@ -2,27 +2,27 @@
 // A call is a value, and each operation hands back the next one. Anyone can hand in any numbers: every operation checks for itself.
 use abis::Brief;
 use describe::Dots;
-use describe::Rules;
 use describe::Terms;
 use describe::Variadic;
+use rows::Rules;
 use shape::Arg;
 use shape::Scalar;
 use shape::Shape;
 use slots::Found;
 use spend::Decision;
 use spend::Left;
-use spend::Slots;
 use spend::Spent;
 use spend::Step;
+use spend::Wanted;
 use spend::Way;
 ghost use mathlib.Core.Path.{_≡_};
 ghost use mathlib.Core.List.{[]};
 ghost use Rattle.shape.specs.Words.{piecesOf};
 ghost use Rattle.describe.specs.Description.{Ends};
-ghost use Rattle.describe.specs.Row.{listed};
+ghost use Rattle.rows.specs.Row.{listed};
 ghost use Rattle.spend.specs.Ways as ways;
 ghost use Rattle.classify.specs.Spending as rules;
-ghost use Rattle.classify.specs.Answers.{freshAnswer, voidAnswer, variadicAnswer, inMemoryAnswer, Returns, Passes, PassesAfterDots};
+ghost use Rattle.classify.specs.Answers.{freshAnswer, voidAnswer, variadicAnswer, inMemoryAnswer, Returns, Passes, PassesVariadic};
 ghost use Rattle.classify.specs.Answers as answers;
 ghost use Rattle.classify.specs.Parts as parts;
 
@@ -115,7 +115,7 @@ impl Call {
 
     // How the next argument after the dots travels.
     pub fn variadic_argument(self, arg: Arg, words: &[u64], out: &mut [u64]) -> Answer
-        ensures { λ r. ⌜ PassesAfterDots self arg (now (words .entry)) (now (out .entry)) r (now (out .exit)) ⌝ }
+        ensures { λ r. ⌜ PassesVariadic self arg (now (words .entry)) (now (out .entry)) r (now (out .exit)) ⌝ }
     {
         match arg {
             Arg::Void => self.nothing(),
@@ -153,7 +153,7 @@ impl Call {
     }
 
     pub fn variadic_argument_scalar(self, s: Scalar, out: &mut [u64]) -> Answer
-        ensures { λ r. ⌜ PassesAfterDots self (parts.scalarArg s) [] (now (out .entry)) r (now (out .exit)) ⌝ }
+        ensures { λ r. ⌜ PassesVariadic self (parts.scalarArg s) [] (now (out .entry)) r (now (out .exit)) ⌝ }
     {
         perform_scalar(self, false, true, s, out)
     }
@@ -172,7 +172,7 @@ impl Call {
     }
 
     pub fn variadic_argument_aggregate(self, shape: Shape, words: &[u64], out: &mut [u64]) -> Answer
-        ensures { λ r. ⌜ PassesAfterDots self (parts.aggregateArg shape) (now (words .entry)) (now (out .entry)) r (now (out .exit)) ⌝ }
+        ensures { λ r. ⌜ PassesVariadic self (parts.aggregateArg shape) (now (words .entry)) (now (out .entry)) r (now (out .exit)) ⌝ }
     {
         perform_aggregate(self, false, true, shape, words, out)
     }
@@ -195,7 +195,7 @@ impl Call {
         }
         InMemory {
             refusal: shape::ACCEPTED,
-            align: memory::align(terms, brief.arguments, shape, words),
+            align: stack_align::in_memory(terms, brief.arguments, shape, words),
         }
     }
 
@@ -226,11 +226,11 @@ impl Call {
 fn perform_scalar(
     call: Call,
     returning: bool,
-    after_dots: bool,
+    variadic_argument: bool,
     s: Scalar,
     out: &mut [u64],
 ) -> Answer
-    ensures { λ r. ⌜ parts.OnRow returning «after_dots» call (parts.scalarArg s) [] (now (out .entry)) r (now (out .exit)) ⌝ }
+    ensures { λ r. ⌜ parts.OnRow returning «variadic_argument» call (parts.scalarArg s) [] (now (out .entry)) r (now (out .exit)) ⌝ }
 {
     if call.abi >= abis::DESCRIPTIONS {
         return refused(call, shape::BAD_ABI);
@@ -242,7 +242,7 @@ fn perform_scalar(
         return refused(call, refusal);
     }
     let variadic = terms.variadic;
-    let dots = dots_for(after_dots, variadic);
+    let dots = dots_for(variadic_argument, variadic);
     scalar_by(terms, returning, dots, call, s, out)
 }
 
@@ -251,12 +251,12 @@ fn perform_scalar(
 fn perform_aggregate(
     call: Call,
     returning: bool,
-    after_dots: bool,
+    variadic_argument: bool,
     shape: Shape,
     words: &[u64],
     out: &mut [u64],
 ) -> Answer
-    ensures { λ r. ⌜ parts.OnRow returning «after_dots» call (parts.aggregateArg shape) (now (words .entry)) (now (out .entry)) r (now (out .exit)) ⌝ }
+    ensures { λ r. ⌜ parts.OnRow returning «variadic_argument» call (parts.aggregateArg shape) (now (words .entry)) (now (out .entry)) r (now (out .exit)) ⌝ }
 {
     if call.abi >= abis::DESCRIPTIONS {
         return refused(call, shape::BAD_ABI);
@@ -270,7 +270,7 @@ fn perform_aggregate(
     let terms = brief.terms;
     let list = list_for(returning, brief);
     let variadic = terms.variadic;
-    let dots = dots_for(after_dots, variadic);
+    let dots = dots_for(variadic_argument, variadic);
     aggregate_by(terms, list, returning, dots, call, shape, words, out)
 }
 
@@ -285,10 +285,10 @@ fn list_for(returning: bool, brief: Brief) -> Rules
 }
 
 // An argument after the dots does what its description's variadic kind comes to, any other value what a fixed argument does.
-fn dots_for(after_dots: bool, variadic: Variadic) -> Dots
-    ensures { λ r. ⌜ r ≡ parts.dotsFor «after_dots» variadic ⌝ }
+fn dots_for(variadic_argument: bool, variadic: Variadic) -> Dots
+    ensures { λ r. ⌜ r ≡ parts.dotsFor «variadic_argument» variadic ⌝ }
 {
-    if after_dots {
+    if variadic_argument {
         return describe::dots_of(variadic);
     }
     describe::as_fixed()
@@ -384,12 +384,12 @@ fn decide_scalar(terms: Terms, returning: bool, dots: Dots, left: Left, s: Scala
 {
     if returning {
         let pointer = terms.return_pointer;
-        return scalars::scalar_return(terms.scalars, pointer, left, s);
+        return spend_scalar::scalar_return(terms.scalars, pointer, left, s);
     }
     if dots.emptied {
         return spend::integers(Way::Direct, 0, 0);
     }
-    scalars::scalar_argument(terms.banks, terms.scalars, left_for(dots, left), s)
+    spend_scalar::scalar_argument(terms.banks, terms.scalars, left_for(dots, left), s)
 }
 
 fn decide_aggregate(
@@ -404,7 +404,7 @@ fn decide_aggregate(
     requires { ⌜ Ends (listed list) ⌝ }
     ensures { λ r. ⌜ r ≡ parts.aggregateDecided terms (listed list) returning dots left shape (piecesOf (now (words .entry))) ⌝ }
 {
-    let decided = walk(terms, list, returning, left_for(dots, left), shape, words);
+    let decided = apply(terms, list, returning, left_for(dots, left), shape, words);
     if dots.emptied {
         return freely(decided);
     }
@@ -434,12 +434,12 @@ fn freely(decided: Decided) -> Decided
 {
     let decision = decided.decision;
     let way = decision.way;
-    let slots = decision.slots;
+    let source = decision.source;
     let classes = decided.classes;
     Decided {
         decision: Decision {
             way,
-            slots,
+            source,
             count: decision.count,
             spent: nothing_spent(),
         },
@@ -449,7 +449,7 @@ fn freely(decided: Decided) -> Decided
 
 // The rule walk: the first rule whose test finds something, and that isn't skipped or short, decides. The list is taken apart as two numbers,
 // and there is no answer behind the loop: a list ends with a rule that decides.
-fn walk(
+fn apply(
     terms: Terms,
     list: Rules,
     returning: bool,
@@ -463,27 +463,27 @@ fn walk(
     let mut rules = list;
     loop {
         let these = rules;
-        let later = rules::later_rules(rules);
+        let later = rows::later_rules(rules);
         rules = later;
-        let when = rules::first_test(these);
-        let searched = search::search(terms.banks, when, shape, words);
-        let found = searched.found;
+        let when = rows::first_test(these);
+        let matched = find::matches(terms.banks, when, shape, words);
+        let found = matched.found;
         let Found::Slots { count, floats } = found else {
             continue;
         };
         if (left.integers_only != spend::NO_MARK) & !returning & (floats > 0) {
             continue;
         }
-        let source = searched.source;
+        let source = matched.source;
         let pointer = terms.return_pointer;
         let step = spend::travel(
             terms.banks,
             pointer,
             returning,
             left,
-            rules::first_rule(these),
+            rows::first_rule(these),
             shape.size,
-            Slots {
+            Wanted {
                 count,
                 floats,
                 source,
@@ -492,7 +492,7 @@ fn walk(
         let Step::Decided(decision) = step else {
             continue;
         };
-        let classes = searched.classes;
+        let classes = matched.classes;
         return Decided { decision, classes };
     }
 }
@@ -505,8 +505,8 @@ fn finish_scalar(call: Call, decision: Decision, out: &mut [u64]) -> Answer
     if decision.count > slots::room(out.len()) as u64 {
         return refused(call, shape::NO_ROOM);
     }
-    let source = decision.slots;
-    writing::write_scalar(source, out);
+    let source = decision.source;
+    slot_writing::write_scalar(source, out);
     accept(call, decision)
 }
 
@@ -517,15 +517,15 @@ fn finish(call: Call, decided: Decided, words: &[u64], out: &mut [u64]) -> Answe
     if decision.count > slots::room(out.len()) as u64 {
         return refused(call, shape::NO_ROOM);
     }
-    let source = decision.slots;
+    let source = decision.source;
     let classes = decided.classes;
-    writing::write(source, classes, words, out);
+    slot_writing::write(source, classes, words, out);
     accept(call, decision)
 }
 
 // The call that is handed back has what is left after what was spent.
 fn accept(call: Call, decision: Decision) -> Answer
-    ensures { λ r. ⌜ r ≡ parts.accepted call decision ⌝ }
+    ensures { λ r. ⌜ r ≡ parts.acceptedBy call decision ⌝ }
 {
     let spent = decision.spent;
     let travels = decision.way;

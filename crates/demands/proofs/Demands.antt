@@ -2,9 +2,9 @@
 --
 -- The operations are the methods of `classify::Call`: `fresh`, `variadic` (the mark), `returns`, `argument` and `variadic_argument` (after the
 -- dots). Each is a total function of its inputs, proved to answer exactly what its definition says, `freshAnswer`, `variadicAnswer`,
--- `returnsAnswer`, `argumentAnswer` and `dotsAnswer` of classify/specs/Answers.antt, and to leave the lent slot buffer as `returnsWritten`,
--- `argumentWritten` and `dotsWritten` say: so what is said of these definitions here is said of the code. That no second answer meets those
--- promises is in each crate's proofs/Unique.antt. The forms over a lent call (crate bridge) have their own lines below. Assumes nothing.
+-- `returnsAnswer`, `argumentAnswer` and `variadicArgumentAnswer` of classify/specs/Answers.antt, and to leave the lent slot buffer as `returnsWritten`,
+-- `argumentWritten` and `variadicArgumentWritten` say: so what is said of these definitions here is said of the code. That no second answer meets those
+-- promises is in each crate's proofs/Unique.antt. The forms over a lent call (crate bridge) have their own lines below.
 use Prim.Native.Nat.{ℕ, _/_, _≤_, _<_}
 use mathlib.Core.Path.{_≡_}
 use mathlib.Core.List.{List, [], map}
@@ -26,16 +26,16 @@ use Rattle.spend.specs.Ways.{wayFrom}
 use Rattle.classify.specs.declared.Call.{Call}
 use Rattle.classify.specs.declared.Outcome.{Outcome}
 use Rattle.classify.specs.declared.Answer.{Answer}
-use Rattle.classify.specs.Pass.{slotsOf}
+use Rattle.classify.specs.Pass.{passSlots}
 use Rattle.classify.specs.Classify as rust
 use Rattle.classify.specs.Spending as rules
-use Rattle.classify.specs.Answers.{refusalOf, variadicAnswer, returnsAnswer, returnsWritten, argumentAnswer, argumentWritten, dotsAnswer, dotsWritten}
+use Rattle.classify.specs.Answers.{refusalOf, variadicAnswer, returnsAnswer, returnsWritten, argumentAnswer, argumentWritten, variadicArgumentAnswer, variadicArgumentWritten}
 use Rattle.ledger.specs.Ledger.{Operation, history, Ledger}
 use Rattle.ledger.specs.Performed.{Started, AllPerformed}
-use Rattle.ledger.specs.Twelve.{twelve, answerTo, expected}
+use Rattle.ledger.specs.Twelve.{twelve, answeredTo, expected}
 use Rattle.bridge.proofs.barkpaddle_bridge_variadic as on-mark
 use Rattle.bridge.proofs.barkpaddle_bridge_argument as on-value
-use Rattle.bridge.proofs.Promised.{Marks, Returns, Passes, PassesAfterDots}
+use Rattle.bridge.proofs.Promised.{Marks, Returns, Passes, PassesVariadic}
 use Rattle.bridge.proofs.Kept as kept
 use Rattle.bridge.proofs.Histories as lending
 use Rattle.psabi.specs.Domain as psabi
@@ -67,14 +67,14 @@ pub argument-refused : (c : Call) (arg : Arg) (words out : List ℕ) → (argume
     → Refused c out (argumentAnswer c arg words out) (argumentWritten c arg words out)
 argument-refused = refusing.argument-refused
 
-pub dots-refused : (c : Call) (arg : Arg) (words out : List ℕ) → (dotsAnswer c arg words out .outcome .refusal ≡ accepted → ⊥)
-    → Refused c out (dotsAnswer c arg words out) (dotsWritten c arg words out)
-dots-refused = refusing.dots-refused
+pub variadic-argument-refused : (c : Call) (arg : Arg) (words out : List ℕ) → (variadicArgumentAnswer c arg words out .outcome .refusal ≡ accepted → ⊥)
+    → Refused c out (variadicArgumentAnswer c arg words out) (variadicArgumentWritten c arg words out)
+variadic-argument-refused = refusing.variadic-argument-refused
 
 pub mark-refused : (c : Call) → (variadicAnswer c .outcome .refusal ≡ accepted → ⊥) → Refused c [] (variadicAnswer c) []
 mark-refused = refusing.mark-refused
 
--- the same of the forms over a lent call: `Marks`, `Returns`, `Passes` and `PassesAfterDots` are their contracts, and where the outcome refuses, the
+-- the same of the forms over a lent call: `Marks`, `Returns`, `Passes` and `PassesVariadic` are their contracts, and where the outcome refuses, the
 -- call and the words behind the references are afterwards those that stood there
 pub lent-mark-refused : (κs : Lfts 1) (a : ArgsD on-mark.signature κs) (r : Outcome) (e : AtExit on-mark.ended κs) → Marks κs a r e
     → (r .refusal ≡ accepted → ⊥) → now (e .0) ≡ now (a .0)
@@ -87,30 +87,30 @@ module _ (κs : Lfts 3) (a : ArgsD on-value.signature κs) (r : Outcome) (e : At
   pub lent-argument-refused : Passes κs a r e → (r .refusal ≡ accepted → ⊥) → (now (e .0) ≡ now (a .0)) × (now (e .1 .1 .1 .0) ≡ now (a .1 .1 .1 .0))
   lent-argument-refused = kept.argument-refused κs a r e
 
-  pub lent-dots-refused : PassesAfterDots κs a r e → (r .refusal ≡ accepted → ⊥) → (now (e .0) ≡ now (a .0)) × (now (e .1 .1 .1 .0) ≡ now (a .1 .1 .1 .0))
-  lent-dots-refused = kept.variadic-argument-refused κs a r e
+  pub lent-variadic-argument-refused : PassesVariadic κs a r e → (r .refusal ≡ accepted → ⊥) → (now (e .0) ≡ now (a .0)) × (now (e .1 .1 .1 .0) ≡ now (a .1 .1 .1 .0))
+  lent-variadic-argument-refused = kept.variadic-argument-refused κs a r e
 
 -- ---- Demand 2: what is accepted is answered as the Rust answers, with the counts of the spending rules
 
 -- where the checks refuse nothing and the slots have room. `AsRust` says: the way, the slots at the front of the buffer with all later words as
 -- they were, and the counts left are the Rust's; what is passed over and given is by the rules
 pub return-as-rust : (c : Call) (arg : Arg) (words out : List ℕ) → refusalOf c arg words ≡ accepted
-    → length (slotsOf (rust.returns (described (c .abi)) (c .left) arg (piecesOf words) .pass)) ≤ length out / slotSize
+    → length (passSlots (rust.returns (described (c .abi)) (c .left) arg (piecesOf words) .pass)) ≤ length out / slotSize
     → AsRust c out (rust.returns (described (c .abi)) (c .left) arg (piecesOf words)) (rules.returnChoice (described (c .abi)) (c .left) arg (piecesOf words))
     (returnsAnswer c arg words out) (returnsWritten c arg words out)
 return-as-rust = answering.return-as-rust
 
 pub argument-as-rust : (c : Call) (arg : Arg) (words out : List ℕ) → refusalOf c arg words ≡ accepted
-    → length (slotsOf (rust.argument (described (c .abi)) (c .left) arg (piecesOf words) .pass)) ≤ length out / slotSize
+    → length (passSlots (rust.argument (described (c .abi)) (c .left) arg (piecesOf words) .pass)) ≤ length out / slotSize
     → AsRust c out (rust.argument (described (c .abi)) (c .left) arg (piecesOf words)) (rules.argumentChoice (described (c .abi)) (c .left) arg (piecesOf words))
     (argumentAnswer c arg words out) (argumentWritten c arg words out)
 argument-as-rust = answering.argument-as-rust
 
-pub dots-as-rust : (c : Call) (arg : Arg) (words out : List ℕ) → refusalOf c arg words ≡ accepted
-    → length (slotsOf (rust.variadicArgument (described (c .abi)) (c .left) arg (piecesOf words) .pass)) ≤ length out / slotSize
-    → AsRust c out (rust.variadicArgument (described (c .abi)) (c .left) arg (piecesOf words)) (rules.dotsChoice (described (c .abi)) (c .left) arg (piecesOf words))
-    (dotsAnswer c arg words out) (dotsWritten c arg words out)
-dots-as-rust = answering.dots-as-rust
+pub variadic-argument-as-rust : (c : Call) (arg : Arg) (words out : List ℕ) → refusalOf c arg words ≡ accepted
+    → length (passSlots (rust.variadicArgument (described (c .abi)) (c .left) arg (piecesOf words) .pass)) ≤ length out / slotSize
+    → AsRust c out (rust.variadicArgument (described (c .abi)) (c .left) arg (piecesOf words)) (rules.variadicArgumentChoice (described (c .abi)) (c .left) arg (piecesOf words))
+    (variadicArgumentAnswer c arg words out) (variadicArgumentWritten c arg words out)
+variadic-argument-as-rust = answering.variadic-argument-as-rust
 
 -- description 0 equals the psABI on its domain: `Says` reads the answer and the buffer in the psABI's words, registers by name, and the call
 -- handed back as the registers that are free
@@ -169,5 +169,5 @@ every-register-once-lent = lending.ledger-lent
 
 -- ---- The table of twelve calls (REFERENCE 9.8)
 
-pub twelve-calls : map answerTo twelve ≡ map expected twelve
+pub twelve-calls : map answeredTo twelve ≡ map expected twelve
 twelve-calls = calls.twelve-calls

@@ -1,5 +1,5 @@
 -- The equality with the standards, said of the methods themselves: their contracts equate the answer and the buffer at exit with the definitions
--- of which it is proved. Assumes nothing.
+-- of which it is proved.
 use Prim.Native.Nat.{ℕ, _≤_}
 use mathlib.Core.Path.{_≡_}
 use mathlib.Core.List.{List}

@@ -1,5 +1,5 @@
 -- What a refusal is, of every operation: one of the seven numbers, the call as it was handed in, every other number 0, and no word of the lent
--- buffer changed. Assumes nothing.
+-- buffer changed.
 use Prim.Native.Nat.{ℕ, zero, suc, _/_, _%_, _≤_}
 use mathlib.Core.Path.{_≡_, refl}
 use mathlib.Core.List.{List, [], _∷_}
@@ -22,9 +22,9 @@ use Rattle.spend.specs.declared.Left.{Left}
 use Rattle.spend.specs.declared.Spent.{Spent}
 use Rattle.classify.specs.declared.Call.{Call}
 use Rattle.classify.specs.declared.Answer.{Answer}
-use Rattle.classify.specs.Pass.{slotsOf}
+use Rattle.classify.specs.Pass.{passSlots}
 use Rattle.classify.specs.Classify.{Passed}
-use Rattle.classify.specs.Answers.{descriptions, isBadLeft, leftRefusal, argRefusal, checked, callRefusalBy, refusalBy, rowRefusal, refusalOf, refused, done, orAnswer, answerTo, writtenTo, variadicAnswerBy, returnsAnswerBy, returnsWrittenBy, argumentAnswerBy, argumentWrittenBy, dotsAnswerBy, dotsWrittenBy, variadicAnswer, returnsAnswer, returnsWritten, argumentAnswer, argumentWritten, dotsAnswer, dotsWritten}
+use Rattle.classify.specs.Answers.{descriptions, isBadLeft, leftRefusal, argRefusal, checked, callRefusalBy, refusalBy, rowRefusal, refusalOf, refused, done, orAnswer, answerTo, writtenTo, variadicAnswerBy, returnsAnswerBy, returnsWrittenBy, argumentAnswerBy, argumentWrittenBy, variadicArgumentAnswerBy, variadicArgumentWrittenBy, variadicAnswer, returnsAnswer, returnsWritten, argumentAnswer, argumentWritten, variadicArgumentAnswer, variadicArgumentWritten}
 use Rattle.classify.proofs.Accepted.{by-cases}
 use Rattle.demands.specs.Refusals.{Refused}
 
@@ -106,7 +106,7 @@ answer-refused : (checks : ℕ) → checks ≤ 7 → (c : Call) (p : Passed) (sp
     → Refused c out (answerTo checks c p spent out) (writtenTo checks p out)
 answer-refused checks h c p spent out =
     by-cases checks c p spent out (λ (a : Answer) (words : List ℕ). (a .outcome .refusal ≡ accepted → ⊥) → Refused c out a words)
-    (λ n e _. by-number (suc n) c out (rw (← e) (else-few checks _ h (refuse-few (ltb (length out / slotSize) (length (slotsOf (p .pass)))) no-room accepted (omega arith) (omega arith)))))
+    (λ n e _. by-number (suc n) c out (rw (← e) (else-few checks _ h (refuse-few (ltb (length out / slotSize) (length (passSlots (p .pass)))) no-room accepted (omega arith) (omega arith)))))
     (λ z room x. absurd (x refl))
 
 module _ (c : Call) (arg : args.Arg) (words out : List ℕ) where
@@ -122,9 +122,9 @@ module _ (c : Call) (arg : args.Arg) (words out : List ℕ) where
   unfolding argumentAnswer argumentWritten argumentAnswerBy argumentWrittenBy refusalOf
   argument-refused = answer-refused (refusalOf c arg words) few c _ _ out
 
-  pub dots-refused : (dotsAnswer c arg words out .outcome .refusal ≡ accepted → ⊥) → Refused c out (dotsAnswer c arg words out) (dotsWritten c arg words out)
-  unfolding dotsAnswer dotsWritten dotsAnswerBy dotsWrittenBy refusalOf
-  dots-refused = answer-refused (refusalOf c arg words) few c _ _ out
+  pub variadic-argument-refused : (variadicArgumentAnswer c arg words out .outcome .refusal ≡ accepted → ⊥) → Refused c out (variadicArgumentAnswer c arg words out) (variadicArgumentWritten c arg words out)
+  unfolding variadicArgumentAnswer variadicArgumentWritten variadicArgumentAnswerBy variadicArgumentWrittenBy refusalOf
+  variadic-argument-refused = answer-refused (refusalOf c arg words) few c _ _ out
 
 mark-by : (n : ℕ) → n ≤ 7 → (c next : Call) (out : List ℕ) → (orAnswer n c (done next) .outcome .refusal ≡ accepted → ⊥) → Refused c out (orAnswer n c (done next)) out
 mark-by zero k c next out h = absurd (h refl)

@@ -8,7 +8,7 @@ use Rattle.slots.specs.Words.{written}
 use Rattle.spend.specs.Ways.{wayNumber}
 use Rattle.classify.specs.declared.Call.{Call}
 use Rattle.classify.specs.declared.Answer.{Answer}
-use Rattle.classify.specs.Pass.{wayOf, slotsOf}
+use Rattle.classify.specs.Pass.{wayOf, passSlots}
 use Rattle.classify.specs.Classify.{Passed}
 use Rattle.classify.specs.Spending.{Chosen}
 use Rattle.classify.specs.Answers.{callWith}
@@ -17,7 +17,7 @@ use Rattle.classify.specs.Answers.{callWith}
 pub record AsRust (c : Call) (out : List ℕ) (p : Passed) (k : Chosen) (a : Answer) (after : List ℕ) : Type 0 where
   pub not-refused : a .outcome .refusal ≡ accepted
   pub way : a .outcome .way ≡ wayNumber (wayOf (p .pass))
-  pub count : a .outcome .slots ≡ length (slotsOf (p .pass))
-  pub slots : after ≡ written (slotsOf (p .pass)) out
+  pub count : a .outcome .slots ≡ length (passSlots (p .pass))
+  pub slots : after ≡ written (passSlots (p .pass)) out
   pub left : a .next ≡ callWith (c .abi) (p .left)
   pub spent : a .outcome .spent ≡ k .decision .spent

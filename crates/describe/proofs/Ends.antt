@@ -5,6 +5,7 @@ use mathlib.Core.List.{List}
 use Prim.Native.Nat.{_-_}
 use lib.Dec.{T, ltb, ltb→lt}
 use lib.ListN.{length, getD}
+use Rattle.shape.proofs.Bools.{and-left, and-right}
 use Rattle.describe.specs.declared.Rule.{Rule}
 use Rattle.describe.specs.declared.Test.{Test}
 use Rattle.describe.specs.declared.Travel.{Travel}
@@ -13,7 +14,6 @@ use Rattle.describe.specs.declared.Test.the-variants.{Anything, Empty, S
 use Rattle.describe.specs.declared.Travel.the-variants.{Ignore, AsFound, AsIntegers, AsOneInteger, ByReference, InMemory, InMemoryAndSpend}
 use Rattle.describe.specs.declared.Short.the-variants.{Unchanged, Memory, MemoryAndDrain, TryNextRule}
 use Rattle.describe.specs.Description.{Decides, Ends, past}
-use Rattle.describe.proofs.Numbers.{and-left, and-right}
 
 -- The test of a rule, part by part.
 abbrev isAnything : Test → Bool

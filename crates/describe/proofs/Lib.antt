@@ -1,6 +1,3 @@
-pub mod Cases
-pub mod Numbers
-pub mod Inverse
 pub mod Ends
 mod Dotted
 mod References

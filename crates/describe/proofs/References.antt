@@ -1,4 +1,4 @@
--- A scalar by reference: the ways out of the two questions. Assumes nothing.
+-- A scalar by reference: the ways out of the two questions.
 use Prim.Native.Nat.{ℕ, _<_}
 use mathlib.Core.Path.{_≡_}
 use mathlib.Core.Bool.{Bool, true, false, not}

@@ -1,20 +1,12 @@
--- No second answer meets the promise of a public function. Assumes nothing.
+-- No second answer meets the promise of a public function.
 use mathlib.Core.Path.{sym, _∙_}
 use contract.Lifetimes.{Lfts}
 use Rattle.shape.proofs.OneAnswer.{OneAnswer}
-use Rattle.describe.proofs.row.terms_of.Reads as terms-of
-use Rattle.describe.proofs.row.others_of.Reads as others-of
 use Rattle.describe.proofs.dots_of.Reads as dots-of
 use Rattle.describe.proofs.as_fixed.Reads as as-fixed
 use Rattle.describe.proofs.scalar_is_by_reference.Reads as scalar-is-by-reference
 use Rattle.describe.proofs.scalar_returns_by_reference.Reads as scalar-returns-by-reference
 use Rattle.describe.proofs.wide_integer_returns_in.Reads as wide-integer-returns-in
-
-terms-of-decides : (κs : Lfts 0) → OneAnswer (terms-of.Post κs)
-terms-of-decides κs a r q s t p p′ = p ∙ sym p′
-
-others-of-decides : (κs : Lfts 0) → OneAnswer (others-of.Post κs)
-others-of-decides κs a r q s t p p′ = p ∙ sym p′
 
 dots-of-decides : (κs : Lfts 0) → OneAnswer (dots-of.Post κs)
 dots-of-decides κs a r q s t p p′ = p ∙ sym p′

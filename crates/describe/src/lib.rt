@@ -1,18 +1,8 @@
 // The language of descriptions (REFERENCE 5): what a description says, the questions that its scalar rules answer by themselves, and
-// what its variadic kind comes to. `row` reads a description from a row of bytes, but for its rules, which the crate `rules` reads.
+// what its variadic kind comes to. The crate rows reads a description from a row of bytes.
 ghost use mathlib.Core.Path.{_≡_};
 ghost use Rattle.describe.specs.Questions.{isByReference, returnsByReference, wideReturnsIn, registerSize};
 ghost use Rattle.describe.specs.Dots.{dotsOf, asFixed};
-
-pub mod codes;
-mod row;
-
-pub use row::ARGUMENTS;
-pub use row::RETURNS;
-pub use row::RULES;
-pub use row::WIDTH;
-pub use row::others_of;
-pub use row::terms_of;
 
 // What an aggregate has to look like for a rule to apply. SizeOneOf has a count, and of the four sizes behind it the first so many.
 pub enum Test {
@@ -53,13 +43,6 @@ pub struct Rule {
     pub when: Test,
     pub then: Travel,
     pub short: Short,
-}
-
-// A list of rules as two numbers, the first rule lowest: two bytes for each test and its number, a byte for each way of travel with what
-// happens when short. A walk takes the first rule off until one decides; nothing is copied for it.
-pub struct Rules {
-    pub tests: u64,
-    pub ways: u64,
 }
 
 // The registers that a call starts with. With shared banks every spend comes out of the integer one.

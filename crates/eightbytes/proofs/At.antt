@@ -1,5 +1,5 @@
 -- What pieces leave at one eightbyte, and the marking of all pieces apart from the test of all: how a standard that speaks of one eightbyte at
--- a time is compared with the marking, which goes piece by piece. Assumes nothing.
+-- a time is compared with the marking, which goes piece by piece.
 use Prim.Native.Nat.{ℕ, zero, suc, _+_, _≤_, _<_}
 use mathlib.Core.Path.{_≡_, refl, ap, ap₂, _∙_}
 use mathlib.Core.Bool.{Bool, true, false, cond, _&&_}
@@ -10,8 +10,9 @@ use native.Mathlib.Decide.{decLe}
 use lib.ListN.{length, getD, set, length-set}
 use lib.Seq.{getD-set-same, getD-set-other}
 use Rattle.shape.specs.declared.Piece.{Piece}
-use Rattle.eightbytes.specs.Class.{Class, None, Integer, Sse, SseUp, X87, Memory, code, same, merge}
-use Rattle.eightbytes.specs.Eightbytes.{firstOf, lastOf, kindClass, later, cover, mark, fits, marked}
+use Rattle.eightbytes.specs.Class.{Class, None, Integer, Sse, SseUp, X87, Memory, code, same, merge, kindClass, later}
+use Rattle.eightbytes.specs.Eightbytes.{cover, mark, classesAfter}
+use Rattle.eightbytes.specs.Reach.{firstOf, lastOf, fits}
 use Rattle.eightbytes.proofs.Marks.{mark-length}
 
 later-later : (c : Class) → later (later c) ≡ later c
@@ -89,12 +90,12 @@ unfoldable pub markAll : List Class → List Piece → List Class
 markAll cs [] = cs
 markAll cs (p ∷ ps) = markAll (mark cs p) ps
 
-pub marked-all : (cs : List Class) (ps : List Piece) → marked cs ps ≡ cond (allFit (length cs) ps) (some (markAll cs ps)) none
-unfolding marked allFit markAll
+pub marked-all : (cs : List Class) (ps : List Piece) → classesAfter cs ps ≡ cond (allFit (length cs) ps) (some (markAll cs ps)) none
+unfolding classesAfter allFit markAll
 marked-all cs [] = refl
 marked-all cs (p ∷ ps) = go (fits (length cs) p) (marked-all (mark cs p) ps ∙ ap (λ n. cond (allFit n ps) (some (markAll (mark cs p) ps)) none) (mark-length cs p))
   where
-    go : (b : Bool) → marked (mark cs p) ps ≡ cond (allFit (length cs) ps) (some (markAll (mark cs p) ps)) none
-        → cond b (marked (mark cs p) ps) none ≡ cond (b && allFit (length cs) ps) (some (markAll (mark cs p) ps)) none
+    go : (b : Bool) → classesAfter (mark cs p) ps ≡ cond (allFit (length cs) ps) (some (markAll (mark cs p) ps)) none
+        → cond b (classesAfter (mark cs p) ps) none ≡ cond (b && allFit (length cs) ps) (some (markAll (mark cs p) ps)) none
     go true ih = ih
     go false ih = refl

@@ -1,4 +1,4 @@
--- Lists of codes and the lists of their classes. Assumes nothing.
+-- Lists of codes and the lists of their classes.
 use Prim.Native.Nat.{ℕ, zero, suc, _<_}
 use mathlib.Core.Path.{_≡_, refl, sym, ap, ap₂, subst}
 use mathlib.Core.List.{List, [], _∷_, map}

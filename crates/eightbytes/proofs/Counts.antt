@@ -1,4 +1,4 @@
--- The pass after the merge: what is done and what is left decide the classes and the counts. Assumes nothing.
+-- The pass after the merge: what is done and what is left decide the classes and the counts.
 use Prim.Native.Nat.{ℕ, _+_, _-_, _≤_, _<_}
 use mathlib.Core.Path.{_≡_, refl, sym, ap₂, _∙_}
 use mathlib.Core.Bool.{Bool, true, false, cond, not}
@@ -15,8 +15,8 @@ use Rattle.slots.specs.declared.Slot.{Slot}
 use Rattle.slots.specs.declared.Found.{Found}
 use Rattle.slots.specs.declared.Found.the-variants.{Slots, Nothing}
 use Rattle.slots.specs.Search.{oneIf, floatsIn, foundOf}
-use Rattle.eightbytes.specs.Class.{Class, None, Integer, Sse, SseUp, X87, Memory, code, classOf, same}
-use Rattle.eightbytes.specs.Eightbytes.{spoiled, mended, mend, settled, ownSlot, slotOf, upFirst, slotsFrom, slotsFound, codes, slotsIn, Coded}
+use Rattle.eightbytes.specs.Class.{Class, None, Integer, Sse, SseUp, X87, Memory, code, classOf, same, mended}
+use Rattle.eightbytes.specs.Eightbytes.{spoiled, mend, settled, ownSlot, classSlot, upFirst, slotsFrom, slotsFound, codes, slotCount, Coded}
 use Rattle.eightbytes.proofs.Class.{class-code, sse-code, up-code, mended-low, mended-high}
 use Rattle.eightbytes.proofs.Codes.{map-set, map-take, codes-classes}
 use Rattle.eightbytes.proofs.Rest.{rest, rest-step, rest-set, rest-end}
@@ -32,17 +32,17 @@ format-float false true = refl
 format-float false false = refl
 
 -- slots and floats are counted by their classes
-pub slots-length : (at left : ℕ) (cs : List Class) → length (slotsFrom at left cs) ≡ slotsIn cs
-unfolding slotsFrom slotsIn
+pub slots-length : (at left : ℕ) (cs : List Class) → length (slotsFrom at left cs) ≡ slotCount cs
+unfolding slotsFrom slotCount
 slots-length at left [] = refl
 slots-length at left (c ∷ cs) = go (same c SseUp) (slots-length (at + 8) (left - 8) cs)
   where
-    go : (up : Bool) → length (slotsFrom (at + 8) (left - 8) cs) ≡ slotsIn cs
-        → length (cond up [] (ownSlot c (upFirst cs) at left ∷ []) ++ slotsFrom (at + 8) (left - 8) cs) ≡ oneIf (not up) + slotsIn cs
+    go : (up : Bool) → length (slotsFrom (at + 8) (left - 8) cs) ≡ slotCount cs
+        → length (cond up [] (ownSlot c (upFirst cs) at left ∷ []) ++ slotsFrom (at + 8) (left - 8) cs) ≡ oneIf (not up) + slotCount cs
     go true ih = omega arith
     go false ih = omega arith
 
-float-one : (c : Class) (up : Bool) (at left : ℕ) → floatsIn (slotOf c up at left) ≡ oneIf (same c Sse)
+float-one : (c : Class) (up : Bool) (at left : ℕ) → floatsIn (classSlot c up at left) ≡ oneIf (same c Sse)
 unfolding floatsIn same code
 float-one None up at left = refl
 float-one Integer up at left = refl
@@ -60,7 +60,7 @@ pub slots-floats : (at left : ℕ) (cs : List Class) → floatsIn (slotsFrom at 
 unfolding slotsFrom ssesIn floatsIn
 slots-floats at left [] = refl
 slots-floats at left (c ∷ cs) =
-    floats-append (slotOf c (upFirst cs) at left) (slotsFrom (at + 8) (left - 8) cs)
+    floats-append (classSlot c (upFirst cs) at left) (slotsFrom (at + 8) (left - 8) cs)
     ∙ ap₂ _+_ (float-one c (upFirst cs) at left) (slots-floats (at + 8) (left - 8) cs)
 
 -- the loop: `all` are the classes, mended, `xs` the codes as they are, mended before `i`
@@ -86,11 +86,11 @@ module _ (xs : List ℕ) (n i below : ℕ) (h : i < n) (l : n ≤ length xs) (cl
       rw (map-set, add-one) (take-suc-set (map classOf xs) i (classOf class) (omega arith)) in
       rw (a, mend-step, t, rest-set xs n i class h, append-assoc)
 
-  pub count-turn : (m count k : ℕ) → m ≡ count + slotsIn (mend (classOf below) (rest xs n i)) → k ≡ oneIf (not (eqb class 3))
-      → m ≡ count + k + slotsIn (mend (classOf class) (rest (set xs i class) n (i + 1)))
-  unfolding slotsIn
+  pub count-turn : (m count k : ℕ) → m ≡ count + slotCount (mend (classOf below) (rest xs n i)) → k ≡ oneIf (not (eqb class 3))
+      → m ≡ count + k + slotCount (mend (classOf class) (rest (set xs i class) n (i + 1)))
+  unfolding slotCount
   count-turn m count k a ek =
-      let s : slotsIn (mend (classOf below) (rest xs n i)) ≡ oneIf (not (eqb class 3)) + slotsIn (mend (classOf class) (rest xs n (i + 1))) =
+      let s : slotCount (mend (classOf below) (rest xs n i)) ≡ oneIf (not (eqb class 3)) + slotCount (mend (classOf class) (rest xs n (i + 1))) =
       rw (mend-step, up-code class) in
       rw (rest-set xs n i class h) (omega arith)
 
@@ -120,12 +120,12 @@ module _ (n : ℕ) (xs : List ℕ) where
     unfolding settled spoiled
     settled-some = let c : spoiled (rest xs n 0) ≡ false = rw (s, rest-end cs n i past) in rw c
 
-    pub end-found : (count floats : ℕ) → slotsIn (mend None (rest xs n 0)) ≡ count + slotsIn (mend (classOf below) (rest cs n i))
+    pub end-found : (count floats : ℕ) → slotCount (mend None (rest xs n 0)) ≡ count + slotCount (mend (classOf below) (rest cs n i))
         → ssesIn (mend None (rest xs n 0)) ≡ floats + ssesIn (mend (classOf below) (rest cs n i))
         → (size : ℕ) → Slots count floats ≡ foundOf (slotsFound size (settled (take n (map classOf xs))))
-    unfolding slotsFound foundOf mend slotsIn ssesIn
+    unfolding slotsFound foundOf mend slotCount ssesIn
     end-found count floats a b size =
-        let ea : slotsIn (mend None (rest xs n 0)) ≡ count = rw (rest-end cs n i past) at a ∙ add-zero count in
+        let ea : slotCount (mend None (rest xs n 0)) ≡ count = rw (rest-end cs n i past) at a ∙ add-zero count in
         let eb : ssesIn (mend None (rest xs n 0)) ≡ floats = rw (rest-end cs n i past) at b ∙ add-zero floats in
         rw (settled-some, slots-length, slots-floats, ea, eb)
 

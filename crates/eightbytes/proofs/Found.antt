@@ -1,5 +1,4 @@
 -- The whole search, from what its parts found, and what its users learn: its slots are those of the classes beside it, and how many there can be.
--- Assumes nothing.
 use Prim.Native.Nat.{ℕ, suc, _+_, _-_, _≤_, _<_, min}
 use mathlib.Core.Path.{_≡_, refl, sym, ap, _∙_}
 use mathlib.Core.Bool.{Bool, true, false, cond, not}
@@ -18,7 +17,8 @@ use Rattle.slots.specs.declared.Found.{Found}
 use Rattle.slots.specs.declared.Found.the-variants.{Nothing}
 use Rattle.slots.specs.Search.{found, oneIf, foundOf}
 use Rattle.eightbytes.specs.Class.{Class, None, SseUp, code, classOf, same}
-use Rattle.eightbytes.specs.Eightbytes.{most-limit, eightbytesIn, mark, fits, marked, spoiled, mend, settled, andThen, classified, slotsFrom, slotsFound, eightbytes, codes, classesOf, slotsOf, slotsIn}
+use Rattle.eightbytes.specs.Eightbytes.{most-limit, eightbytesIn, mark, classesAfter, spoiled, mend, settled, andThen, classified, slotsFrom, slotsFound, eightbytes, codes, classesOf, codedSlots, slotCount}
+use Rattle.eightbytes.specs.Reach.{fits}
 use Rattle.eightbytes.proofs.Marks.{mark-length}
 use Rattle.eightbytes.proofs.Codes.{classes-codes}
 use Rattle.eightbytes.proofs.Counts.{slots-length}
@@ -45,11 +45,11 @@ module _ (limit : ℕ) (shape : Shape) (ps : List Piece) (m : ℕ) (em : m ≡ m
 
   -- within it, n is the number of the shape's eightbytes
   module _ (n : ℕ) (h : shape .size ≤ m) (en : n ≡ eightbytesIn (shape .size)) where
-    pub unfit : marked (replicate n None) ps ≡ none → classified limit shape ps ≡ none
+    pub unfit : classesAfter (replicate n None) ps ≡ none → classified limit shape ps ≡ none
     unfolding classified
     unfit e = rw (← em, le-ltb _ _ h, ← en, e)
 
-    pub fit : (xs : List ℕ) → marked (replicate n None) ps ≡ some (take n (map classOf xs)) → classified limit shape ps ≡ settled (take n (map classOf xs))
+    pub fit : (xs : List ℕ) → classesAfter (replicate n None) ps ≡ some (take n (map classOf xs)) → classified limit shape ps ≡ settled (take n (map classOf xs))
     unfolding classified
     fit xs e = rw (← em, le-ltb _ _ h, ← en, e)
 
@@ -60,12 +60,12 @@ unfolding mend
 mend-length below [] = refl
 mend-length below (c ∷ cs) = ap suc (mend-length _ cs)
 
-marked-long : (cs ds : List Class) (ps : List Piece) → marked cs ps ≡ some ds → length ds ≡ length cs
-unfolding marked
+marked-long : (cs ds : List Class) (ps : List Piece) → classesAfter cs ps ≡ some ds → length ds ≡ length cs
+unfolding classesAfter
 marked-long cs ds [] e = let s : cs ≡ ds = cc in sym (ap length s)
 marked-long cs ds (p ∷ ps) e = go (marked-long (mark cs p) ds ps) (fits (length cs) p) e
   where
-    go : (marked (mark cs p) ps ≡ some ds → length ds ≡ length (mark cs p)) → (b : Bool) → cond b (marked (mark cs p) ps) none ≡ some ds → length ds ≡ length cs
+    go : (classesAfter (mark cs p) ps ≡ some ds → length ds ≡ length (mark cs p)) → (b : Bool) → cond b (classesAfter (mark cs p) ps) none ≡ some ds → length ds ≡ length cs
     go ih true x = ih x ∙ mark-length cs p
     go ih false x = let z : _≡_ {A = ℕ} 0 1 = cc in absurd (omega arith)
 
@@ -89,31 +89,31 @@ classes-are limit shape ps cs e = go (ltb (min limit most-limit) (shape .size)) 
     n : ℕ
     n = eightbytesIn (shape .size)
 
-    some-cs : (o : Option (List Class)) → marked (replicate n None) ps ≡ o → andThen o settled ≡ some cs → length cs ≡ n
+    some-cs : (o : Option (List Class)) → classesAfter (replicate n None) ps ≡ o → andThen o settled ≡ some cs → length cs ≡ n
     some-cs none m x = let z : _≡_ {A = ℕ} 0 1 = cc in absurd (omega arith)
     some-cs (some ds) m x = settled-long ds cs x ∙ marked-long (replicate n None) ds ps m ∙ length-replicate n None
 
-    go : (b : Bool) → ltb (min limit most-limit) (shape .size) ≡ b → cond b none (andThen (marked (replicate n None) ps) settled) ≡ some cs → Classes limit shape cs
+    go : (b : Bool) → ltb (min limit most-limit) (shape .size) ≡ b → cond b none (andThen (classesAfter (replicate n None) ps) settled) ≡ some cs → Classes limit shape cs
     go true t x = let z : _≡_ {A = ℕ} 0 1 = cc in absurd (omega arith)
     go false t x = record { size≤ = ltb-false _ _ t; one-each = some-cs _ refl x }
 
-pub few-slots : (cs : List Class) → slotsIn cs ≤ length cs
-unfolding slotsIn
+pub few-slots : (cs : List Class) → slotCount cs ≤ length cs
+unfolding slotCount
 few-slots [] = omega arith
 few-slots (c ∷ cs) = go (same c SseUp) (few-slots cs)
   where
-    go : (up : Bool) → slotsIn cs ≤ length cs → oneIf (not up) + slotsIn cs ≤ suc (length cs)
+    go : (up : Bool) → slotCount cs ≤ length cs → oneIf (not up) + slotCount cs ≤ suc (length cs)
     go true h = omega arith
     go false h = omega arith
 
 -- the classes beside the answer stand for its slots
 pub record Answer (limit : ℕ) (shape : Shape) (ps : List Piece) (ss : List Slot) : Type 0 where
-  pub slots-are : ss ≡ slotsOf (shape .size) (classesOf limit shape ps)
+  pub slots-are : ss ≡ codedSlots (shape .size) (classesOf limit shape ps)
   pub few : length ss ≤ eightbytesIn (shape .size)
   pub within : shape .size ≤ min limit most-limit
 
 pub answer : (limit : ℕ) (shape : Shape) (ps : List Piece) (ss : List Slot) → eightbytes limit shape ps ≡ found ss → Answer limit shape ps ss
-unfolding eightbytes slotsFound classesOf codes slotsOf
+unfolding eightbytes slotsFound classesOf codes codedSlots
 answer limit shape ps ss e = go (classified limit shape ps) refl e
   where
     n : ℕ
@@ -128,7 +128,7 @@ answer limit shape ps ss e = go (classified limit shape ps) refl e
     go (some cs) c x =
         let k = classes-are limit shape ps cs c in
         let s : slotsFrom 0 (shape .size) cs ≡ ss = cc in
-        let l : length ss ≡ slotsIn cs = ap length (sym s) ∙ slots-length 0 (shape .size) cs in
+        let l : length ss ≡ slotCount cs = ap length (sym s) ∙ slots-length 0 (shape .size) cs in
         record {
           slots-are = sym s ∙ rw (c) (sym (ap (slotsFrom 0 (shape .size)) (back cs (k .one-each))));
           few = omega (arith, few-slots cs);
@@ -138,6 +138,3 @@ answer limit shape ps ss e = go (classified limit shape ps) refl e
 -- at most one slot for each eightbyte of the limit, and at most eight
 pub at-most : (limit : ℕ) (shape : Shape) (ps : List Piece) (ss : List Slot) → eightbytes limit shape ps ≡ found ss → length ss ≤ eightbytesIn (min limit most-limit)
 at-most limit shape ps ss e = let a = answer limit shape ps ss e in omega arith
-
-pub at-most-two : (shape : Shape) (ps : List Piece) (ss : List Slot) → eightbytes 16 shape ps ≡ found ss → length ss ≤ 2
-at-most-two shape ps ss e = let a = answer 16 shape ps ss e in omega arith

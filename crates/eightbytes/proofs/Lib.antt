@@ -1,4 +1,5 @@
 pub mod Class
+pub mod Reach
 pub mod Merging
 pub mod Codes
 pub mod Marks

@@ -1,4 +1,4 @@
--- Marking pieces: one turn of each loop, and that what happens to the shape's own eightbytes happens to the first of the eight. Assumes nothing.
+-- Marking pieces: one turn of each loop, and that what happens to the shape's own eightbytes happens to the first of the eight.
 use Prim.Native.Nat.{ℕ, zero, suc, _+_, _-_, _/_, _≤_, _<_}
 use mathlib.Core.Path.{_≡_, refl, sym, ap, _∙_}
 use mathlib.Core.Bool.{Bool, true, false, not, _&&_, false≢true}
@@ -15,8 +15,9 @@ use Rattle.shape.specs.declared.Piece.{Piece}
 use Rattle.shape.specs.Questions.{endOf}
 use Rattle.shape.specs.Words.{piecesOf, pieceAt}
 use Rattle.shape.proofs.Words.{pieces-step, pieces-end}
-use Rattle.eightbytes.specs.Class.{Class, None, code, classOf, merge}
-use Rattle.eightbytes.specs.Eightbytes.{lastOf, aligned, kindClass, later, cover, mark, fits, marked, Coded}
+use Rattle.eightbytes.specs.Class.{Class, None, code, classOf, merge, kindClass, later}
+use Rattle.eightbytes.specs.Eightbytes.{cover, mark, classesAfter, Coded}
+use Rattle.eightbytes.specs.Reach.{lastOf, aligned, fits}
 use Rattle.eightbytes.proofs.Class.{class-code, coded-lt}
 use Rattle.eightbytes.proofs.Codes.{map-set, map-drop, class-at, codes-classes, classes-codes, coded-set}
 
@@ -108,9 +109,9 @@ fits-last n p b e h = ltb-true _ _ (go (aligned p) (sym e ∙ not-false b h))
     go false x = absurd (false≢true x)
 
 module _ (total : Option (List Class)) (ws : List ℕ) (at n : ℕ) (xs : List ℕ)
-    (inv : total ≡ marked (take n (map classOf xs)) (piecesOf (drop at ws))) (w : at ≤ length ws) where
+    (inv : total ≡ classesAfter (take n (map classOf xs)) (piecesOf (drop at ws))) (w : at ≤ length ws) where
   pub marked-end : length ws - at < 4 → total ≡ some (take n (map classOf xs))
-  unfolding marked
+  unfolding classesAfter
   marked-end h = rw (inv, pieces-end ws at (omega arith))
 
   module _ (h : 4 ≤ length ws - at) (l : n ≤ length xs) (p : Piece) (ep : p ≡ pieceAt ws at) (b : Bool) (eb : b ≡ fits n p) where
@@ -118,15 +119,15 @@ module _ (total : Option (List Class)) (ws : List ℕ) (at n : ℕ) (xs : List �
     own = simp (length-take, length-map) (omega arith)
 
     pub marked-stop : not b ≡ true → total ≡ none
-    unfolding marked
+    unfolding classesAfter
     marked-stop f = rw (inv, pieces-step ws at (omega arith), ← ep, own, ← eb, not-true b f)
 
     pub inside : not b ≡ false → lastOf p < n
     inside f = fits-last n p b eb f
 
     module _ (f : not b ≡ false) (ys : List ℕ) (ey : ys ≡ map code (mark (map classOf xs) p)) where
-      pub marked-turn : total ≡ marked (take n (map classOf ys)) (piecesOf (drop (at + 4) ws))
-      unfolding marked
+      pub marked-turn : total ≡ classesAfter (take n (map classOf ys)) (piecesOf (drop (at + 4) ws))
+      unfolding classesAfter
       marked-turn =
           let t : take n (map classOf ys) ≡ mark (take n (map classOf xs)) p =
           rw (ey, classes-codes) (mark-take n (map classOf xs) p (inside f)) in
@@ -145,9 +146,9 @@ take-same zero m c h = refl
 take-same (suc n) zero c h = absurd (omega arith)
 take-same (suc n) (suc m) c h = ap {B = List Class} (λ r. c ∷ r) (take-same n m c (omega arith))
 
-pub marked-start : (n : ℕ) (ps : List Piece) → n ≤ 8 → marked (replicate n None) ps ≡ marked (take n (map classOf (replicate 8 0))) ps
+pub marked-start : (n : ℕ) (ps : List Piece) → n ≤ 8 → classesAfter (replicate n None) ps ≡ classesAfter (take n (map classOf (replicate 8 0))) ps
 unfolding classOf
-marked-start n ps h = ap (λ (cs : List Class). marked cs ps) (sym (take-same n 8 None h))
+marked-start n ps h = ap (λ (cs : List Class). classesAfter cs ps) (sym (take-same n 8 None h))
 
 drop-same : (n m : ℕ) → n ≤ m → drop {A = ℕ} n (replicate m 0) ≡ replicate (m - n) 0
 drop-same zero m h = rw sub-zero

@@ -1,4 +1,4 @@
--- The merge on codes, where no table is read. Assumes nothing.
+-- The merge on codes, where no table is read.
 use Prim.Native.Nat.{ℕ, zero, suc, _<_}
 use mathlib.Core.Path.{_≡_, refl}
 use native.Mathlib.Omega.{arith}

@@ -1,4 +1,4 @@
--- At most two eightbytes whose classes come before SseUp: they stay as they are, a slot for each. Assumes nothing.
+-- At most two eightbytes whose classes come before SseUp: they stay as they are, a slot for each.
 use Prim.Native.Nat.{ℕ, zero, suc, _+_, _-_, _≤_, _<_}
 use mathlib.Core.Path.{_≡_, refl, sym, ap}
 use mathlib.Core.Bool.{false, _||_}
@@ -9,8 +9,8 @@ use lib.Dec.{eqb}
 use lib.ListN.{length-map, length, getD, take, drop, replicate, length-take, take-append-drop}
 use Rattle.slots.specs.declared.Found.the-variants.{Slots}
 use Rattle.slots.specs.Search.{oneIf, foundOf}
-use Rattle.eightbytes.specs.Class.{Class, None, SseUp, X87, Memory, code, classOf, same}
-use Rattle.eightbytes.specs.Eightbytes.{spoiled, mended, mend, settled, slotsFound, codes, slotsIn, Coded}
+use Rattle.eightbytes.specs.Class.{Class, None, SseUp, X87, Memory, code, classOf, same, mended}
+use Rattle.eightbytes.specs.Eightbytes.{spoiled, mend, settled, slotsFound, codes, slotCount, Coded}
 use Rattle.eightbytes.proofs.Class.{sse-code}
 use Rattle.eightbytes.proofs.Codes.{map-take, codes-classes}
 use Rattle.eightbytes.proofs.Counts.{ssesIn, slots-length, slots-floats}
@@ -46,8 +46,8 @@ low-settled (suc zero) (x ∷ y ∷ xs) z l h k = rw (low-spoil x h, low-mended 
 low-settled (suc (suc zero)) (x ∷ y ∷ xs) z l h k = rw (low-spoil x h, low-spoil y k, low-mended None x h, low-mended (classOf x) y k)
 low-settled (suc (suc (suc m))) (x ∷ y ∷ xs) z l h k = absurd (omega arith)
 
-low-count : (m : ℕ) (xs : List ℕ) → m ≤ 2 → length xs ≡ 8 → getD xs 0 0 < 3 → getD xs 1 0 < 3 → slotsIn (take m (map classOf xs)) ≡ m
-unfolding slotsIn
+low-count : (m : ℕ) (xs : List ℕ) → m ≤ 2 → length xs ≡ 8 → getD xs 0 0 < 3 → getD xs 1 0 < 3 → slotCount (take m (map classOf xs)) ≡ m
+unfolding slotCount
 low-count m [] z l h k = absurd (omega arith)
 low-count m (x ∷ []) z l h k = absurd (omega arith)
 low-count zero (x ∷ y ∷ xs) z l h k = refl

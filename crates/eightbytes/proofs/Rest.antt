@@ -1,4 +1,4 @@
--- The classes from an index on, among the first n of some codes: what each loop over eightbytes has left. Assumes nothing.
+-- The classes from an index on, among the first n of some codes: what each loop over eightbytes has left.
 use Prim.Native.Nat.{ℕ, _+_, _≤_, _<_}
 use mathlib.Core.Path.{_≡_}
 use mathlib.Core.List.{List, [], _∷_, map}

@@ -13,10 +13,8 @@ use Rattle.slots.specs.declared.Slot.{Slot}
 use Rattle.slots.specs.Words.{integerSlot, floatSlot}
 use Rattle.slots.specs.Cut.{ceilDiv}
 use Rattle.slots.specs.Search.{Search, found, nothing, oneIf}
-use Rattle.eightbytes.specs.Class.{Class, None, Sse, SseUp, X87, Memory, code, classOf, same, merge}
-pub use Rattle.classes.specs.Class.{kindClass, later, mended}
-pub use Rattle.classes.specs.Reach.{firstOf, lastOf, aligned}
-unfoldable pub use Rattle.classes.specs.Reach.{fits}
+use Rattle.eightbytes.specs.Class.{Class, None, Sse, SseUp, X87, Memory, code, classOf, same, kindClass, later, merge, mended}
+use Rattle.eightbytes.specs.Reach.{firstOf, lastOf, fits}
 
 -- a limit above eight eightbytes counts as eight
 abbrev pub most-limit : ℕ
@@ -40,9 +38,9 @@ mark cs p = cover cs (firstOf p) (kindClass (p .kind)) (lastOf p + 1 - firstOf p
 -- ---- the classes of a shape
 
 -- the classes after some pieces, none where a piece doesn't fit
-unfoldable pub marked : List Class → List Piece → Option (List Class)
-marked cs [] = some cs
-marked cs (p ∷ ps) = cond (fits (length cs) p) (marked (mark cs p) ps) none
+unfoldable pub classesAfter : List Class → List Piece → Option (List Class)
+classesAfter cs [] = some cs
+classesAfter cs (p ∷ ps) = cond (fits (length cs) p) (classesAfter (mark cs p) ps) none
 
 -- X87 or Memory anywhere
 unfoldable pub spoiled : List Class → Bool
@@ -65,7 +63,7 @@ andThen (some cs) f = f cs
 unfoldable pub classified : ℕ → Shape → List Piece → Option (List Class)
 classified limit shape ps =
     cond (ltb (min limit most-limit) (shape .size)) none
-    (andThen (marked (replicate (eightbytesIn (shape .size)) None) ps) settled)
+    (andThen (classesAfter (replicate (eightbytesIn (shape .size)) None) ps) settled)
 
 -- ---- its slots
 
@@ -78,8 +76,8 @@ abbrev pub ownSlot : Class → Bool → ℕ → ℕ → Slot
 ownSlot c up at left = cond (same c Sse) (floatSlot (formatOf up left) at) (integerSlot at (min left 8))
 
 -- SseUp is part of the slot below
-abbrev pub slotOf : Class → Bool → ℕ → ℕ → List Slot
-slotOf c up at left = cond (same c SseUp) [] (ownSlot c up at left ∷ [])
+abbrev pub classSlot : Class → Bool → ℕ → ℕ → List Slot
+classSlot c up at left = cond (same c SseUp) [] (ownSlot c up at left ∷ [])
 
 -- whether the classes from the eightbyte above on begin with SseUp
 abbrev pub upFirst : List Class → Bool
@@ -89,7 +87,7 @@ upFirst (c ∷ cs) = same c SseUp
 -- the slots of the eightbytes from an offset on, with so many bytes left there
 unfoldable pub slotsFrom : ℕ → ℕ → List Class → List Slot
 slotsFrom at left [] = []
-slotsFrom at left (c ∷ cs) = slotOf c (upFirst cs) at left ++ slotsFrom (at + 8) (left - 8) cs
+slotsFrom at left (c ∷ cs) = classSlot c (upFirst cs) at left ++ slotsFrom (at + 8) (left - 8) cs
 
 unfoldable pub slotsFound : ℕ → Option (List Class) → Search
 slotsFound size none = nothing
@@ -111,15 +109,15 @@ unfoldable pub classesOf : ℕ → Shape → List Piece → List ℕ
 classesOf limit shape ps = codes (classified limit shape ps)
 
 -- the slots that eight codes stand for in a shape of this size: those of the shape's eightbytes, as far as there are codes
-unfoldable pub slotsOf : ℕ → List ℕ → List Slot
-slotsOf size cs = slotsFrom 0 size (take (eightbytesIn size) (map classOf cs))
+unfoldable pub codedSlots : ℕ → List ℕ → List Slot
+codedSlots size cs = slotsFrom 0 size (take (eightbytesIn size) (map classOf cs))
 
 -- ---- for the code's own functions
 
 -- how many slots some classes have
-unfoldable pub slotsIn : List Class → ℕ
-slotsIn [] = 0
-slotsIn (c ∷ cs) = oneIf (not (same c SseUp)) + slotsIn cs
+unfoldable pub slotCount : List Class → ℕ
+slotCount [] = 0
+slotCount (c ∷ cs) = oneIf (not (same c SseUp)) + slotCount cs
 
 -- each is the code of a class
 abbrev pub Coded : List ℕ → Type 0

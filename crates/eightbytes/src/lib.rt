@@ -1,6 +1,8 @@
 // The eightbytes of a shape, as the System V convention classifies them: each piece gives its class to the eightbytes that it reaches into,
-// and the classes decide the slots, which the crate eightslots writes. What concerns one piece or one class stands in the crate classes. The
-// rules are those of docs/REFERENCE.md, 8.
+// and the classes decide the slots, which the crate slot_writing writes. What concerns one piece or one class stands in `classes`. The rules
+// are those of docs/REFERENCE.md, 8.
+mod classes;
+
 ghost use mathlib.Core.Path.{_≡_};
 ghost use mathlib.Core.List.{map};
 ghost use mathlib.Core.Option.Option.{none};
@@ -9,17 +11,18 @@ ghost use lib.ListN.{take, drop, replicate};
 ghost use Rattle.shape.specs.Words.{piecesOf};
 ghost use Rattle.slots.specs.Search.{foundOf, oneIf};
 ghost use Rattle.eightbytes.specs.Class.{code, classOf, merge as merge·};
-ghost use Rattle.eightbytes.specs.Eightbytes.{eightbytesIn, lastOf, mark as mark·, settled, slotsFound, codes, classesOf, Coded};
+ghost use Rattle.eightbytes.specs.Eightbytes.{eightbytesIn, mark as mark·, settled, slotsFound, codes, classesOf, Coded};
+ghost use Rattle.eightbytes.specs.Reach.{lastOf};
 ghost use Rattle.eightbytes.specs.Eightbytes.{eightbytes as eightbytes·};
 pub use classes::EIGHTBYTE;
 use classes::NONE;
 pub use classes::SSE;
 pub use classes::SSE_UP;
 use classes::X87;
-use classes::class_of;
-use classes::fits;
-use classes::later;
-use classes::mended;
+pub use classes::class_of;
+pub use classes::fits;
+pub use classes::later;
+pub use classes::mended;
 use shape::Piece;
 use shape::Shape;
 use slots::Found;
@@ -40,8 +43,8 @@ pub const PAIR: u64 = 16;
 // A limit above eight eightbytes counts as eight.
 const MOST_LIMIT: u64 = 64;
 
-// What the search comes back with, and beside it the class of each eightbyte of the shape: `eightslots::put_eightbytes` writes the slots from
-// these.
+// What the search comes back with, and beside it the class of each eightbyte of the shape: `slot_writing::put_eightbytes` writes the slots
+// from these.
 pub struct Classified {
     pub found: Found,
     pub classes: [u8; 8],

@@ -1,5 +1,5 @@
--- What a search has found, where it found anything: a slot for each piece, how many, and how many of them are floats. Assumes nothing.
-use Prim.Native.Nat.{ℕ, _+_, _≤_, _<_}
+-- What a search has found, where it found anything: a slot for each piece, how many, and how many of them are floats.
+use Prim.Native.Nat.{ℕ, _≤_, _<_}
 use mathlib.Core.Path.{_≡_, refl, _∙_}
 use mathlib.Core.List.{List, [], _∷_}
 use mathlib.Core.Bool.{Bool, true, false, _&&_, _||_}
@@ -7,23 +7,16 @@ use native.Mathlib.Omega.{arith}
 use borrow.Author.Tests.{eqb-true}
 use lib.Dec.{eqb}
 use lib.ListN.{length}
+use Rattle.shape.proofs.Bools.{both-true}
 use Rattle.shape.specs.declared.Piece.{Piece}
 use Rattle.shape.specs.declared.Shape.{Shape}
 use Rattle.shape.specs.Numbers.{single, double, x87-extended}
-use Rattle.shape.specs.Questions.{isFloat, allOf, isAllOf}
+use Rattle.shape.specs.Questions.{allOf, isAllOf}
 use Rattle.slots.specs.declared.Slot.{Slot}
-use Rattle.slots.specs.declared.Found.the-variants.{Slots}
-use Rattle.slots.specs.Search.{Search, found, nothing, oneIf, floatsIn, foundOf}
-use Rattle.find.specs.Find.{foundIf, floatsAt, sameScalar, allSame, homogeneous, isHomogeneous, slotOf, fitsOne, floatPair, x87Stack, loneFloat, floatingMode, complexFloat, eachPiece}
-use Rattle.find.proofs.Each.{and-true, kind-float, length-at, floats-at, at-each, slot-kind, slot-float}
+use Rattle.slots.specs.Search.{found, nothing}
+use Rattle.find.specs.Find.{foundIf, floatsAt, sameScalar, allSame, homogeneous, isHomogeneous, pieceSlot, floatPair, x87Stack, loneFloat, floatingMode, complexFloat, eachPiece}
+use Rattle.find.proofs.Each.{kind-float, length-at, at-each, slot-float}
 use Rattle.find.proofs.Tests.{Fields, fields, single-or-double}
-
--- a search whose finds are each piece's slot, once its counts are told
-pub found-each : (s : Search) (ps : List Piece) (n m : ℕ) → ((ss : List Slot) → s ≡ found ss → ss ≡ eachPiece ps) → Slots n m ≡ foundOf s
-    → s ≡ found (eachPiece ps)
-unfolding foundOf
-found-each (found ss) ps n m h e = rw (h ss refl)
-found-each nothing ps n m h e = absurd (let z : _≡_ {A = ℕ} 0 1 = cc in omega arith)
 
 not-found : (ss : List Slot) → nothing ≡ found ss → ⊥
 not-found ss e = let z : _≡_ {A = ℕ} 0 1 = cc in omega arith
@@ -39,9 +32,9 @@ same-kind : (p : Piece) (qs : List Piece) → allSame p qs ≡ true → allOf (p
 unfolding allSame allOf
 same-kind p [] e = refl
 same-kind p (q ∷ qs) e =
-    let a = and-true (sameScalar p q) (allSame p qs) e in
-    let b = and-true _ (eqb (q .align) (p .align)) (a .0) in
-    let k = and-true (eqb (q .kind) (p .kind)) (eqb (q .size) (p .size)) (b .0) in
+    let a = both-true (sameScalar p q) (allSame p qs) e in
+    let b = both-true _ (eqb (q .align) (p .align)) (a .0) in
+    let k = both-true (eqb (q .kind) (p .kind)) (eqb (q .size) (p .size)) (b .0) in
     rw (k .0, same-kind p qs (a .1))
 
 all-of : (kind : ℕ) (ps : List Piece) → isAllOf kind ps ≡ true → (allOf kind ps ≡ true) × (0 < length ps)
@@ -72,51 +65,24 @@ module _ (limit : ℕ) (shape : Shape) where
         let f = first ps ss e in
         f .slots ∙ at-each (f .piece .kind) ps (f .fields .float) (same-kind (f .piece) ps (f .fields .same))
 
-    pub homogeneous-floats : floatsIn ss ≡ length ss
-    homogeneous-floats =
-        let f = first ps ss e in
-        rw (f .slots, floats-at (f .piece .kind) ps (f .fields .float), length-at)
-
     pub homogeneous-few : length ss ≤ limit
     homogeneous-few = let f = first ps ss e in rw (f .slots, length-at) (f .fields .few)
 
-    pub homogeneous-some : 0 < length ss
-    homogeneous-some = let f = first ps ss e in rw (f .slots, length-at) (f .some)
-
 -- ---- float_pair
-
-an-or : (f g : Bool) → f || g ≡ true → 0 < oneIf f + (oneIf g + 0)
-an-or true g e = omega arith
-an-or false true e = omega arith
-an-or false false e = absurd (let z : _≡_ {A = ℕ} 0 1 = cc in omega arith)
 
 module _ (iw fw : ℕ) where
   pub pair-slots : (ps : List Piece) (ss : List Slot) → floatPair iw fw ps ≡ found ss → ss ≡ eachPiece ps
   unfolding floatPair eachPiece
   pair-slots [] ss e = absurd (not-found ss e)
-  pair-slots (p ∷ []) ss e = found-if _ (slotOf p ∷ []) ss e .1
-  pair-slots (p ∷ q ∷ []) ss e = found-if _ (slotOf p ∷ slotOf q ∷ []) ss e .1
+  pair-slots (p ∷ []) ss e = found-if _ (pieceSlot p ∷ []) ss e .1
+  pair-slots (p ∷ q ∷ []) ss e = found-if _ (pieceSlot p ∷ pieceSlot q ∷ []) ss e .1
   pair-slots (p ∷ q ∷ r ∷ ps) ss e = absurd (not-found ss e)
-
-  -- one of them at least is a float
-  pub pair-floats : (ps : List Piece) (ss : List Slot) → floatPair iw fw ps ≡ found ss → 0 < floatsIn ss
-  unfolding floatPair floatsIn
-  pair-floats [] ss e = absurd (not-found ss e)
-  pair-floats (p ∷ []) ss e =
-      let x = found-if (isFloat (p .kind) && fitsOne iw fw p) (slotOf p ∷ []) ss e in
-      rw (x .1, slot-kind p, and-true (isFloat (p .kind)) (fitsOne iw fw p) (x .0) .0) (omega arith)
-  pair-floats (p ∷ q ∷ []) ss e =
-      let x = found-if ((isFloat (p .kind) || isFloat (q .kind)) && fitsOne iw fw p && fitsOne iw fw q) (slotOf p ∷ slotOf q ∷ []) ss e in
-      let y = and-true ((isFloat (p .kind) || isFloat (q .kind)) && fitsOne iw fw p) (fitsOne iw fw q) (x .0) in
-      let z = and-true (isFloat (p .kind) || isFloat (q .kind)) (fitsOne iw fw p) (y .0) in
-      rw (x .1, slot-kind p, slot-kind q) (an-or (isFloat (p .kind)) (isFloat (q .kind)) (z .0))
-  pair-floats (p ∷ q ∷ r ∷ ps) ss e = absurd (not-found ss e)
 
   pub pair-few : (ps : List Piece) (ss : List Slot) → floatPair iw fw ps ≡ found ss → length ss ≤ 2
   unfolding floatPair
   pair-few [] ss e = absurd (not-found ss e)
-  pair-few (p ∷ []) ss e = rw (found-if _ (slotOf p ∷ []) ss e .1) (omega arith)
-  pair-few (p ∷ q ∷ []) ss e = rw (found-if _ (slotOf p ∷ slotOf q ∷ []) ss e .1) (omega arith)
+  pair-few (p ∷ []) ss e = rw (found-if _ (pieceSlot p ∷ []) ss e .1) (omega arith)
+  pair-few (p ∷ q ∷ []) ss e = rw (found-if _ (pieceSlot p ∷ pieceSlot q ∷ []) ss e .1) (omega arith)
   pair-few (p ∷ q ∷ r ∷ ps) ss e = absurd (not-found ss e)
 
 -- ---- x87_stack
@@ -135,19 +101,13 @@ module _ (shape : Shape) (ps : List Piece) (ss : List Slot) (e : x87Stack shape 
   holds = found-if (isAllOf x87-extended ps && (eqb (length ps) 1 || eqb (length ps) 2 && shape .complex)) (floatsAt x87-extended ps) ss e
 
   parts : (isAllOf x87-extended ps ≡ true) × (eqb (length ps) 1 || eqb (length ps) 2 && shape .complex ≡ true)
-  parts = and-true (isAllOf x87-extended ps) (eqb (length ps) 1 || eqb (length ps) 2 && shape .complex) (holds .0)
+  parts = both-true (isAllOf x87-extended ps) (eqb (length ps) 1 || eqb (length ps) 2 && shape .complex) (holds .0)
 
   pub x87-slots : ss ≡ eachPiece ps
   x87-slots = holds .1 ∙ at-each x87-extended ps refl (all-of x87-extended ps (parts .0) .0)
 
-  pub x87-floats : floatsIn ss ≡ length ss
-  x87-floats = rw (holds .1, floats-at x87-extended ps refl, length-at)
-
   pub x87-few : length ss ≤ 2
   x87-few = rw (holds .1, length-at) (one-or-two (length ps) (shape .complex) (parts .1))
-
-  pub x87-some : 0 < length ss
-  x87-some = rw (holds .1, length-at) (all-of x87-extended ps (parts .0) .1)
 
 -- ---- lone_float
 
@@ -158,14 +118,6 @@ lone-slots (p ∷ []) ss e =
     let x = found-if (eqb (p .kind) single || eqb (p .kind) double) _ ss e in
     rw (x .1, slot-float p (kind-float (p .kind) (single-or-double (p .kind) (x .0))))
 lone-slots (p ∷ q ∷ ps) ss e = absurd (not-found ss e)
-
-pub lone-floats : (ps : List Piece) (ss : List Slot) → loneFloat ps ≡ found ss → floatsIn ss ≡ length ss
-unfolding loneFloat floatsIn
-lone-floats [] ss e = absurd (not-found ss e)
-lone-floats (p ∷ []) ss e =
-    let x = found-if (eqb (p .kind) single || eqb (p .kind) double) _ ss e in
-    rw (x .1, single-or-double (p .kind) (x .0))
-lone-floats (p ∷ q ∷ ps) ss e = absurd (not-found ss e)
 
 pub lone-one : (ps : List Piece) (ss : List Slot) → loneFloat ps ≡ found ss → length ss ≡ 1
 unfolding loneFloat

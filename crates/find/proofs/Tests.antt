@@ -1,5 +1,4 @@
 -- The laws of the tests, each with what the code looked at as premises: what fails decides, and where nothing fails the slots are found.
--- Assumes nothing.
 use Prim.Native.Nat.{ℕ, _+_, _/_, _≤_}
 use mathlib.Core.Path.{_≡_, refl, sym, _∙_}
 use mathlib.Core.List.{List, [], _∷_}
@@ -8,6 +7,7 @@ use native.Mathlib.Omega.{arith}
 use borrow.Author.Tests.{eq-eqb, ne-eqb, not-true, not-false}
 use lib.Dec.{leb, eqb}
 use lib.ListN.{length}
+use Rattle.shape.proofs.Bools.{both-true, second-fails}
 use Rattle.shape.specs.declared.Piece.{Piece}
 use Rattle.shape.specs.declared.Shape.{Shape}
 use Rattle.shape.specs.Numbers.{integer, single, double, x87-extended}
@@ -17,9 +17,9 @@ use Rattle.shape.proofs.Words.{pieces-step, pieces-end, length-pieces}
 use Rattle.slots.specs.declared.Found.{Found}
 use Rattle.slots.specs.declared.Found.the-variants.{Slots, Nothing}
 use Rattle.slots.specs.Search.{oneIf, floatsIn, foundOf}
-use Rattle.find.specs.Find.{foundIf, slotOf, fitsOne, floatPair, x87Stack, loneFloat, floatingMode, complexFloat}
-use Rattle.find.proofs.Each.{and-true, and-false, float-kind, length-at, floats-at, slot-kind}
-pub use Rattle.alike.proofs.Alike.{Fields, fields}
+use Rattle.find.specs.Find.{foundIf, pieceSlot, fitsOne, floatPair, x87Stack, loneFloat, floatingMode, complexFloat}
+use Rattle.find.proofs.Each.{float-kind, length-at, floats-at, slot-kind}
+pub use Rattle.find.proofs.AllAlike.{Fields, fields}
 
 -- ---- float_pair
 
@@ -64,7 +64,7 @@ module _ (iw fw : ℕ) (p : Piece) where
     pub member-found : not (f && b) ≡ false → Slots 1 1 ≡ foundOf (floatPair iw fw (p ∷ []))
     unfolding floatPair foundIf foundOf floatsIn
     member-found h =
-        let t : f ≡ true = and-true f b (not-false (f && b) h) .0 in
+        let t : f ≡ true = both-true f b (not-false (f && b) h) .0 in
         rw (← ef, ← eb, not-false (f && b) h, slot-kind p, ← ef, t)
 
   -- two pieces
@@ -75,7 +75,7 @@ module _ (iw fw : ℕ) (p : Piece) where
     members-integers z = rw (← ef, ← eg, no-float f g (rw (← en, ← em) z))
 
     module _ (z : n + m ≡ 0 → ⊥) (b d : Bool) (eb : b ≡ fitsOne iw fw p) (ed : d ≡ fitsOne iw fw q) where
-      opened-pair : floatPair iw fw (p ∷ q ∷ []) ≡ foundIf (b && d) (slotOf p ∷ slotOf q ∷ [])
+      opened-pair : floatPair iw fw (p ∷ q ∷ []) ≡ foundIf (b && d) (pieceSlot p ∷ pieceSlot q ∷ [])
       unfolding floatPair
       opened-pair = rw (← ef, ← eg, a-float f g (rw (← en, ← em) z), ← eb, ← ed)
 
@@ -112,7 +112,7 @@ pair-none iw fw ws h k = go (piecesOf ws) (length-pieces ws)
 module _ (shape : Shape) (ws : List ℕ) where
   x87-not : eqb (length ws / 4) 1 || eqb (length ws / 4) 2 && shape .complex ≡ false → Nothing ≡ foundOf (x87Stack shape (piecesOf ws))
   unfolding x87Stack foundIf foundOf
-  x87-not h = rw (length-pieces, and-false (isAllOf x87-extended (piecesOf ws)) _ h)
+  x87-not h = rw (length-pieces, second-fails (isAllOf x87-extended (piecesOf ws)) _ h)
 
   pub x87-count : (length ws / 4 ≡ 1 → ⊥) → (length ws / 4 ≡ 2 → ⊥) → Nothing ≡ foundOf (x87Stack shape (piecesOf ws))
   x87-count h k = x87-not (rw (ne-eqb _ _ h, ne-eqb _ _ k))
@@ -165,7 +165,7 @@ module _ (ws : List ℕ) (n : length ws / 4 ≡ 1) (p : Piece) (ep : p ≡ piece
 -- ---- floating_mode, complex_float
 
 outer-false : (a b c : Bool) → not (a && c) ≡ true → a && b && c ≡ false
-outer-false true b c h = and-false b c (not-true c h)
+outer-false true b c h = second-fails b c (not-true c h)
 outer-false false b c h = refl
 
 module _ (shape : Shape) where
@@ -188,7 +188,7 @@ module _ (shape : Shape) where
 
     module _ (h : not (shape .complex && eqb (shape .size) 8) ≡ false) (b : Bool) (eb : b ≡ isAllOf single (piecesOf ws)) where
       both : (shape .complex ≡ true) × (eqb (shape .size) 8 ≡ true)
-      both = and-true (shape .complex) (eqb (shape .size) 8) (not-false (shape .complex && eqb (shape .size) 8) h)
+      both = both-true (shape .complex) (eqb (shape .size) 8) (not-false (shape .complex && eqb (shape .size) 8) h)
 
       pub complex-other : not b ≡ true → Nothing ≡ foundOf (complexFloat shape (piecesOf ws))
       unfolding complexFloat foundIf foundOf

@@ -1,14 +1,20 @@
--- No second answer, and no other words in the lent buffer, meet the promise of a public function. Assumes nothing.
+-- No second answer meets the promise of a public function.
 use mathlib.Core.Path.{sym, _∙_}
 use contract.Lifetimes.{Lfts}
-use denote.Ref.{now}
-use Rattle.shape.proofs.OneAnswer.{OneAnswer, OneExit}
-use Rattle.find.proofs.float_pair.Reads as float-pair
-use Rattle.find.proofs.x87_stack.Reads as x87-stack
-use Rattle.find.proofs.lone_float.Reads as lone-float
-use Rattle.find.proofs.floating_mode.Reads as floating-mode
-use Rattle.find.proofs.complex_float.Reads as complex-float
-use Rattle.find.proofs.put_pieces.Reads as put-pieces
+use Rattle.shape.proofs.OneAnswer.{OneAnswer}
+use Rattle.find.proofs.alike.homogeneous.Reads as homogeneous
+use Rattle.find.proofs.matches.Reads as matches
+use Rattle.find.proofs.inside.float_pair.Reads as float-pair
+use Rattle.find.proofs.inside.x87_stack.Reads as x87-stack
+use Rattle.find.proofs.inside.lone_float.Reads as lone-float
+use Rattle.find.proofs.inside.floating_mode.Reads as floating-mode
+use Rattle.find.proofs.inside.complex_float.Reads as complex-float
+
+matches-decides : (κs : Lfts 1) → OneAnswer (matches.Post κs)
+matches-decides κs a r q s t p p′ = p ∙ sym p′
+
+homogeneous-decides : (κs : Lfts 1) → OneAnswer (homogeneous.Post κs)
+homogeneous-decides κs a r q s t p p′ = p ∙ sym p′
 
 float-pair-decides : (κs : Lfts 1) → OneAnswer (float-pair.Post κs)
 float-pair-decides κs a r q s t p p′ = p ∙ sym p′
@@ -24,6 +30,3 @@ floating-mode-decides κs a r q s t p p′ = p ∙ sym p′
 
 complex-float-decides : (κs : Lfts 1) → OneAnswer (complex-float.Post κs)
 complex-float-decides κs a r q s t p p′ = p ∙ sym p′
-
-put-pieces-words : (κs : Lfts 2) → OneExit (put-pieces.Post κs) (λ s. now (s .1 .0))
-put-pieces-words κs a r q s t p p′ = p ∙ sym p′

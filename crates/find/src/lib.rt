@@ -1,187 +1,104 @@
-// The tests that look inside a shape: each finds slots or nothing, and writes nothing. Those that find pieces find a slot for each, so they
-// answer with counts, and `put_pieces` writes the slots of whichever found them. The rules are those of docs/REFERENCE.md, 7. The first of
-// the tests stands in a crate of its own, `alike`.
+// What the test of a rule finds in a shape (docs/REFERENCE.md, 7): whether it matches, and the slots that it finds if it looks inside. The rule
+// walk asks here rule by rule; the slots of the rule that decides are written later, by the crate slot_writing. The tests that look at the
+// pieces stand in `inside`, but for the one with a loop of its own, which is in `alike`; that for eightbytes is a crate.
+mod alike;
+mod inside;
+
 pub use alike::homogeneous;
-use shape::Piece;
+use describe::Banks;
+use describe::Test;
+pub use inside::complex_float;
+pub use inside::float_pair;
+pub use inside::floating_mode;
+pub use inside::lone_float;
+pub use inside::x87_stack;
 use shape::Shape;
 use slots::Found;
-use slots::Slot;
+use slots::Source;
 ghost use mathlib.Core.Path.{_≡_};
-ghost use mathlib.Core.List.{[], _∷_};
 ghost use Rattle.shape.specs.Words.{piecesOf};
-ghost use Rattle.slots.specs.Words.{written};
-ghost use Rattle.slots.specs.Search.{foundOf, oneIf};
-ghost use Rattle.find.specs.Find as find;
+ghost use Rattle.find.specs.Matches.{isOneOf, matched, matchedBy, foundWhere, noSource, pieceSource, classSource, noClasses};
 
-// The bytes of a complex of two Singles.
-const COMPLEX_FLOAT: u64 = 8;
-
-// One float, or two pieces with a float among them, each no wider than a register of its bank.
-pub fn float_pair(words: &[u64], integer_width: u64, float_width: u64) -> Found
-    ensures { λ r. ⌜ r ≡ foundOf (find.floatPair «integer_width» «float_width» (piecesOf (now (words .entry)))) ⌝ }
-{
-    let count = words.len() / shape::PIECE;
-    if count == 1 {
-        return one_member(shape::piece_at(words, 0), integer_width, float_width);
-    }
-    if count != 2 {
-        return Found::Nothing;
-    }
-    let first = shape::piece_at(words, 0);
-    let second = shape::piece_at(words, shape::PIECE);
-    two_members(first, second, integer_width, float_width)
+// What a test finds, with the slots beside it: where they stand, and the classes of eightbytes.
+pub struct Matched {
+    pub found: Found,
+    pub source: Source,
+    pub classes: [u8; 8],
 }
 
-fn one_member(only: Piece, integer_width: u64, float_width: u64) -> Found
-    ensures { λ r. ⌜ r ≡ foundOf (find.floatPair «integer_width» «float_width» (only ∷ [])) ⌝ }
+// Whether a test matches, and the slots that it finds if it looks inside. Nothing is written to a lent buffer here.
+pub fn matches(banks: Banks, test: Test, shape: Shape, words: &[u64]) -> Matched
+    ensures { λ r. ⌜ r ≡ matchedBy banks test shape (piecesOf (now (words .entry))) ⌝ }
 {
-    let found = only.is_float() & fits_one(only, integer_width, float_width);
-    if !found {
-        return Found::Nothing;
-    }
-    Found::Slots {
-        count: 1,
-        floats: 1,
+    match test {
+        Test::Anything => without_slots(true),
+        Test::Empty => without_slots(shape.size == 0),
+        Test::SizeOneOf(n, a, b, c, d) => without_slots(is_one_of(shape.size, n, a, b, c, d)),
+        Test::SizeAtMost(limit) => without_slots(shape.size <= limit),
+        Test::Homogeneous(limit) => each_piece(homogeneous(shape, words, limit)),
+        Test::FloatPair => each_piece(float_pair(words, banks.integer_width, banks.float_width)),
+        Test::X87Stack => each_piece(x87_stack(shape, words)),
+        Test::LoneFloat => each_piece(lone_float(words)),
+        Test::FloatingMode => no_slots(floating_mode(shape)),
+        Test::ComplexFloat => no_slots(complex_float(shape, words)),
+        Test::Eightbytes(limit) => in_eightbytes(
+            shape.size,
+            eightbytes::eightbytes(shape, words, limit),
+        ),
     }
 }
 
-fn two_members(first: Piece, second: Piece, integer_width: u64, float_width: u64) -> Found
-    ensures { λ r. ⌜ r ≡ foundOf (find.floatPair «integer_width» «float_width» (first ∷ second ∷ [])) ⌝ }
+// Whether a size is one of the first so many of four.
+fn is_one_of(size: u64, n: u64, a: u64, b: u64, c: u64, d: u64) -> bool
+    ensures { λ r. ⌜ r ≡ isOneOf size n a b c d ⌝ }
 {
-    let floats = one_if(first.is_float()) + one_if(second.is_float());
-    if floats == 0 {
-        return Found::Nothing;
-    }
-    let fit = fits_one(first, integer_width, float_width)
-        & fits_one(second, integer_width, float_width);
-    if !fit {
-        return Found::Nothing;
-    }
-    Found::Slots { count: 2, floats }
+    ((n > 0) & (size == a))
+        | ((n > 1) & (size == b))
+        | ((n > 2) & (size == c))
+        | ((n > 3) & (size == d))
 }
 
-// Whether one register of its bank holds a piece.
-fn fits_one(p: Piece, integer_width: u64, float_width: u64) -> bool
-    ensures { λ r. ⌜ r ≡ find.fitsOne «integer_width» «float_width» p ⌝ }
+// A test of the shape as a whole: it finds no slot.
+fn without_slots(holds: bool) -> Matched
+    ensures { λ r. ⌜ r ≡ matched (foundWhere holds) noSource noClasses ⌝ }
 {
-    if p.kind == shape::INTEGER {
-        return p.size <= integer_width;
-    }
-    p.size <= float_width
-}
-
-fn one_if(b: bool) -> u64
-    ensures { λ r. ⌜ r ≡ oneIf b ⌝ }
-{
-    if b { 1 } else { 0 }
-}
-
-// One x87 value, or the two of a complex.
-pub fn x87_stack(shape: Shape, words: &[u64]) -> Found
-    ensures { λ r. ⌜ r ≡ foundOf (find.x87Stack shape (piecesOf (now (words .entry)))) ⌝ }
-{
-    let count = (words.len() / shape::PIECE) as u64;
-    if count != 1 {
-        if count != 2 {
-            return Found::Nothing;
-        }
-        if !shape.complex {
-            return Found::Nothing;
-        }
-    }
-    if !shape::is_all_of(words, shape::X87_EXTENDED) {
-        return Found::Nothing;
-    }
-    Found::Slots {
-        count,
-        floats: count,
-    }
-}
-
-// One piece that is a Single or a Double.
-pub fn lone_float(words: &[u64]) -> Found
-    ensures { λ r. ⌜ r ≡ foundOf (find.loneFloat (piecesOf (now (words .entry)))) ⌝ }
-{
-    if words.len() / shape::PIECE != 1 {
-        return Found::Nothing;
-    }
-    let p = shape::piece_at(words, 0);
-    let found = (p.kind == shape::SINGLE) | (p.kind == shape::DOUBLE);
-    if !found {
-        return Found::Nothing;
-    }
-    Found::Slots {
-        count: 1,
-        floats: 1,
-    }
-}
-
-// A complex, or a shape of a floating mode; it finds no slot.
-pub fn floating_mode(shape: Shape) -> Found
-    ensures { λ r. ⌜ r ≡ foundOf (find.floatingMode shape) ⌝ }
-{
-    if shape.complex {
-        return Found::Slots {
+    if holds {
+        return no_slots(Found::Slots {
             count: 0,
             floats: 0,
-        };
+        });
     }
-    if !shape.floating {
-        return Found::Nothing;
-    }
-    Found::Slots {
-        count: 0,
-        floats: 0,
+    no_slots(Found::Nothing)
+}
+
+fn no_slots(found: Found) -> Matched
+    ensures { λ r. ⌜ r ≡ matched found noSource noClasses ⌝ }
+{
+    Matched {
+        found,
+        source: Source::Empty,
+        classes: [0u8; 8],
     }
 }
 
-// A complex of Singles that takes eight bytes; it finds no slot.
-pub fn complex_float(shape: Shape, words: &[u64]) -> Found
-    ensures { λ r. ⌜ r ≡ foundOf (find.complexFloat shape (piecesOf (now (words .entry)))) ⌝ }
+fn each_piece(found: Found) -> Matched
+    ensures { λ r. ⌜ r ≡ matched found pieceSource noClasses ⌝ }
 {
-    let found = shape.complex & (shape.size == COMPLEX_FLOAT);
-    if !found {
-        return Found::Nothing;
-    }
-    if !shape::is_all_of(words, shape::SINGLE) {
-        return Found::Nothing;
-    }
-    Found::Slots {
-        count: 0,
-        floats: 0,
+    Matched {
+        found,
+        source: Source::EachPiece,
+        classes: [0u8; 8],
     }
 }
 
-// A slot for each piece at the front of the buffer, where they all fit.
-pub fn put_pieces(words: &[u64], out: &mut [u64])
-    ensures { λ _. ⌜ now (out .exit) ≡ written (find.eachPiece (piecesOf (now (words .entry)))) (now (out .entry)) ⌝ }
+fn in_eightbytes(size: u64, classified: eightbytes::Classified) -> Matched
+    ensures { λ r. ⌜ r ≡ matched (classified .found) (classSource size) (classified .classes) ⌝ }
 {
-    if words.len() / shape::PIECE > slots::room(out.len()) {
-        return;
-    }
-    let mut at = 0;
-    let mut to = 0;
-    while words.len() - at >= shape::PIECE {
-        slots::put_slot(out, to, slot_of(shape::piece_at(words, at)));
-        at += shape::PIECE;
-        to += slots::SLOT;
-    }
-}
-
-// A piece's own slot.
-fn slot_of(p: Piece) -> Slot
-    ensures { λ r. ⌜ r ≡ find.slotOf p ⌝ }
-{
-    if p.kind == shape::INTEGER {
-        return Slot {
-            kind: shape::INTEGER,
-            offset: p.offset,
-            size: p.size,
-        };
-    }
-    Slot {
-        kind: p.kind,
-        offset: p.offset,
-        size: 0,
+    let found = classified.found;
+    let classes = classified.classes;
+    Matched {
+        found,
+        source: Source::Classes { size },
+        classes,
     }
 }

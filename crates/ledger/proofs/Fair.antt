@@ -1,27 +1,23 @@
 -- One operation on a call that passes its checks: in each bank what it passes over, is given and leaves adds up to what was left before, the call
 -- that it hands back passes the checks again, and a refused one does nothing. It holds because the Rust and the rules agree.
-use Prim.Native.Nat.{ℕ, zero, suc, _+_, _≤_}
+use Prim.Native.Nat.{ℕ, suc, _+_}
 use mathlib.Core.Path.{_≡_, refl, sym, subst}
 use mathlib.Core.List.{List}
-use mathlib.Core.Bool.{Bool, true, false, _&&_, not}
+use mathlib.Core.Bool.{Bool, true, false}
 use native.Mathlib.Omega.{arith}
 use lib.Dec.{T}
-use Rattle.shape.specs.declared.Arg.{Arg}
 use Rattle.shape.specs.Numbers.{accepted}
 use Rattle.shape.specs.Words.{piecesOf}
 use Rattle.slots.specs.declared.Slot.{Slot}
-use Rattle.describe.specs.declared.Variadic.the-variants.{UnnamedIntegers}
 use Rattle.describe.specs.Description.{Description}
 use Rattle.spend.specs.declared.Decision.{Decision}
-use Rattle.spend.specs.declared.Left.{Left}
-use Rattle.spend.specs.Ways.{no-mark, marked}
 use Rattle.classify.specs.declared.Call.{Call}
 use Rattle.classify.specs.declared.Answer.{Answer}
 use Rattle.classify.specs.Classify.{Passed, isIntegersOnly, variadic}
-use Rattle.classify.specs.Answers.{callWith, callRefusalBy, refusalBy, refused, acceptedAnswer, answerTo, writtenTo, variadicAnswerBy, returnsAnswerBy, argumentAnswerBy, dotsAnswerBy}
-use Rattle.classify.proofs.Agree.{Agrees, argument-agrees, returns-agrees, dots-agrees}
+use Rattle.classify.specs.Answers.{callWith, callRefusalBy, refusalBy, refused, acceptedAnswer, answerTo, variadicAnswerBy, returnsAnswerBy, argumentAnswerBy, variadicArgumentAnswerBy}
+use Rattle.classify.proofs.Agree.{Agrees, argument-agrees, returns-agrees, variadic-argument-agrees}
 use Rattle.classify.proofs.Accepted.{Sound, sound, sound-accepted, unmarked, by-cases}
-use Rattle.ledger.specs.Ledger.{Operation, mark, return, argument, after-dots, answerBy, isRefused, Bank, integers, floats, leftIn, passedOver, given}
+use Rattle.ledger.specs.Ledger.{Operation, mark, return, argument, variadic-argument, answerBy, isRefused, Bank, integers, floats, leftIn, passedOver, given}
 
 pub record Fair (source : ℕ) (D : Description) (c : Call) (a : Answer) : Type 0 where
   pub same-abi : a .next .abi ≡ c .abi
@@ -86,9 +82,9 @@ module _ (source : ℕ) (D : Description) (c : Call) (good : callRefusalBy sourc
       })
 
   pub fair : (op : Operation) → Fair source D c (answerBy source D op c)
-  unfolding returnsAnswerBy argumentAnswerBy dotsAnswerBy
+  unfolding returnsAnswerBy argumentAnswerBy variadicArgumentAnswerBy
   fair mark = fair-mark
   fair (return arg words out) = fair-answer _ _ _ (returns-agrees D (c .left) arg (piecesOf words)) (refusalBy source D c arg words) out
   fair (argument arg words out) = fair-answer _ _ _ (argument-agrees D (c .left) arg (piecesOf words)) (refusalBy source D c arg words) out
-  fair (after-dots arg words out) =
-      fair-answer _ _ _ (dots-agrees D (c .left) arg (piecesOf words) (λ e. unmarked D c (here .1) (rw e))) (refusalBy source D c arg words) out
+  fair (variadic-argument arg words out) =
+      fair-answer _ _ _ (variadic-argument-agrees D (c .left) arg (piecesOf words) (λ e. unmarked D c (here .1) (rw e))) (refusalBy source D c arg words) out

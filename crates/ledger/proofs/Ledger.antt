@@ -16,10 +16,10 @@ use Rattle.abis.specs.Abis.{described}
 use Rattle.classify.specs.declared.Call.{Call}
 use Rattle.classify.specs.declared.Answer.{Answer}
 use Rattle.classify.specs.Classify.{call}
-use Rattle.classify.specs.Answers.{descriptions, callWith, rowRefusal, callRefusalBy, freshAnswer, variadicAnswer, returnsAnswer, argumentAnswer, dotsAnswer}
+use Rattle.classify.specs.Answers.{descriptions, callWith, rowRefusal, callRefusalBy, freshAnswer, variadicAnswer, returnsAnswer, argumentAnswer, variadicArgumentAnswer}
 use Rattle.classify.proofs.Steps.{row-there}
 use Rattle.classify.proofs.Accepted.{sound, sound-accepted}
-use Rattle.ledger.specs.Ledger.{Operation, mark, return, argument, after-dots, answerBy, answerOf, answersBy, answersFrom, freshCall, history, callAfter, Bank, integers, floats, startOf, leftIn, runAt, InRun, InPassedOver, InGiven, Holder, passed-over-by, given-to, left, holds, Has, LedgerBy, Ledger}
+use Rattle.ledger.specs.Ledger.{Operation, mark, return, argument, variadic-argument, answerBy, answerFor, answersBy, answersFrom, freshCall, history, callAfter, Bank, integers, floats, startOf, leftIn, runAt, InRun, InPassedOver, InGiven, Holder, passed-over-by, given-to, left, holds, Has, LedgerBy, Ledger}
 use Rattle.ledger.proofs.Fair.{Fair, fair}
 use Rattle.ledger.proofs.Registers.{AllFair, totals, abut, ends, last-ends, run-counts, first-run, passed-over-holds, given-holds, left-holds, HasFrom, holder-has}
 
@@ -162,12 +162,12 @@ module _ (d : ℕ) (known : d < descriptions) where
   fresh-row = rw fresh-is
 
 -- an operation on a call of the row is that of its description, and hands back a call of the row
-answer-on-row : (d : ℕ) (c : Call) → c .abi ≡ d → (op : Operation) → answerOf op c ≡ answerBy (rowRefusal d) (described d) op c
-unfolding variadicAnswer returnsAnswer argumentAnswer dotsAnswer
+answer-on-row : (d : ℕ) (c : Call) → c .abi ≡ d → (op : Operation) → answerFor op c ≡ answerBy (rowRefusal d) (described d) op c
+unfolding variadicAnswer returnsAnswer argumentAnswer variadicArgumentAnswer
 answer-on-row d c e mark = rw (← e)
 answer-on-row d c e (return arg words out) = rw (← e)
 answer-on-row d c e (argument arg words out) = rw (← e)
-answer-on-row d c e (after-dots arg words out) = rw (← e)
+answer-on-row d c e (variadic-argument arg words out) = rw (← e)
 
 answers-on-row : (d : ℕ) (c : Call) → c .abi ≡ d → callRefusalBy (rowRefusal d) (described d) c ≡ accepted → (ops : List Operation)
     → answersFrom c ops ≡ answersBy (rowRefusal d) (described d) c ops

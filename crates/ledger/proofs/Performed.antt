@@ -7,17 +7,17 @@ use lib.ListN.{take}
 use Rattle.classify.specs.declared.Call.{Call}
 use Rattle.classify.specs.declared.Answer.{Answer}
 use Rattle.classify.specs.Answers.{descriptions, freshAnswer}
-use Rattle.ledger.specs.Ledger.{Operation, mark, return, argument, after-dots, answerOf, answersFrom, Ledger}
+use Rattle.ledger.specs.Ledger.{Operation, mark, return, argument, variadic-argument, answerFor, answersFrom, Ledger}
 use Rattle.ledger.specs.Performed.{Performed, Started, AllPerformed}
 use Rattle.ledger.proofs.Ledger.{ledger}
 
 -- ---- the contracts give the promised answers
 
-performed-is : (c : Call) (op : Operation) (a : Answer) → Performed c op a → a ≡ answerOf op c
+performed-is : (c : Call) (op : Operation) (a : Answer) → Performed c op a → a ≡ answerFor op c
 performed-is c mark a p = p .1 .1
 performed-is c (return arg words out) a p = rw (← p .3, ← p .4) (p .5 .1 .answers)
 performed-is c (argument arg words out) a p = rw (← p .3, ← p .4) (p .5 .1 .answers)
-performed-is c (after-dots arg words out) a p = rw (← p .3, ← p .4) (p .5 .1 .answers)
+performed-is c (variadic-argument arg words out) a p = rw (← p .3, ← p .4) (p .5 .1 .answers)
 
 all-performed-are : (c : Call) (ops : List Operation) (past : List Answer) → AllPerformed c ops past → past ≡ answersFrom c ops
 unfolding answersFrom

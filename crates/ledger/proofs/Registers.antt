@@ -12,7 +12,7 @@ use lib.ListN.{length, getD, getElem?}
 use Rattle.describe.specs.Description.{Description}
 use Rattle.classify.specs.declared.Call.{Call}
 use Rattle.classify.specs.declared.Answer.{Answer}
-use Rattle.ledger.specs.Ledger.{callAfter, Bank, startOf, leftIn, passedOver, given, total, Run, endOf, runsFrom, noRun, InRun, InPassedOver, InGiven, Holder, passed-over-by, given-to, left, nextAfter, holderFrom}
+use Rattle.ledger.specs.Ledger.{callAfter, Bank, startOf, leftIn, passedOver, given, total, Run, runEnd, runsFrom, noRun, InRun, InPassedOver, InGiven, Holder, passed-over-by, given-to, left, nextAfter, holderFrom}
 use Rattle.ledger.proofs.Fair.{Fair}
 
 -- each answer is fair on the call that the one before handed back
@@ -49,7 +49,7 @@ module _ (b : Bank) (source : ℕ) (D : Description) where
   first-run c (a ∷ past) l = refl
 
   pub abut : (c : Call) (past : List Answer) (k : ℕ) → AllFair source D c past → leftIn b c ≤ startOf b (D .banks) → suc k < length past
-      → runFrom c past (suc k) .first ≡ endOf (runFrom c past k)
+      → runFrom c past (suc k) .first ≡ runEnd (runFrom c past k)
   unfolding runsFrom
   abut c [] k f h l = absurd (omega arith)
   abut c (a ∷ []) k f h l = absurd (omega arith)
@@ -57,7 +57,7 @@ module _ (b : Bank) (source : ℕ) (D : Description) where
   abut c (a ∷ a′ ∷ past) (suc k) f h l = abut (a .next) (a′ ∷ past) k (f .1) (omega (arith, f .0 .adds-up b)) (omega arith)
 
   -- none ends past the first register that is left at the end
-  pub ends : (c : Call) (past : List Answer) (k : ℕ) → AllFair source D c past → leftIn b c ≤ startOf b (D .banks) → endOf (runFrom c past k) ≤ free (callAfter c past)
+  pub ends : (c : Call) (past : List Answer) (k : ℕ) → AllFair source D c past → leftIn b c ≤ startOf b (D .banks) → runEnd (runFrom c past k) ≤ free (callAfter c past)
   unfolding runsFrom callAfter
   ends c [] k f h = omega arith
   ends c (a ∷ past) zero f h = omega (arith, f .0 .adds-up b, totals (a .next) past (f .1))
@@ -65,7 +65,7 @@ module _ (b : Bank) (source : ℕ) (D : Description) where
 
   -- and the last one ends there
   pub last-ends : (c : Call) (past : List Answer) (k : ℕ) → AllFair source D c past → leftIn b c ≤ startOf b (D .banks) → suc k ≡ length past
-      → endOf (runFrom c past k) ≡ free (callAfter c past)
+      → runEnd (runFrom c past k) ≡ free (callAfter c past)
   unfolding runsFrom callAfter
   last-ends c [] k f h l = absurd (omega arith)
   last-ends c (a ∷ []) zero f h l = omega (arith, f .0 .adds-up b)

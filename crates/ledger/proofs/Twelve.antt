@@ -9,17 +9,18 @@ use Rattle.slots.specs.Search.{floatsIn}
 use Rattle.slots.specs.Words.{wordsOf, putAt, written}
 use Rattle.abis.specs.Abis as abis
 use Rattle.abis.specs.Abis.{described}
-use Rattle.find.specs.Find.{foundIf, floatsAt, allSame, isHomogeneous, homogeneous, slotOf, fitsOne, floatPair, x87Stack, loneFloat}
+use Rattle.find.specs.Find.{foundIf, floatsAt, allSame, isHomogeneous, homogeneous, pieceSlot, fitsOne, floatPair, x87Stack, loneFloat}
 use Rattle.eightbytes.specs.Class as class
+use Rattle.eightbytes.specs.Reach.{fits}
 use Rattle.eightbytes.specs.Eightbytes as eight
 use Rattle.spend.specs.Spending as rules
-use Rattle.scalars.specs.Spending as lone
-use Rattle.search.specs.Matches.{matches}
+use Rattle.spend_scalar.specs.Spending as lone
+use Rattle.find.specs.Matches.{matches}
 use Rattle.classify.specs.Classify as rust
 use Rattle.classify.specs.Spending as spending
 use Rattle.classify.specs.Answers as answers
-use Rattle.ledger.specs.Twelve.{twelve, answerTo, expected}
+use Rattle.ledger.specs.Twelve.{twelve, answeredTo, expected}
 
-pub twelve-calls : map answerTo twelve ≡ map expected twelve
-unfolding scalarRefusal pieceRefusal piecesRefusal listRefusal shapeRefusal allOf isAllOf piecesOf upTo cut floatsIn wordsOf putAt written abis.descriptions described foundIf floatsAt allSame isHomogeneous homogeneous slotOf fitsOne floatPair x87Stack loneFloat class.code class.same class.merge eight.cover eight.mark eight.fits eight.marked eight.spoiled eight.mend eight.settled eight.classified eight.slotsFrom eight.slotsFound eight.eightbytes rules.wantOf lone.skipOf lone.integerArgument lone.inRegisters lone.scalarArgument rules.whenShort rules.inSlots rules.travelOf matches rust.afterScalar rust.scalar rust.shortOf rust.inRegisters rust.travel rust.apply rust.returns rust.argument spending.aggregate spending.scalarBy spending.aggregateBy spending.returnChoice spending.argumentChoice answers.leftRefusal answers.argRefusal answers.checked answers.rowRefusal answers.refusalBy answers.answerTo answers.writtenTo answers.returnsAnswerBy answers.returnsWrittenBy answers.argumentAnswerBy answers.argumentWrittenBy answers.returnsAnswer answers.returnsWritten answers.argumentAnswer answers.argumentWritten
+pub twelve-calls : map answeredTo twelve ≡ map expected twelve
+unfolding scalarRefusal pieceRefusal piecesRefusal listRefusal shapeRefusal allOf isAllOf piecesOf upTo cut floatsIn wordsOf putAt written abis.descriptions described foundIf floatsAt allSame isHomogeneous homogeneous pieceSlot fitsOne floatPair x87Stack loneFloat class.code class.same class.merge eight.cover eight.mark fits eight.classesAfter eight.spoiled eight.mend eight.settled eight.classified eight.slotsFrom eight.slotsFound eight.eightbytes rules.wantOf lone.skipOf lone.integerArgument lone.scalarInRegisters lone.scalarArgument rules.whenShort rules.inSlots rules.travelOf matches rust.afterScalar rust.scalar rust.shortOf rust.slotsInRegisters rust.travel rust.apply rust.returns rust.argument spending.byRules spending.scalarBy spending.aggregateBy spending.returnChoice spending.argumentChoice answers.leftRefusal answers.argRefusal answers.checked answers.rowRefusal answers.refusalBy answers.answerTo answers.writtenTo answers.returnsAnswerBy answers.returnsWrittenBy answers.argumentAnswerBy answers.argumentWrittenBy answers.returnsAnswer answers.returnsWritten answers.argumentAnswer answers.argumentWritten
 twelve-calls = refl

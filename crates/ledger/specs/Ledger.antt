@@ -17,7 +17,7 @@ use Rattle.spend.specs.Ways.{marked}
 use Rattle.classify.specs.declared.Call.{Call}
 use Rattle.classify.specs.declared.Answer.{Answer}
 use Rattle.classify.specs.Classify.{isIntegersOnly}
-use Rattle.classify.specs.Answers.{rowRefusal, callRefusalBy, variadicAnswerBy, returnsAnswerBy, argumentAnswerBy, dotsAnswerBy, freshAnswer, variadicAnswer, returnsAnswer, argumentAnswer, dotsAnswer}
+use Rattle.classify.specs.Answers.{rowRefusal, callRefusalBy, variadicAnswerBy, returnsAnswerBy, argumentAnswerBy, variadicArgumentAnswerBy, freshAnswer, variadicAnswer, returnsAnswer, argumentAnswer, variadicArgumentAnswer}
 
 -- ---- a history
 
@@ -27,21 +27,21 @@ pub data Operation : Type 0 where
   mark : Operation
   return : args.Arg → List ℕ → List ℕ → Operation
   argument : args.Arg → List ℕ → List ℕ → Operation
-  after-dots : args.Arg → List ℕ → List ℕ → Operation
+  variadic-argument : args.Arg → List ℕ → List ℕ → Operation
 
 -- what it answers on a call, by a description and what its source refuses
 abbrev pub answerBy : ℕ → Description → Operation → Call → Answer
 answerBy source D mark c = variadicAnswerBy source D c
 answerBy source D (return arg words out) c = returnsAnswerBy source D c arg words out
 answerBy source D (argument arg words out) c = argumentAnswerBy source D c arg words out
-answerBy source D (after-dots arg words out) c = dotsAnswerBy source D c arg words out
+answerBy source D (variadic-argument arg words out) c = variadicArgumentAnswerBy source D c arg words out
 
 -- and on a call on a row, as it is promised
-abbrev pub answerOf : Operation → Call → Answer
-answerOf mark c = variadicAnswer c
-answerOf (return arg words out) c = returnsAnswer c arg words out
-answerOf (argument arg words out) c = argumentAnswer c arg words out
-answerOf (after-dots arg words out) c = dotsAnswer c arg words out
+abbrev pub answerFor : Operation → Call → Answer
+answerFor mark c = variadicAnswer c
+answerFor (return arg words out) c = returnsAnswer c arg words out
+answerFor (argument arg words out) c = argumentAnswer c arg words out
+answerFor (variadic-argument arg words out) c = variadicArgumentAnswer c arg words out
 
 -- the answers to a list of operations, each performed on the call that the one before handed back
 unfoldable pub answersBy : ℕ → Description → Call → List Operation → List Answer
@@ -50,7 +50,7 @@ answersBy source D c (op ∷ ops) = answerBy source D op c ∷ answersBy source 
 
 unfoldable pub answersFrom : Call → List Operation → List Answer
 answersFrom c [] = []
-answersFrom c (op ∷ ops) = answerOf op c ∷ answersFrom (answerOf op c .next) ops
+answersFrom c (op ∷ ops) = answerFor op c ∷ answersFrom (answerFor op c .next) ops
 
 -- a history on a row starts with its fresh call
 abbrev pub freshCall : ℕ → Call
@@ -102,8 +102,8 @@ pub record Run : Type 0 where
   pub gives : ℕ
 
 -- where it ends: the register after its last one
-abbrev pub endOf : Run → ℕ
-endOf run = run .first + run .passes + run .gives
+abbrev pub runEnd : Run → ℕ
+runEnd run = run .first + run .passes + run .gives
 
 -- it begins with the next register: as many are left from there on as the call that the operation was performed on had left
 abbrev pub runOf : Bank → Banks → Call → Answer → Run
@@ -124,13 +124,13 @@ runAt b banks c past k = getD (runsFrom b banks c past) k noRun
 
 -- a register, in a run, in its part that is passed over, in its part that is given
 abbrev pub InRun : Run → ℕ → Type 0
-InRun run r = (run .first ≤ r) × (r < endOf run)
+InRun run r = (run .first ≤ r) × (r < runEnd run)
 
 abbrev pub InPassedOver : Run → ℕ → Type 0
 InPassedOver run r = (run .first ≤ r) × (r < run .first + run .passes)
 
 abbrev pub InGiven : Run → ℕ → Type 0
-InGiven run r = (run .first + run .passes ≤ r) × (r < endOf run)
+InGiven run r = (run .first + run .passes ≤ r) × (r < runEnd run)
 
 -- what has a register: operation k passed it over, or was given it, or it is left
 pub data Holder : Type 0 where
@@ -166,10 +166,10 @@ pub record LedgerBy (source : ℕ) (D : Description) (c : Call) (past : List Ans
   -- the first run begins at register 0, and each other one where the one before it ended; none ends past the bank's start, and what is left
   -- begins where the last one ended
   pub begins-at-zero : (b : Bank) → 0 < length past → runAt b (D .banks) c past 0 .first ≡ 0
-  pub begins-where-ended : (b : Bank) (k : ℕ) → suc k < length past → runAt b (D .banks) c past (suc k) .first ≡ endOf (runAt b (D .banks) c past k)
-  pub ends-within : (b : Bank) (k : ℕ) → endOf (runAt b (D .banks) c past k) ≤ startOf b (D .banks)
+  pub begins-where-ended : (b : Bank) (k : ℕ) → suc k < length past → runAt b (D .banks) c past (suc k) .first ≡ runEnd (runAt b (D .banks) c past k)
+  pub ends-within : (b : Bank) (k : ℕ) → runEnd (runAt b (D .banks) c past k) ≤ startOf b (D .banks)
   pub left-from-end : (b : Bank) (k : ℕ) → suc k ≡ length past
-      → endOf (runAt b (D .banks) c past k) ≡ startOf b (D .banks) - leftIn b (callAfter c past)
+      → runEnd (runAt b (D .banks) c past k) ≡ startOf b (D .banks) - leftIn b (callAfter c past)
   -- no register is in two operations' runs, nor both passed over and given, nor one of them and left
   pub in-one-run : (b : Bank) (j k r : ℕ) → InRun (runAt b (D .banks) c past j) r → InRun (runAt b (D .banks) c past k) r → j ≡ k
   pub not-passed-over-and-given : (b : Bank) (j k r : ℕ) → InPassedOver (runAt b (D .banks) c past j) r → InGiven (runAt b (D .banks) c past k) r → ⊥

@@ -12,7 +12,7 @@ use Rattle.classify.proofs.Call.variadic.Reads as call-variadic
 use Rattle.classify.proofs.Call.returns.Reads as call-returns
 use Rattle.classify.proofs.Call.argument.Reads as call-argument
 use Rattle.classify.proofs.Call.variadic_argument.Reads as call-variadic-argument
-use Rattle.ledger.specs.Ledger.{Operation, mark, return, argument, after-dots}
+use Rattle.ledger.specs.Ledger.{Operation, mark, return, argument, variadic-argument}
 
 -- an answer that meets a contract, whatever stands behind the lent references at exit
 abbrev pub Met : {A R S : Type 0} → (A → R → S → Type 0) → A → R → Type 0
@@ -25,7 +25,7 @@ Performed c (return arg words out) a =
     (κs : Lfts 2) × (w : RefT (List ℕ)) × (o : RefT (List ℕ)) × (now w ≡ words) × (now o ≡ out) × Met (call-returns.Post κs) (c, (arg, (w, (o, tt)))) a
 Performed c (argument arg words out) a =
     (κs : Lfts 2) × (w : RefT (List ℕ)) × (o : RefT (List ℕ)) × (now w ≡ words) × (now o ≡ out) × Met (call-argument.Post κs) (c, (arg, (w, (o, tt)))) a
-Performed c (after-dots arg words out) a =
+Performed c (variadic-argument arg words out) a =
     (κs : Lfts 2) × (w : RefT (List ℕ)) × (o : RefT (List ℕ)) × (now w ≡ words) × (now o ≡ out)
     × Met (call-variadic-argument.Post κs) (c, (arg, (w, (o, tt)))) a
 

@@ -18,8 +18,8 @@ use Rattle.spend.specs.declared.Spent.{Spent}
 use Rattle.spend.specs.Ways.{spends}
 use Rattle.classify.specs.declared.Call.{Call}
 use Rattle.classify.specs.declared.Answer.{Answer}
-use Rattle.classify.specs.Answers.{unmarked, answered, returnsWritten, argumentWritten, dotsWritten}
-use Rattle.ledger.specs.Ledger.{Operation, mark, return, argument, after-dots, answerOf, integers, floats, startOf}
+use Rattle.classify.specs.Answers.{unmarked, answered, returnsWritten, argumentWritten, variadicArgumentWritten}
+use Rattle.ledger.specs.Ledger.{Operation, mark, return, argument, variadic-argument, answerFor, integers, floats, startOf}
 
 -- ---- what is asked
 
@@ -44,14 +44,14 @@ abbrev pub float16 : ℕ → List ℕ
 float16 at = x87-extended ∷ 16 ∷ 16 ∷ at ∷ []
 
 -- an aggregate of a size and an alignment, with these pieces, that comes back or is an argument; and an integer scalar that is one
-abbrev pub aggregate : ℕ → ℕ → args.Arg
-aggregate size align = args.the-variants.Aggregate (record { size = size; align = align; complex = false; floating = false })
+abbrev pub plainAggregate : ℕ → ℕ → args.Arg
+plainAggregate size align = args.the-variants.Aggregate (record { size = size; align = align; complex = false; floating = false })
 
 abbrev pub comes-back : ℕ → ℕ → List ℕ → Operation
-comes-back size align words = return (aggregate size align) words buffer
+comes-back size align words = return (plainAggregate size align) words buffer
 
 abbrev pub is-passed : ℕ → ℕ → List ℕ → Operation
-is-passed size align words = argument (aggregate size align) words buffer
+is-passed size align words = argument (plainAggregate size align) words buffer
 
 abbrev pub integer-is-passed : ℕ → Operation
 integer-is-passed size = argument (args.the-variants.Scalar (scalar integer size size)) [] buffer
@@ -121,18 +121,18 @@ abbrev pub writtenBy : Operation → Call → List ℕ
 writtenBy mark c = []
 writtenBy (return arg words out) c = returnsWritten c arg words out
 writtenBy (argument arg words out) c = argumentWritten c arg words out
-writtenBy (after-dots arg words out) c = dotsWritten c arg words out
+writtenBy (variadic-argument arg words out) c = variadicArgumentWritten c arg words out
 
-abbrev pub answerTo : Entry → Answer × List ℕ
-answerTo e = (answerOf (e .asked) (callOn e), writtenBy (e .asked) (callOn e))
+abbrev pub answeredTo : Entry → Answer × List ℕ
+answeredTo e = (answerFor (e .asked) (callOn e), writtenBy (e .asked) (callOn e))
 
 -- the slots' words at the front of the buffer, and zeros after them
-abbrev pub slotsIn : List ℕ → List ℕ
-slotsIn words = words ++ replicate (mostWords - length words) 0
+abbrev pub inBuffer : List ℕ → List ℕ
+inBuffer words = words ++ replicate (mostWords - length words) 0
 
 abbrev pub expected : Entry → Answer × List ℕ
 expected e = (
   answered (unmarked (e .row) (e .answer .integers-left) (e .answer .floats-left)) accepted
       (e .answer .way) (e .answer .spent) (length (e .answer .slots)),
-  slotsIn (wordsOf (e .answer .slots)),
+  inBuffer (wordsOf (e .answer .slots)),
 )

@@ -1,5 +1,5 @@
 -- The class of each eightbyte that no X87 piece lies in: what the pieces leave there, one after the other, is the psABI's class, since the two
--- merges differ only where an X87 class meets another. Assumes nothing.
+-- merges differ only where an X87 class meets another.
 use Prim.Native.Nat.{ℕ, zero, suc, _+_, _*_, _%_, _≤_, _<_}
 use mathlib.Core.Path.{_≡_, refl, sym, ap, subst, _∙_}
 use mathlib.Core.Bool.{Bool, true, false, cond, _&&_, true≢false}
@@ -10,16 +10,17 @@ use borrow.Author.Tests.{ltb-true, ltb-false, lt-ltb}
 use lib.Dec.{eqb, ltb}
 use lib.Seq.{ext-getD}
 use lib.ListN.{length, getD, replicate, getD-replicate, length-replicate, List·getD-map, length-map}
+use Rattle.shape.proofs.Bools.{both-true, both-false}
 use Rattle.shape.specs.declared.Piece.{Piece}
-use Rattle.find.proofs.Each.{and-true}
 use Rattle.eightbytes.specs.Class as ours
-use Rattle.eightbytes.specs.Class.{None}
-use Rattle.eightbytes.specs.Eightbytes.{firstOf, kindClass, later, mark}
+use Rattle.eightbytes.specs.Class.{None, kindClass, later}
+use Rattle.eightbytes.specs.Eightbytes.{mark}
+use Rattle.eightbytes.specs.Reach.{firstOf}
 use Rattle.eightbytes.proofs.Marks.{mark-length}
 use Rattle.eightbytes.proofs.At.{mark-below, mark-past, mark-first, mark-later, markAll}
 use Rattle.psabi.specs.Psabi.{Class, INTEGER, SSE, SSEUP, X87, X87UP, COMPLEX-X87, NO-CLASS, MEMORY, lowOf, highOf, merge, liesIn, fieldClass, mergedIn, classesFrom}
 use Rattle.psabi.specs.Domain.{any, isX87Piece, x87In}
-use Rattle.psabi.proofs.Clauses.{or-left, or-right, Usual, int1, int2, int4, int8, int16, single4, double8, x87-16, quad16, Each, done, more}
+use Rattle.psabi.proofs.Clauses.{Usual, int1, int2, int4, int8, int16, single4, double8, x87-16, quad16, Each, done, more}
 
 -- the classifier's class for one of the psABI's
 unfoldable pub rep : Class → ours.Class
@@ -84,7 +85,7 @@ module _ (cs : List ours.Class) (p : Piece) (k : ℕ) (r : Ready p) where
   lies-yes l t = go (ltb (p .offset) (8 * k)) refl
     where
       ab : (ltb (p .offset) (8 * k + 8) ≡ true) × (ltb (8 * k) (p .offset + p .size) ≡ true)
-      ab = and-true (ltb (p .offset) (8 * k + 8)) (ltb (8 * k) (p .offset + p .size)) t
+      ab = both-true (ltb (p .offset) (8 * k + 8)) (ltb (8 * k) (p .offset + p .size)) t
 
       a : p .offset < 8 * k + 8
       a = ltb-true _ _ (ab .0)
@@ -162,7 +163,7 @@ pub plain-agrees : (ps : List Piece) (cs : List ours.Class) (c : Class) (k : ℕ
     → getD cs k None ≡ rep c → (getD (markAll cs ps) k None ≡ rep (mergedIn c ps k)) × Plain (mergedIn c ps k)
 unfolding markAll mergedIn any
 plain-agrees [] cs c k done l x pl e = (e, pl)
-plain-agrees (p ∷ ps) cs c k (more r rs) l x pl e = go (λ d. plain-agrees ps (mark cs p) d k rs long (or-right (x87In p k) _ x)) (liesIn p k) refl
+plain-agrees (p ∷ ps) cs c k (more r rs) l x pl e = go (λ d. plain-agrees ps (mark cs p) d k rs long (both-false (x87In p k) _ x .1)) (liesIn p k) refl
   where
     long : k < length (mark cs p)
     long = rw (mark-length cs p) l
@@ -174,7 +175,7 @@ plain-agrees (p ∷ ps) cs c k (more r rs) l x pl e = go (λ d. plain-agrees ps 
         → (t : Bool) → liesIn p k ≡ t
         → (getD (markAll (mark cs p) ps) k None ≡ rep (mergedIn (cond t (merge c b) c) ps k)) × Plain (mergedIn (cond t (merge c b) c) ps k)
     go ih true t =
-        let x′ : isX87Piece p ≡ false = and-false (isX87Piece p) (liesIn p k) (or-left (x87In p k) _ x) t in
+        let x′ : isX87Piece p ≡ false = and-false (isX87Piece p) (liesIn p k) (both-false (x87In p k) _ x .0) t in
         let m = same-merge pl (plain-half (p .kind) (ltb (p .offset) (8 * k)) x′) in
         ih (merge c b) (m .1) (lies-yes cs p k r l t ∙ ap (λ z. ours.merge z (rep b)) e ∙ m .0)
     go ih false t = ih c pl (lies-no cs p k r t ∙ e)
@@ -185,7 +186,7 @@ plain-agrees (p ∷ ps) cs c k (more r rs) l x pl e = go (λ d. plain-agrees ps 
 nowhere : (ps : List Piece) (k : ℕ) → any isX87Piece ps ≡ false → any (λ p. x87In p k) ps ≡ false
 unfolding any
 nowhere [] k h = refl
-nowhere (p ∷ ps) k h = let e : isX87Piece p ≡ false = or-left (isX87Piece p) _ h in rw (e, nowhere ps k (or-right (isX87Piece p) _ h))
+nowhere (p ∷ ps) k h = let e : isX87Piece p ≡ false = both-false (isX87Piece p) _ h .0 in rw (e, nowhere ps k (both-false (isX87Piece p) _ h .1))
 
 classes-at : (ps : List Piece) (k n j : ℕ) → j < n → getD (classesFrom ps k n) j NO-CLASS ≡ mergedIn NO-CLASS ps (k + j)
 unfolding classesFrom

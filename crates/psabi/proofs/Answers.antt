@@ -1,5 +1,5 @@
 -- The operations themselves: an accepted argument or return on description 0 whose shape is of the domain hands back the psABI's answer, read off
--- its way, its next call and the words of the buffer. The words give back the slots, and an accepted call keeps within its banks. Assumes nothing.
+-- its way, its next call and the words of the buffer. The words give back the slots, and an accepted call keeps within its banks.
 use Prim.Native.Nat.{ℕ, _/_, _≤_}
 use mathlib.Core.Path.{_≡_, refl, ap, subst, _∙_}
 use mathlib.Core.List.{List}
@@ -16,21 +16,21 @@ use Rattle.spend.specs.Ways.{no-mark}
 use Rattle.spend.proofs.Ways.{back}
 use Rattle.classify.specs.declared.Call.{Call}
 use Rattle.classify.specs.declared.Answer.{Answer}
-use Rattle.classify.specs.Pass.{Pass, ignore, direct, pieces, reference, memory, wayOf, slotsOf}
+use Rattle.classify.specs.Pass.{Pass, ignore, direct, pieces, reference, memory, wayOf, passSlots}
 use Rattle.classify.specs.Classify.{Passed, argument, returns}
 use Rattle.classify.specs.Answers.{rowRefusal, refusalOf, acceptedAnswer, answerTo, writtenTo, argumentAnswerBy, argumentWrittenBy, returnsAnswerBy, returnsWrittenBy, argumentAnswer, argumentWritten, returnsAnswer, returnsWritten}
 use Rattle.classify.proofs.Accepted as accepted
 use Rattle.classify.proofs.Accepted.{Sound}
 use Rattle.psabi.specs.Psabi.{Free, Travels, psabiArgument, psabiResult}
 use Rattle.psabi.specs.Domain.{Domain}
-use Rattle.psabi.specs.Reading.{standing, results, passFrom, freeAt, readPass, readIn, readAnswer}
+use Rattle.psabi.specs.Reading.{standing, results, passFrom, freeAt, readPass, readIn, answerRead}
 use Rattle.psabi.proofs.Clauses.{above-0}
 use Rattle.psabi.proofs.RowZero.{argument-is-psabi, result-is-psabi, argument-stays, result-stays}
 
 -- ---- a way and its slots, read back from the answer and the words
 
-pass-back : (p : Pass) (out : List ℕ) → length (slotsOf p) ≤ length out / slotSize
-    → passFrom (wayOf p) (slotsRead (length (slotsOf p)) (written (slotsOf p) out)) ≡ p
+pass-back : (p : Pass) (out : List ℕ) → length (passSlots p) ≤ length out / slotSize
+    → passFrom (wayOf p) (slotsRead (length (passSlots p)) (written (passSlots p) out)) ≡ p
 pass-back ignore out h = refl
 pass-back direct out h = refl
 pass-back (pieces ss) out h = ap pieces (read-back ss out h)
@@ -39,8 +39,8 @@ pass-back memory out h = refl
 
 -- ---- an answer that is no refusal
 
-read-accepted : (from : Free) (c : Call) (p : Passed) (spent : Spent) (out : List ℕ) → length (slotsOf (p .pass)) ≤ length out / slotSize
-    → readAnswer from c (acceptedAnswer c p spent) (written (slotsOf (p .pass)) out) ≡ readIn from (c .left) p
+read-accepted : (from : Free) (c : Call) (p : Passed) (spent : Spent) (out : List ℕ) → length (passSlots (p .pass)) ≤ length out / slotSize
+    → answerRead from c (acceptedAnswer c p spent) (written (passSlots (p .pass)) out) ≡ readIn from (c .left) p
 read-accepted from c p spent out h =
     rw (back (wayOf (p .pass)))
     (ap (λ (q : Pass). readPass from (freeAt c) q (standing (p .left .integer) (p .left .float))) (pass-back (p .pass) out h))
@@ -61,7 +61,7 @@ kept c e s =
 
 -- an answer and a buffer that say how a value travels by the psABI, and hand back a call of the same description, still without the mark
 pub record Says (from : Free) (c : Call) (a : Answer) (out : List ℕ) (t : Travels) : Type 0 where
-  pub travels : readAnswer from c a out ≡ some t
+  pub travels : answerRead from c a out ≡ some t
   pub same-abi : a .next .abi ≡ 0
   pub unmarked : a .next .left .«integers_only» ≡ no-mark
 

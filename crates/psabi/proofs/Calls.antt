@@ -1,7 +1,6 @@
--- A whole call: row 0's answers are the psABI's, one after the other, since each leaves the registers free that the psABI leaves. Assumes nothing.
+-- A whole call: row 0's answers are the psABI's, one after the other, since each leaves the registers free that the psABI leaves.
 use Prim.Native.Nat.{ℕ, _≤_}
 use mathlib.Core.Path.{_≡_, refl, sym, ap, ap₂, _∙_}
-use mathlib.Core.Bool.{false}
 use mathlib.Core.List.{List, [], _∷_, map}
 use mathlib.Core.Option.{Option}
 use mathlib.Core.Option.Option.{none, some}

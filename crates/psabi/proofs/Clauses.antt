@@ -1,28 +1,20 @@
--- What the domain's clauses say, as facts: each is read off the test that computes it. Assumes nothing.
+-- What the domain's clauses say, as facts: each is read off the test that computes it.
 use Prim.Native.Nat.{ℕ, zero, suc, _+_, _*_, _%_, _≤_, _<_}
 use mathlib.Core.Path.{_≡_, refl, sym, subst₂}
-use mathlib.Core.Bool.{Bool, true, false, not, _&&_, _||_, true≢false, false≢true}
+use mathlib.Core.Bool.{Bool, true, false, not, _&&_, _||_, false≢true}
 use mathlib.Core.List.{List, [], _∷_}
 use native.Mathlib.Omega.{arith}
 use native.Mathlib.Decide.{decLe}
 use borrow.Author.Tests.{eqb-true, ltb-true, leb-true, not-true}
 use lib.Dec.{eqb, leb}
+use Rattle.shape.proofs.Bools.{both-true}
 use Rattle.shape.specs.declared.Piece.{Piece}
 use Rattle.shape.specs.declared.Shape.{Shape}
 use Rattle.shape.specs.Numbers.{integer, single, double, x87-extended, quad}
-use Rattle.find.proofs.Each.{and-true}
 use Rattle.psabi.specs.Psabi.{liesIn, eightbytesIn}
 use Rattle.psabi.specs.Domain.{every, any, howMany, atEach, isX87Piece, x87In, otherIn, isIntegerSize, isOfKind, Domain}
 
 -- ---- tests
-
-pub or-left : (a b : Bool) → a || b ≡ false → a ≡ false
-or-left true b h = h
-or-left false b h = refl
-
-pub or-right : (a b : Bool) → a || b ≡ false → b ≡ false
-or-right true b h = absurd (true≢false h)
-or-right false b h = h
 
 by-or : {P : Type 0} (a b : Bool) → (a ≡ true → P) → (b ≡ true → P) → a || b ≡ true → P
 by-or true b f g h = f refl
@@ -57,11 +49,11 @@ module _ (k s : ℕ) where
       by-or _ ((eqb k x87-extended || eqb k quad) && eqb s 16)
       (by-or _ (eqb k double && eqb s 8)
       (by-or (eqb k integer && isIntegerSize s) (eqb k single && eqb s 4)
-      (λ a. let x = and-true (eqb k integer) (isIntegerSize s) a in of-integer (x .0) (x .1))
-      (λ a. let x = and-true (eqb k single) (eqb s 4) a in both single4 (x .0) (x .1)))
-      (λ a. let x = and-true (eqb k double) (eqb s 8) a in both double8 (x .0) (x .1)))
+      (λ a. let x = both-true (eqb k integer) (isIntegerSize s) a in of-integer (x .0) (x .1))
+      (λ a. let x = both-true (eqb k single) (eqb s 4) a in both single4 (x .0) (x .1)))
+      (λ a. let x = both-true (eqb k double) (eqb s 8) a in both double8 (x .0) (x .1)))
       (λ a.
-      let x = and-true (eqb k x87-extended || eqb k quad) (eqb s 16) a in
+      let x = both-true (eqb k x87-extended || eqb k quad) (eqb s 16) a in
       by-or (eqb k x87-extended) (eqb k quad) (λ e. both x87-16 e (x .1)) (λ e. both quad16 e (x .1)) (x .0))
       h
 
@@ -86,10 +78,10 @@ each-regular : (size : ℕ) (ps : List Piece) → every (λ p. leb (p .offset + 
 unfolding every
 each-regular size [] i n s a = done
 each-regular size (p ∷ ps) i n s a =
-    let i′ = and-true (leb (p .offset + p .size) size) _ i in
-    let n′ = and-true (eqb (p .align) (p .size)) _ n in
-    let s′ = and-true (isOfKind (p .kind) (p .size)) _ s in
-    let a′ = and-true (not (isX87Piece p) || eqb (p .offset % 16) 0) _ a in
+    let i′ = both-true (leb (p .offset + p .size) size) _ i in
+    let n′ = both-true (eqb (p .align) (p .size)) _ n in
+    let s′ = both-true (isOfKind (p .kind) (p .size)) _ s in
+    let a′ = both-true (not (isX87Piece p) || eqb (p .offset % 16) 0) _ a in
     more
     (record {
       usual = usual (p .kind) (p .size) (s′ .0);
@@ -104,7 +96,7 @@ each-regular size (p ∷ ps) i n s a =
 at-each : (n : ℕ) (f : ℕ → Bool) → atEach n f ≡ true → (k : ℕ) → k < n → f k ≡ true
 unfolding atEach
 at-each zero f h k l = absurd (omega arith)
-at-each (suc n) f h k l = go (and-true (f n) (atEach n f) h .0) (at-each n f (and-true (f n) (atEach n f) h .1) k) (decLe n k)
+at-each (suc n) f h k l = go (both-true (f n) (atEach n f) h .0) (at-each n f (both-true (f n) (atEach n f) h .1) k) (decLe n k)
   where
     go : f n ≡ true → (k < n → f k ≡ true) → Dec (n ≤ k) → f k ≡ true
     go e ih (yes g) = let q : k ≡ n = omega arith in rw q e

@@ -1,4 +1,4 @@
--- Shapes of the domain for every way that an aggregate can travel, with the answers of row 0 and of the psABI: all is computed. Assumes nothing.
+-- Shapes of the domain for every way that an aggregate can travel, with the answers of row 0 and of the psABI: all is computed.
 use Prim.Native.Nat.{ℕ}
 use mathlib.Core.Path.{_≡_, refl, sym, ap, ap₂, _∙_}
 use mathlib.Core.Bool.{Bool, true, false}
@@ -14,11 +14,12 @@ use Rattle.shape.specs.Words.{piece}
 use Rattle.slots.specs.Search.{floatsIn}
 use Rattle.find.specs.Find.{foundIf, floatsAt, x87Stack}
 use Rattle.eightbytes.specs.Class as ours
-use Rattle.eightbytes.specs.Eightbytes.{cover, mark, fits, marked, spoiled, mend, settled, classified, slotsFrom, slotsFound, eightbytes}
+use Rattle.eightbytes.specs.Eightbytes.{cover, mark, classesAfter, spoiled, mend, settled, classified, slotsFrom, slotsFound, eightbytes}
+use Rattle.eightbytes.specs.Reach.{fits}
 use Rattle.abis.specs.Abis.{described, descriptions}
-use Rattle.search.specs.Matches.{matches}
+use Rattle.find.specs.Matches.{matches}
 use Rattle.classify.specs.Classify as rust
-use Rattle.classify.specs.Classify.{counts, leaves, argument, returns}
+use Rattle.classify.specs.Classify.{counts, argument, returns}
 use Rattle.psabi.specs.Psabi as psabi
 use Rattle.psabi.specs.Psabi.{rdi, rsi, rdx, rcx, r8, r9, rax, xmm0, xmm1, xmm2, xmm3, xmm4, xmm5, xmm6, xmm7, st0, place, Travels, inRegisters, onStack, byAddress, psabiArgument, psabiResult}
 use Rattle.psabi.specs.Domain.{every, any, howMany, atEach, clauses, Domain}
@@ -132,7 +133,7 @@ results = integer-result ∷ more-results
 -- ---- what is computed
 
 arguments-row : map (λ (c : Case). rowArgument (c .integer) (c .float) (c .size) (c .pieces)) arguments ≡ map (λ (c : Case). some (c .travels)) arguments
-unfolding argument rust.apply matches rust.travel rust.inRegisters rust.shortOf described descriptions eightbytes classified marked mark cover fits spoiled settled mend slotsFrom slotsFound ours.merge ours.same ours.code foundIf floatsIn lastOf placesOf
+unfolding argument rust.apply matches rust.travel rust.slotsInRegisters rust.shortOf described descriptions eightbytes classified classesAfter mark cover fits spoiled settled mend slotsFrom slotsFound ours.merge ours.same ours.code foundIf floatsIn lastOf placesOf
 arguments-row = refl
 
 arguments-psabi : map (λ (c : Case). psabiArgument (standing (c .integer) (c .float)) (c .size) (c .pieces)) arguments ≡ map (λ (c : Case). c .travels) arguments
@@ -140,7 +141,7 @@ unfolding psabiArgument psabi.classified psabi.anyUnaligned psabi.classesFrom ps
 arguments-psabi = refl
 
 results-row : map (λ (c : Case). rowResult (c .integer) (c .float) (c .size) (c .pieces)) results ≡ map (λ (c : Case). some (c .travels)) results
-unfolding returns rust.apply matches rust.travel rust.inRegisters described descriptions x87Stack isAllOf allOf floatsAt eightbytes classified marked mark cover fits spoiled settled mend slotsFrom slotsFound ours.merge ours.same ours.code foundIf lastOf placesOf
+unfolding returns rust.apply matches rust.travel rust.slotsInRegisters described descriptions x87Stack isAllOf allOf floatsAt eightbytes classified classesAfter mark cover fits spoiled settled mend slotsFrom slotsFound ours.merge ours.same ours.code foundIf lastOf placesOf
 results-row = refl
 
 results-psabi : map (λ (c : Case). psabiResult (standing (c .integer) (c .float)) (c .size) (c .pieces)) results ≡ map (λ (c : Case). c .travels) results

@@ -1,5 +1,4 @@
 -- An X87 piece in a shape of at most 16 bytes is all of that shape: it fills both eightbytes, where no other kind may lie, and there is but one.
--- Assumes nothing.
 use Prim.Native.Nat.{ℕ, suc, _+_, _*_, _%_, _≤_, _<_}
 use mathlib.Core.Path.{_≡_, refl, sym, ap, ap₂, subst, _∙_}
 use mathlib.Core.Bool.{Bool, true, false, cond, not, _&&_, _||_, true≢false, false≢true}
@@ -9,16 +8,16 @@ use native.Mathlib.Decide.{decLe}
 use borrow.Author.Tests.{ltb-true, lt-ltb, eqb-true}
 use lib.Dec.{eqb, ltb}
 use lib.ListN.{length}
+use Rattle.shape.proofs.Bools.{both-true, both-false}
 use Rattle.shape.specs.declared.Piece.{Piece}
 use Rattle.shape.specs.declared.Shape.{Shape}
 use Rattle.shape.specs.Words.{piece}
 use Rattle.shape.specs.Questions.{allOf, isAllOf}
 use Rattle.slots.specs.Search.{nothing}
 use Rattle.find.specs.Find.{foundIf, floatsAt, x87Stack}
-use Rattle.find.proofs.Each.{and-true}
 use Rattle.psabi.specs.Psabi.{liesIn}
 use Rattle.psabi.specs.Domain.{any, howMany, isX87Piece, x87In, otherIn, Domain}
-use Rattle.psabi.proofs.Clauses.{or-left, or-right, Usual, int1, int2, int4, int8, int16, single4, double8, x87-16, quad16, Regular, Each, done, more, above-0, regular, touched, apart, at-most-one}
+use Rattle.psabi.proofs.Clauses.{Usual, int1, int2, int4, int8, int16, single4, double8, x87-16, quad16, Regular, Each, done, more, above-0, regular, touched, apart, at-most-one}
 use Rattle.psabi.proofs.Agree.{usual-pos}
 
 x87-size : {k s : ℕ} → Usual k s → eqb k 3 ≡ true → s ≡ 16
@@ -60,8 +59,8 @@ all-x87 : (size : ℕ) (ps : List Piece) → size ≤ 16 → Each (Regular size)
 unfolding any howMany
 all-x87 size [] h done a b = refl
 all-x87 size (p ∷ ps) h (more r rs) a b =
-    go (all-x87 size ps h rs (or-right (otherIn p 0) _ a) (or-right (otherIn p 1) _ b))
-    (isX87Piece p) (or-left (otherIn p 0) _ a) (or-left (otherIn p 1) _ b) (decLe 8 (p .offset))
+    go (all-x87 size ps h rs (both-false (otherIn p 0) _ a .1) (both-false (otherIn p 1) _ b .1))
+    (isX87Piece p) (both-false (otherIn p 0) _ a .0) (both-false (otherIn p 1) _ b .0) (decLe 8 (p .offset))
   where
     go : howMany isX87Piece ps ≡ length ps → (x : Bool) → not x && liesIn p 0 ≡ false → not x && liesIn p 1 ≡ false → Dec (8 ≤ p .offset)
         → cond x 1 0 + howMany isX87Piece ps ≡ suc (length ps)
@@ -86,12 +85,12 @@ unfolding any
 lone-piece shape p d e = go (regular d)
   where
     low : p .offset < 8
-    low = ltb-true _ _ (and-true (ltb (p .offset) 8) (ltb 0 (p .offset + p .size)) (or-end (liesIn p 0) (touched d 0 (above-0 d))) .0)
+    low = ltb-true _ _ (both-true (ltb (p .offset) 8) (ltb 0 (p .offset + p .size)) (or-end (liesIn p 0) (touched d 0 (above-0 d))) .0)
 
     ends : p .size ≡ 16 → p .offset ≡ 0 → Dec (shape .size ≤ 16) → p .offset + p .size ≤ shape .size → shape .size ≡ 16
     ends s z (yes h) i = omega arith
     ends s z (no h) i =
-        let t : 16 < p .offset + p .size = ltb-true _ _ (and-true (ltb (p .offset) 24) (ltb 16 (p .offset + p .size)) (or-end (liesIn p 2) (touched d 2 (omega arith))) .1) in
+        let t : 16 < p .offset + p .size = ltb-true _ _ (both-true (ltb (p .offset) 24) (ltb 16 (p .offset + p .size)) (or-end (liesIn p 2) (touched d 2 (omega arith))) .1) in
         absurd (omega arith)
 
     go : Each (Regular (shape .size)) (p ∷ []) → Lone shape (p ∷ [])
@@ -152,4 +151,4 @@ no-stack shape (p ∷ []) d n = go (isX87Piece p) refl
     go false x = refl
     go true x =
         let w : shape .size ≡ 16 = lone-piece shape p d x .whole in
-        absurd (true≢false (sym x ∙ or-left (isX87Piece p) false (n (omega arith))))
+        absurd (true≢false (sym x ∙ both-false (isX87Piece p) false (n (omega arith)) .0))

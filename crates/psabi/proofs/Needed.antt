@@ -1,5 +1,5 @@
 -- Why the domain has its clauses: for each clause that the theorem needs, the smallest shape that keeps every clause but this one, with row 0's
--- answer and the psABI's, which differ. All is computed. Assumes nothing.
+-- answer and the psABI's, which differ. All is computed.
 --
 -- Two clauses are not needed. A size of 0 leaves no room for a piece, and then both sides pass nothing (`nothing-at-all`). The complex flag is read
 -- by one test of row 0, together with two X87 pieces, of which there is at most one: the theorem's proof doesn't use that clause.
@@ -18,9 +18,10 @@ use Rattle.shape.specs.Words.{piece}
 use Rattle.slots.specs.Search.{floatsIn}
 use Rattle.find.specs.Find.{foundIf, floatsAt, x87Stack}
 use Rattle.eightbytes.specs.Class as ours
-use Rattle.eightbytes.specs.Eightbytes.{cover, mark, fits, marked, spoiled, mend, settled, classified, slotsFrom, slotsFound, eightbytes}
+use Rattle.eightbytes.specs.Eightbytes.{cover, mark, classesAfter, spoiled, mend, settled, classified, slotsFrom, slotsFound, eightbytes}
+use Rattle.eightbytes.specs.Reach.{fits}
 use Rattle.abis.specs.Abis.{described, descriptions}
-use Rattle.search.specs.Matches.{matches}
+use Rattle.find.specs.Matches.{matches}
 use Rattle.classify.specs.Classify as rust
 use Rattle.classify.specs.Classify.{argument, returns}
 use Rattle.psabi.specs.Psabi as psabi
@@ -98,7 +99,7 @@ unfolding every any howMany atEach
 one-broken = refl
 
 row-answers : map byRow differences ≡ map (λ (d : Difference). some (d .row)) differences
-unfolding argument returns rust.apply matches rust.travel rust.inRegisters rust.shortOf described descriptions x87Stack isAllOf allOf floatsAt eightbytes classified marked mark cover fits spoiled settled mend slotsFrom slotsFound ours.merge ours.same ours.code foundIf floatsIn lastOf placesOf
+unfolding argument returns rust.apply matches rust.travel rust.slotsInRegisters rust.shortOf described descriptions x87Stack isAllOf allOf floatsAt eightbytes classified classesAfter mark cover fits spoiled settled mend slotsFrom slotsFound ours.merge ours.same ours.code foundIf floatsIn lastOf placesOf
 row-answers = refl
 
 psabi-answers : map byPsabi differences ≡ map (λ (d : Difference). d .standard) differences
@@ -152,5 +153,5 @@ nothing-at-all i f = (refl, refl)
 
 -- INTEGER wins over X87 and leaves the X87UP above it alone: clean-up (b)
 mixed-low : rowResult 6 8 16 (x87 0 ∷ int 1 0 ∷ []) ≡ some (psabiResult (standing 6 8) 16 (x87 0 ∷ int 1 0 ∷ []))
-unfolding returns rust.apply matches rust.travel rust.inRegisters described descriptions x87Stack isAllOf allOf floatsAt eightbytes classified marked mark cover fits spoiled settled mend slotsFrom slotsFound ours.merge ours.same ours.code foundIf lastOf placesOf psabiResult psabi.classified psabi.anyUnaligned psabi.classesFrom psabi.mergedIn psabi.merge psabi.lowOf psabi.highOf psabi.cleaned psabi.anyMemory psabi.loneX87Up psabi.isOneVector psabi.allUp psabi.converted psabi.returning
+unfolding returns rust.apply matches rust.travel rust.slotsInRegisters described descriptions x87Stack isAllOf allOf floatsAt eightbytes classified classesAfter mark cover fits spoiled settled mend slotsFrom slotsFound ours.merge ours.same ours.code foundIf lastOf placesOf psabiResult psabi.classified psabi.anyUnaligned psabi.classesFrom psabi.mergedIn psabi.merge psabi.lowOf psabi.highOf psabi.cleaned psabi.anyMemory psabi.loneX87Up psabi.isOneVector psabi.allUp psabi.converted psabi.returning
 mixed-low = refl

@@ -1,5 +1,5 @@
 -- Row 0 is the psABI: on the shapes of the domain, with any counts left, what the classifier's definitions answer for an aggregate on description 0
--- is what section 3.2.3 says. Both walk at most two eightbytes, or end in memory. Assumes nothing.
+-- is what section 3.2.3 says. Both walk at most two eightbytes, or end in memory.
 use Prim.Native.Nat.{ℕ, _-_, _≤_, _<_}
 use mathlib.Core.Path.{_≡_, refl, sym, ap, subst, _∙_}
 use mathlib.Core.Bool.{Bool, true, false, cond, not, _&&_}
@@ -20,7 +20,8 @@ use Rattle.slots.specs.Search.{Search, found, nothing, floatsIn}
 use Rattle.find.specs.Find.{foundIf, floatsAt, x87Stack}
 use Rattle.eightbytes.specs.Class as ours
 use Rattle.eightbytes.specs.Class.{None}
-use Rattle.eightbytes.specs.Eightbytes.{cover, mark, fits, marked, spoiled, mend, settled, classified, slotsFound, eightbytes}
+use Rattle.eightbytes.specs.Eightbytes.{cover, mark, classesAfter, spoiled, mend, settled, classified, slotsFound, eightbytes}
+use Rattle.eightbytes.specs.Reach.{fits}
 use Rattle.eightbytes.proofs.At.{allFit, markAll, marked-all}
 use Rattle.describe.specs.declared.Test.the-variants.{X87Stack, Eightbytes}
 use Rattle.describe.specs.declared.Travel.the-variants.{AsFound}
@@ -28,10 +29,10 @@ use Rattle.describe.specs.declared.Short.the-variants.{Memory}
 use Rattle.describe.specs.Description.{rule, ruleShort}
 use Rattle.abis.specs.Abis.{described, descriptions}
 use Rattle.spend.specs.declared.Left.{Left}
-use Rattle.search.specs.Matches.{matches}
+use Rattle.find.specs.Matches.{matches}
 use Rattle.spend.specs.Ways.{no-mark}
 use Rattle.classify.specs.Pass.{pieces, reference, memory}
-use Rattle.classify.specs.Classify.{Passed, counts, passed, shortOf, inRegisters, travel, lessBoth, orElse, tried, apply, argument, returns}
+use Rattle.classify.specs.Classify.{Passed, counts, passed, shortOf, slotsInRegisters, travel, lessBoth, orRest, tried, apply, argument, returns}
 use Rattle.psabi.specs.Psabi as psabi
 use Rattle.psabi.specs.Psabi.{Class, NO-CLASS, is, Travels, mergedIn, classesFrom, anyUnaligned, eightbytesIn, cleaned, psabiArgument, psabiResult}
 use Rattle.psabi.specs.Domain.{any, isX87Piece, Domain}
@@ -46,7 +47,7 @@ use Rattle.psabi.proofs.Ways.{spend, give, in-memory, argument-one, arg
 
 argument-walk : (i f : ℕ) (shape : Shape) (ps : List Piece) → 0 < shape .size
     → argument (described 0) (counts i f) (Aggregate shape) ps ≡ spend i f (eightbytes 16 shape ps)
-unfolding argument apply matches described descriptions foundIf travel inRegisters shortOf spend
+unfolding argument apply matches described descriptions foundIf travel slotsInRegisters shortOf spend
 argument-walk i f shape ps h = rw (ne-eqb (shape .size) 0 (omega arith)) (go (eightbytes 16 shape ps))
   where
     go : (s : Search)
@@ -55,7 +56,7 @@ argument-walk i f shape ps h = rw (ne-eqb (shape .size) 0 (omega arith)) (go (ei
     go (found ss) = by-cost (leb (length ss - floatsIn ss) i && leb (floatsIn ss) f)
       where
         by-cost : (b : Bool)
-            → orElse
+            → orRest
             (cond b (some (passed (pieces ss) (lessBoth (length ss - floatsIn ss) (floatsIn ss) (counts i f)))) (some (passed memory (counts i f))))
             (passed memory (counts i f))
             ≡ cond b (passed (pieces ss) (counts (i - (length ss - floatsIn ss)) (f - floatsIn ss))) (passed memory (counts i f))
@@ -65,7 +66,7 @@ argument-walk i f shape ps h = rw (ne-eqb (shape .size) 0 (omega arith)) (go (ei
 -- a result that the x87 stack has no place for
 return-walk : (i f : ℕ) (shape : Shape) (ps : List Piece) → 0 < shape .size → x87Stack shape ps ≡ nothing
     → returns (described 0) (counts i f) (Aggregate shape) ps ≡ give i f (eightbytes 16 shape ps)
-unfolding returns apply matches described descriptions foundIf travel inRegisters give
+unfolding returns apply matches described descriptions foundIf travel slotsInRegisters give
 return-walk i f shape ps h x = rw (ne-eqb (shape .size) 0 (omega arith), x) (go (eightbytes 16 shape ps))
   where
     go : (s : Search)
@@ -83,7 +84,7 @@ module _ (shape : Shape) (ps : List Piece) (h : shape .size ≤ 16) (rs : Each (
   abbrev n : ℕ
   n = eightbytesIn (shape .size)
 
-  all-marked : (b : Bool) → anyUnaligned ps ≡ b → marked (replicate n None) ps ≡ cond b none (some (markAll (replicate n None) ps))
+  all-marked : (b : Bool) → anyUnaligned ps ≡ b → classesAfter (replicate n None) ps ≡ cond b none (some (markAll (replicate n None) ps))
   all-marked b u =
       let a : allFit (length (replicate n None)) ps ≡ not b = rw (length-replicate n None) (all-fit (shape .size) ps h rs ∙ ap not u) in
       marked-all (replicate n None) ps ∙ rw a (go b)
@@ -154,12 +155,12 @@ module _ {shape : Shape} {ps : List Piece} (d : Domain shape ps) (f : Search →
 -- an X87 value alone: on the stack as an argument, in st0 as a result
 module _ (i f : ℕ) (shape : Shape) (e : shape .size ≡ 16) where
   x87-argument : readArgument (counts i f) (spend i f (eightbytes 16 shape (piece 3 16 16 0 ∷ []))) ≡ some (psabiArgument (standing i f) (shape .size) (piece 3 16 16 0 ∷ []))
-  unfolding eightbytes classified marked mark cover fits settled spoiled mend slotsFound ours.merge ours.same ours.code spend psabiArgument psabi.classified anyUnaligned classesFrom mergedIn psabi.merge psabi.lowOf psabi.highOf cleaned psabi.anyMemory psabi.loneX87Up psabi.isOneVector psabi.converted psabi.passing
+  unfolding eightbytes classified classesAfter mark cover fits settled spoiled mend slotsFound ours.merge ours.same ours.code spend psabiArgument psabi.classified anyUnaligned classesFrom mergedIn psabi.merge psabi.lowOf psabi.highOf cleaned psabi.anyMemory psabi.loneX87Up psabi.isOneVector psabi.converted psabi.passing
   x87-argument = rw e
 
   x87-result : readResult (counts i f) (returns (described 0) (counts i f) (Aggregate shape) (piece 3 16 16 0 ∷ []))
       ≡ some (psabiResult (standing i f) (shape .size) (piece 3 16 16 0 ∷ []))
-  unfolding returns apply matches described descriptions foundIf x87Stack isAllOf allOf floatsAt travel inRegisters placesOf psabiResult psabi.classified anyUnaligned classesFrom mergedIn psabi.merge psabi.lowOf psabi.highOf cleaned psabi.anyMemory psabi.loneX87Up psabi.isOneVector psabi.converted psabi.returning
+  unfolding returns apply matches described descriptions foundIf x87Stack isAllOf allOf floatsAt travel slotsInRegisters placesOf psabiResult psabi.classified anyUnaligned classesFrom mergedIn psabi.merge psabi.lowOf psabi.highOf cleaned psabi.anyMemory psabi.loneX87Up psabi.isOneVector psabi.converted psabi.returning
   x87-result = rw e
 
 abbrev ArgumentAgrees : ℕ → ℕ → Shape → List Piece → Type 0
@@ -219,7 +220,7 @@ module _ (i f : ℕ) (shape : Shape) (ps : List Piece) (h : 0 < shape .size) whe
           (record { integer≤ = omega arith; float≤ = omega arith; unmarked = refl })
 
   pub result-stays : Stays i f (returns (described 0) (counts i f) (Aggregate shape) ps .left)
-  unfolding returns apply matches described descriptions foundIf travel inRegisters
+  unfolding returns apply matches described descriptions foundIf travel slotsInRegisters
   result-stays = rw (ne-eqb (shape .size) 0 (omega arith)) (go (x87Stack shape ps) (eightbytes 16 shape ps))
     where
       go : (s t : Search)

@@ -1,5 +1,5 @@
 -- The tests of the two sides agree: alignment, that more than two eightbytes are MEMORY (no piece of the domain reaches past two, so clean-up (c)
--- applies), and that a touched eightbyte has a class. Assumes nothing.
+-- applies), and that a touched eightbyte has a class.
 use Prim.Native.Nat.{ℕ, suc, _+_, _-_, _*_, _%_, _≤_, _<_}
 use mathlib.Core.Path.{_≡_, refl, sym, ap₂, subst, _∙_}
 use mathlib.Core.Bool.{Bool, true, false, cond, not, _&&_, _||_, and-true as and-end, or-true, false≢true}
@@ -10,14 +10,14 @@ use native.Mathlib.Omega.{arith}
 use borrow.Author.Tests.{ltb-true, lt-ltb, le-ltb, eqb-true, eq-eqb, not-false}
 use lib.Dec.{eqb, leb, ltb}
 use lib.ListN.{length}
+use Rattle.shape.proofs.Bools.{both-true, both-false}
 use Rattle.shape.specs.declared.Piece.{Piece}
 use Rattle.shape.specs.Numbers.{integer, x87-extended, quad}
-use Rattle.find.proofs.Each.{and-true}
-use Rattle.eightbytes.specs.Eightbytes.{lastOf, aligned, fits}
+use Rattle.eightbytes.specs.Reach.{lastOf, aligned, fits}
 use Rattle.eightbytes.proofs.At.{allFit}
 use Rattle.psabi.specs.Psabi.{Class, INTEGER, SSE, SSEUP, X87, X87UP, COMPLEX-X87, NO-CLASS, MEMORY, is, either, isX87, lowOf, highOf, merge, liesIn, fieldClass, mergedIn, classesFrom, anyUnaligned, allUp, isOneVector, anyMemory, loneX87Up, cleaned, eightbytesIn, classified}
 use Rattle.psabi.specs.Domain.{any}
-use Rattle.psabi.proofs.Clauses.{or-left, or-right, Usual, int1, int2, int4, int8, int16, single4, double8, x87-16, quad16, Regular, Each, done, more}
+use Rattle.psabi.proofs.Clauses.{Usual, int1, int2, int4, int8, int16, single4, double8, x87-16, quad16, Regular, Each, done, more}
 use Rattle.psabi.proofs.Agree.{Ready, usual-pos, cond-in, classes-length}
 
 -- ---- alignment
@@ -56,7 +56,7 @@ all-fit size (p ∷ ps) h (more r rs) = ap₂ _&&_ (fit-one size p h r) (all-fit
 -- an aligned piece stands at a multiple of its size
 at-multiple : (size : ℕ) (p : Piece) (u : Bool) → Regular size p → not (eqb (p .offset % p .align) 0) || u ≡ false → p .offset % p .size ≡ 0
 at-multiple size p u r h =
-    let e : p .offset % p .align ≡ 0 = eqb-true _ _ (not-false _ (or-left (not (eqb (p .offset % p .align) 0)) u h)) in
+    let e : p .offset % p .align ≡ 0 = eqb-true _ _ (not-false _ (both-false (not (eqb (p .offset % p .align) 0)) u h .0)) in
     subst (λ z. p .offset % z ≡ 0) (r .natural) e
 
 pub ready : (size : ℕ) (ps : List Piece) → size ≤ 16 → Each (Regular size) ps → anyUnaligned ps ≡ false → Each Ready ps
@@ -65,7 +65,7 @@ ready size [] h done u = done
 ready size (p ∷ ps) h (more r rs) u =
     let i : p .offset + p .size ≤ size = r .inside in
     more (record { usual = r .usual; at-size = at-multiple size p (anyUnaligned ps) r u; small = omega arith })
-    (ready size ps h rs (or-right (not (eqb (p .offset % p .align) 0)) _ u))
+    (ready size ps h rs (both-false (not (eqb (p .offset % p .align) 0)) _ u .1))
 
 pub unaligned : (size : ℕ) (ps : List Piece) → anyUnaligned ps ≡ true → classified size ps ≡ none
 unfolding classified
@@ -114,7 +114,7 @@ third-half : (p : Piece) → Usual (p .kind) (p .size) → p .offset % p .size �
 third-half p r e t = go (ltb (p .offset) 16) refl
   where
     b : 16 < p .offset + p .size
-    b = ltb-true _ _ (and-true (ltb (p .offset) 24) (ltb 16 (p .offset + p .size)) t .1)
+    b = ltb-true _ _ (both-true (ltb (p .offset) 24) (ltb 16 (p .offset + p .size)) t .1)
 
     go : (u : Bool) → ltb (p .offset) 16 ≡ u → is SSEUP (cond u (highOf (p .kind)) (lowOf (p .kind))) ≡ false
     go true h = third r (p .offset) e (ltb-true _ _ h) b
@@ -123,7 +123,7 @@ third-half p r e t = go (ltb (p .offset) 16) refl
 no-up : (size : ℕ) (ps : List Piece) (c : Class) → Each (Regular size) ps → anyUnaligned ps ≡ false → is SSEUP c ≡ false → is SSEUP (mergedIn c ps 2) ≡ false
 unfolding mergedIn anyUnaligned
 no-up size [] c done u h = h
-no-up size (p ∷ ps) c (more r rs) u h = go (λ d. no-up size ps d rs (or-right (not (eqb (p .offset % p .align) 0)) _ u)) (liesIn p 2) refl
+no-up size (p ∷ ps) c (more r rs) u h = go (λ d. no-up size ps d rs (both-false (not (eqb (p .offset % p .align) 0)) _ u .1)) (liesIn p 2) refl
   where
     b : Class
     b = fieldClass p 2

@@ -1,4 +1,4 @@
--- What row 0 and the psABI answer for one eightbyte and for two, by their classes and by how many registers are left. Assumes nothing.
+-- What row 0 and the psABI answer for one eightbyte and for two, by their classes and by how many registers are left.
 use Prim.Native.Nat.{ℕ, zero, suc, _-_, _≤_, _<_, min}
 use mathlib.Core.Path.{_≡_, refl, ap, _∙_}
 use mathlib.Core.Bool.{Bool, true, false, cond, _&&_, true≢false}
@@ -9,10 +9,10 @@ use borrow.Author.Tests.{le-leb, lt-leb}
 use lib.Dec.{eqb, leb}
 use lib.Seq.{drop-cons, drop-length}
 use lib.ListN.{length, drop, getD}
+use Rattle.shape.proofs.Bools.{second-fails}
 use Rattle.slots.specs.declared.Slot.{Slot}
 use Rattle.slots.specs.Words.{slot, floatSlot}
 use Rattle.slots.specs.Search.{Search, found, nothing, floatsIn}
-use Rattle.find.proofs.Each.{and-false}
 use Rattle.eightbytes.specs.Class.{same, code}
 use Rattle.eightbytes.specs.Eightbytes.{spoiled, mend, settled, slotsFrom, slotsFound}
 use Rattle.classify.specs.Pass.{pieces, reference, memory}
@@ -55,7 +55,7 @@ module _ (ss : List Slot) (i f a b : ℕ) (ea : length ss - floatsIn ss ≡ a) (
 
   short-vector : f < b → spend i f (found ss) ≡ passed memory (counts i f)
   unfolding spend
-  short-vector h = rw (ea, eb, lt-leb b f h, and-false (leb a i) false refl)
+  short-vector h = rw (ea, eb, lt-leb b f h, second-fails (leb a i) false refl)
 
 -- these slots are what the psABI has for these classes
 abbrev Agree : ℕ → ℕ → List Slot → List Class → Type 0

@@ -96,6 +96,6 @@ passFrom ways.the-variants.Memory ss = memory
 abbrev pub freeAt : Call → Free
 freeAt c = standing (c .left .integer) (c .left .float)
 
-abbrev pub readAnswer : Free → Call → Answer → List ℕ → Option Travels
-readAnswer from c a out =
+abbrev pub answerRead : Free → Call → Answer → List ℕ → Option Travels
+answerRead from c a out =
     readPass from (freeAt c) (passFrom (wayFrom (a .outcome .way)) (slotsRead (a .outcome .slots) out)) (freeAt (a .next))

@@ -1,3 +1,5 @@
+pub mod Bools
+pub mod Cases
 pub mod Words
 pub mod Questions
 pub mod OneAnswer

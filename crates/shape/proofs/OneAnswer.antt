@@ -1,5 +1,5 @@
 -- What it means that a contract decides: no two answers to the same arguments both meet it. Each crate's Unique.antt shows it of its public
--- functions, from the contract that the checker itself reads, so that a loosened promise fails there. Assumes nothing.
+-- functions, from the contract that the checker itself reads, so that a loosened promise fails there.
 use mathlib.Core.Path.{_≡_}
 
 -- the answer is decided: `Post arguments answer exit` is a function's contract

@@ -1,5 +1,5 @@
 -- Records by place: where a whole record is left at a place of some words, the records from there on are that one and those after it.
--- These are the only laws that open `piecesOf` and `scalarsOf`. Assumes nothing.
+-- These are the only laws that open `piecesOf` and `scalarsOf`.
 use Prim.Native.Nat.{ℕ, _+_, _-_, _/_, _≤_, _<_}
 use mathlib.Core.Path.{_≡_, refl}
 use mathlib.Core.List.{List, [], _∷_}
@@ -7,8 +7,6 @@ use native.Mathlib.Numerals.{add-one}
 use native.Mathlib.Omega.{arith}
 use lib.ListN.{length, drop, getD, length-drop}
 use lib.Seq.{drop-cons}
-use Rattle.shape.specs.declared.Piece.{Piece}
-use Rattle.shape.specs.declared.Scalar.{Scalar}
 use Rattle.shape.specs.Words.{piece, piecesOf, firstPiece, pieceAt, scalar, scalarsOf, firstScalar, scalarAt}
 
 -- the words from a place are the word there and the words from the next

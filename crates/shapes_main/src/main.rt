@@ -140,7 +140,7 @@ fn put_word(out: &mut [u64], at: usize, word: u64) -> usize
 fn print(shape: Shape, pieces: &[u64]) -> bool {
     let mut each = [0u64; MOST_PIECES as usize * slots::SLOT];
     let mut out = [0u8; 16384];
-    find::put_pieces(pieces, &mut each);
+    slot_writing::put_pieces(pieces, &mut each);
     let n = lines(shape, pieces, &each, &mut out);
     io::write_all(STDOUT_FILENO, &out[..n])
 }
@@ -226,7 +226,7 @@ fn put_eightbytes(out: &mut [u8], at: usize, test: usize, shape: Shape, pieces: 
     let mut each = [0u64; slots::MOST_WORDS];
     let answer = eightbytes::eightbytes(shape, pieces, limit(test));
     let classes = answer.classes;
-    eightslots::put_eightbytes(classes, shape.size, &mut each);
+    slot_writing::put_eightbytes(classes, shape.size, &mut each);
     let found = answer.found;
     put_found(out, at, found, &each)
 }
@@ -272,7 +272,7 @@ fn in_memory(row: u64, shape: Shape, pieces: &[u64]) -> InMemory {
 
 // The record that the pieces make.
 fn put_record(out: &mut [u8], at: usize, pieces: &[u64]) -> usize {
-    let answer = records::record(pieces);
+    let answer = layouts::record(pieces);
     let record = answer.shape;
     let numbers = [record.size, record.align, record.floating as u64];
     put_accepted(out, at, answer.refusal, 1, 3, &numbers)
@@ -287,7 +287,7 @@ fn put_pieces(out: &mut [u8], at: usize, pieces: &[u64]) -> usize {
 
 fn put_members(out: &mut [u8], at: usize, members: &[u64]) -> usize {
     let mut pieces = [0u64; 256];
-    let answer = records::pieces(members, &mut pieces);
+    let answer = layouts::pieces(members, &mut pieces);
     put_accepted(out, at, answer.refusal, shape::PIECE, answer.count, &pieces)
 }
 

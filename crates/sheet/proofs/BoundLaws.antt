@@ -1,13 +1,13 @@
--- No text of a record is longer than the longest line. Assumes nothing.
+-- No text of a record is longer than the longest line.
 use Prim.Native.Nat.{ℕ, _≤_}
 use mathlib.Core.List.{List}
 use native.Mathlib.Omega.{arith}
 use lib.ListN.{length}
-use Rattle.reading.specs.declared.Event as events
-use Rattle.lines.specs.Printing.{longest}
-use Rattle.lines.proofs.BoundLaws.{line-bound}
-use Rattle.sheet.specs.declared.State.{State}
-use Rattle.sheet.specs.Performing.{performed, performedSlots}
+use Rattle.sheet_records.specs.declared.Event as events
+use Rattle.sheet_lines.specs.Printing.{longest}
+use Rattle.sheet_lines.proofs.BoundLaws.{line-bound}
+use Rattle.sheet_perform.specs.declared.State.{State}
+use Rattle.sheet_perform.specs.Performing.{performed, performedSlots}
 use Rattle.sheet.specs.Sheet.{Between, whatOf, eventText, text}
 use Rattle.sheet.proofs.SlotLaws.{eight-slots}
 

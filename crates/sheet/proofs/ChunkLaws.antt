@@ -1,4 +1,4 @@
--- What Chunks.antt rests on: records of bytes that are cut, and what is taken of an input. Assumes nothing.
+-- What Chunks.antt rests on: records of bytes that are cut, and what is taken of an input.
 use Prim.Native.Nat.{ℕ, zero, suc, _+_, _-_, _*_, _≤_}
 use mathlib.Core.Path.{_≡_, refl, sym, ap, _∙_}
 use mathlib.Core.List.{List, [], _∷_, _++_, append-assoc}
@@ -11,22 +11,22 @@ use lib.ListN.{length, take, drop, length-append, length-drop}
 use lib.Seq.{drop-drop, drop-at, take-append-le, drop-append-le, take-append-seam}
 use Rattle.slots.specs.Words.{putAt}
 use Rattle.slots.proofs.Words.{put-fits}
-use Rattle.reading.specs.Records.{recordSize}
-use Rattle.lines.specs.Printing.{longest}
-use Rattle.sheet.specs.Sheet.{Between, text, after, texts, afterAll, recordsIn, whole, taken}
+use Rattle.sheet_records.specs.Records.{recordSize}
+use Rattle.sheet_lines.specs.Printing.{longest}
+use Rattle.sheet.specs.Sheet.{Between, text, afterRecord, texts, afterAll, recordsIn, whole, taken}
 use Rattle.sheet.proofs.BoundLaws.{text-bound}
 
 pub texts-append : (b : Between) (xs ys : List (List ℕ)) → texts b (xs ++ ys) ≡ texts b xs ++ texts (afterAll b xs) ys
 unfolding texts afterAll
 texts-append b [] ys = refl
 texts-append b (x ∷ xs) ys =
-    ap (λ (t : List ℕ). text b x ++ t) (texts-append (after b x) xs ys)
-    ∙ sym (append-assoc (text b x) (texts (after b x) xs) (texts (afterAll (after b x) xs) ys))
+    ap (λ (t : List ℕ). text b x ++ t) (texts-append (afterRecord b x) xs ys)
+    ∙ sym (append-assoc (text b x) (texts (afterRecord b x) xs) (texts (afterAll (afterRecord b x) xs) ys))
 
 pub after-append : (b : Between) (xs ys : List (List ℕ)) → afterAll b (xs ++ ys) ≡ afterAll (afterAll b xs) ys
 unfolding afterAll
 after-append b [] ys = refl
-after-append b (x ∷ xs) ys = after-append (after b x) xs ys
+after-append b (x ∷ xs) ys = after-append (afterRecord b x) xs ys
 
 -- the first m records of some bytes, and then n of the bytes behind them
 pub records-append : (m n : ℕ) (bytes : List ℕ) → recordsIn (m + n) bytes ≡ recordsIn m bytes ++ recordsIn n (drop (m * recordSize) bytes)
@@ -65,7 +65,7 @@ pub taken-most : (n : ℕ) (b : Between) (bytes : List ℕ) (room at : ℕ) → 
 unfolding taken
 taken-most zero b bytes room at = omega arith
 taken-most (suc n) b bytes room at =
-    by-room (leb (at + longest) room) _ n (taken-most n (after b (take recordSize bytes)) (drop recordSize bytes) room (at + length (text b (take recordSize bytes))))
+    by-room (leb (at + longest) room) _ n (taken-most n (afterRecord b (take recordSize bytes)) (drop recordSize bytes) room (at + length (text b (take recordSize bytes))))
   where
     by-room : (g : Bool) (k n : ℕ) → k ≤ n → cond g (suc k) 0 ≤ suc n
     by-room true k n h = omega arith
@@ -74,7 +74,7 @@ taken-most (suc n) b bytes room at =
 -- the text of what is taken fits: of one record, and of those behind it
 fits-by : (b : Between) (bytes : List ℕ) (room at k : ℕ) → at ≤ room → (g : Bool) → leb (at + longest) room ≡ g
     → (at + length (text b (take recordSize bytes)) ≤ room
-    → at + length (text b (take recordSize bytes)) + length (texts (after b (take recordSize bytes)) (recordsIn k (drop recordSize bytes))) ≤ room)
+    → at + length (text b (take recordSize bytes)) + length (texts (afterRecord b (take recordSize bytes)) (recordsIn k (drop recordSize bytes))) ≤ room)
     → at + length (texts b (recordsIn (cond g (suc k) 0) bytes)) ≤ room
 unfolding recordsIn texts
 fits-by b bytes room at k h false e i = omega arith
@@ -90,7 +90,7 @@ unfolding taken texts recordsIn
 taken-fits zero b bytes room at h = omega arith
 taken-fits (suc n) b bytes room at h =
     fits-by b bytes room at _ h (leb (at + longest) room) refl
-    (taken-fits n (after b (take recordSize bytes)) (drop recordSize bytes) room (at + length (text b (take recordSize bytes))))
+    (taken-fits n (afterRecord b (take recordSize bytes)) (drop recordSize bytes) room (at + length (text b (take recordSize bytes))))
 
 -- a text at the front of a buffer is read back
 pub read-back : (o t : List ℕ) → length t ≤ length o → take (length t) (putAt o 0 t) ≡ t

@@ -1,5 +1,5 @@
 -- The law of chunks: reading a sheet in any chunks of whole records gives the same lines as reading it whole, and leaves the same state and
--- the same buffers. Said of `steps`, `step` and `finish` by their own promises (Taken, Stepped, Finished). Assumes nothing.
+-- the same buffers. Said of `steps`, `step` and `finish` by their own promises (Taken, Stepped, Finished).
 use Prim.Native.Nat.{ℕ, _+_, _*_, _≤_, _<_}
 use mathlib.Core.Path.{_≡_, refl, sym, ap, _∙_}
 use mathlib.Core.List.{List, [], _∷_, _++_}
@@ -10,11 +10,11 @@ use lib.Dec.{leb}
 use lib.ListN.{length, take, drop, length-append, take-append-drop}
 use lib.Seq.{length-take-le, drop-at}
 use Rattle.slots.specs.Words.{putAt}
-use Rattle.reading.specs.Records.{recordSize}
-use Rattle.lines.specs.Printing.{longest}
+use Rattle.sheet_records.specs.Records.{recordSize}
+use Rattle.sheet_lines.specs.Printing.{longest}
 use Rattle.sheet.specs.declared.Step.{Step}
 use Rattle.sheet.specs.declared.Steps.{Steps}
-use Rattle.sheet.specs.Sheet.{Between, between, begin, stepTo, stopText, ended, finishState, text, after, texts, afterAll, recordsIn, whole, taken, stepAnswer, stepOut, Stepped, finishText, finishAnswer, finishOut, Finished, stepsAnswer, stepsPieces, stepsSlots, stepsOut, Taken, endText, sheetText}
+use Rattle.sheet.specs.Sheet.{Between, between, begin, stepTo, stopText, ended, finishState, text, afterRecord, texts, afterAll, recordsIn, whole, taken, stepAnswer, stepOut, Stepped, finishText, finishAnswer, finishOut, Finished, stepsAnswer, stepsPieces, stepsSlots, stepsOut, Taken, endText, sheetText}
 use Rattle.sheet.proofs.BoundLaws.{text-bound}
 use Rattle.sheet.proofs.ChunkLaws.{texts-append, after-append, records-front, records-join, taken-most, taken-fits, read-back}
 
@@ -172,7 +172,7 @@ last-line b [] l h x =
 last-line b (r ∷ rs) l h x =
     let g : leb (0 + longest) (length (l .room)) ≡ true = le-leb (0 + longest) (length (l .room)) (omega arith) in
     let k = text-bound b (r ∷ rs) in
-    let a : l .answer ≡ stepTo (after b (r ∷ rs) .state) (0 + length (text b (r ∷ rs))) = rw g at (x .answers) in
+    let a : l .answer ≡ stepTo (afterRecord b (r ∷ rs) .state) (0 + length (text b (r ∷ rs))) = rw g at (x .answers) in
     let t : l .out ≡ putAt (l .room) 0 (text b (r ∷ rs)) = rw g at (x .text-left) in
     read-it (l .room) (text b (r ∷ rs)) (l .out) (l .answer .at) (omega arith) (ap (λ (r : Step). r .at) a) t
 

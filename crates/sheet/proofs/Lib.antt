@@ -1,4 +1,3 @@
-pub mod PerformingLaws
 pub mod SlotLaws
 pub mod BoundLaws
 pub mod StepLaws

@@ -1,4 +1,4 @@
--- No answer has more than eight slots, and those that it has fit the buffer. Assumes nothing.
+-- No answer has more than eight slots, and those that it has fit the buffer.
 use Prim.Native.Nat.{ℕ, zero, suc, _/_, _≤_}
 use mathlib.Core.Path.{_≡_}
 use mathlib.Core.List.{List}
@@ -11,14 +11,14 @@ use Rattle.slots.specs.Words.{slotSize, mostSlots}
 use Rattle.spend.specs.declared.Spent.{Spent}
 use Rattle.classify.specs.declared.Call.{Call}
 use Rattle.classify.specs.declared.Answer.{Answer}
-use Rattle.classify.specs.Pass.{slotsOf}
+use Rattle.classify.specs.Pass.{passSlots}
 use Rattle.classify.specs.Classify.{Passed}
-use Rattle.classify.specs.Answers.{descriptions, callRefusal, refusalOf, refused, done, orAnswer, answerTo, freshAnswer, variadicAnswerBy, returnsAnswerBy, argumentAnswerBy, dotsAnswerBy, variadicAnswer, returnsAnswer, argumentAnswer, dotsAnswer}
+use Rattle.classify.specs.Answers.{descriptions, callRefusal, refusalOf, refused, done, orAnswer, answerTo, freshAnswer, variadicAnswerBy, returnsAnswerBy, argumentAnswerBy, variadicArgumentAnswerBy, variadicAnswer, returnsAnswer, argumentAnswer, variadicArgumentAnswer}
 use Rattle.classify.proofs.Accepted.{by-cases}
 use Rattle.classify.proofs.Eight.{eight}
-use Rattle.reader.specs.declared.Operation as operations
-use Rattle.sheet.specs.declared.State.{State}
-use Rattle.sheet.specs.Performing.{wordsRead, answerOf, performed}
+use Rattle.sheet_records.specs.declared.known.Operation as operations
+use Rattle.sheet_perform.specs.declared.State.{State}
+use Rattle.sheet_perform.specs.Performing.{wordsRead, answerOf, performed}
 
 record Few (answer : Answer) (slots : List ℕ) : Type 0 where
   at-most : answer .outcome .slots ≤ mostSlots
@@ -27,7 +27,7 @@ record Few (answer : Answer) (slots : List ℕ) : Type 0 where
 few-refused : (c : Call) (n : ℕ) (slots : List ℕ) → Few (refused c n) slots
 few-refused c n slots = record { at-most = omega arith; inside = omega arith }
 
-few-answer : (checks : ℕ) (c : Call) (p : Passed) (spent : Spent) (slots : List ℕ) → (checks ≡ accepted → length (slotsOf (p .pass)) ≤ mostSlots)
+few-answer : (checks : ℕ) (c : Call) (p : Passed) (spent : Spent) (slots : List ℕ) → (checks ≡ accepted → length (passSlots (p .pass)) ≤ mostSlots)
     → Few (answerTo checks c p spent slots) slots
 few-answer checks c p spent slots h =
     by-cases checks c p spent slots (λ (a : Answer) (words : List ℕ). Few a slots) (λ n e. few-refused c (suc n) slots)
@@ -42,12 +42,12 @@ few-marked zero c next slots = few-refused next accepted slots
 few-marked (suc n) c next slots = few-refused c (suc n) slots
 
 few : (c : Call) (operation : operations.Operation) (ws slots : List ℕ) → Few (answerOf c operation ws slots) slots
-unfolding answerOf freshAnswer variadicAnswerBy returnsAnswerBy argumentAnswerBy dotsAnswerBy variadicAnswer returnsAnswer argumentAnswer dotsAnswer callRefusal refusalOf
+unfolding answerOf freshAnswer variadicAnswerBy returnsAnswerBy argumentAnswerBy variadicArgumentAnswerBy variadicAnswer returnsAnswer argumentAnswer variadicArgumentAnswer callRefusal refusalOf
 few c (operations.the-variants.Fresh abi) ws slots = few-fresh (leb descriptions abi) _ _ slots
 few c operations.the-variants.Mark ws slots = few-marked (callRefusal c) c _ slots
 few c (operations.the-variants.Return arg) ws slots = few-answer (refusalOf c arg ws) c _ _ slots (λ e. eight c arg ws e .returned)
 few c (operations.the-variants.Argument arg) ws slots = few-answer (refusalOf c arg ws) c _ _ slots (λ e. eight c arg ws e .passed-on)
-few c (operations.the-variants.AfterDots arg) ws slots = few-answer (refusalOf c arg ws) c _ _ slots (λ e. eight c arg ws e .after-dots)
+few c (operations.the-variants.VariadicArgument arg) ws slots = few-answer (refusalOf c arg ws) c _ _ slots (λ e. eight c arg ws e .variadic-argument)
 
 module _ (s : State) (operation : operations.Operation) (ps slots : List ℕ) where
   pub eight-slots : performed s operation ps slots .answer .outcome .slots ≤ mostSlots

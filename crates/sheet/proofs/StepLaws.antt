@@ -1,4 +1,4 @@
--- What a step and the end of a sheet leave. Assumes nothing.
+-- What a step and the end of a sheet leave.
 use Prim.Native.Nat.{ℕ, _+_, _≤_}
 use mathlib.Core.Path.{_≡_, refl, sym, ap, _∙_}
 use mathlib.Core.List.{List}
@@ -11,20 +11,21 @@ use Rattle.shape.specs.declared.Arg.{Arg}
 use Rattle.slots.specs.Words.{putAt}
 use Rattle.slots.proofs.Words.{put-none, put-fits}
 use Rattle.text.specs.Text.{appendEnd, appended}
-use Rattle.reader.specs.declared.Reader.{Reader}
-use Rattle.reader.specs.declared.Operation as operations
-use Rattle.reading.specs.declared.Event as events
-use Rattle.reading.specs.declared.Reading.{Reading}
-use Rattle.reading.specs.Reading.{came, stoppedReader, readAnswer, readPieces}
-use Rattle.lines.specs.declared.What as whats
-use Rattle.lines.specs.Text.{Put}
-use Rattle.lines.specs.Printing.{longest, line, Lined}
-use Rattle.lines.proofs.LineLaws.{line-there}
-use Rattle.sheet.specs.declared.State.{State}
+use Rattle.sheet_records.specs.declared.known.Reader.{Reader}
+use Rattle.sheet_records.specs.declared.known.Operation as operations
+use Rattle.sheet_records.specs.declared.Event as events
+use Rattle.sheet_records.specs.declared.Reading.{Reading}
+use Rattle.sheet_records.specs.Reading.{came, readAnswer, readPieces}
+use Rattle.sheet_records.specs.Known.{stoppedReader}
+use Rattle.sheet_lines.specs.declared.What as whats
+use Rattle.sheet_lines.specs.Text.{Put}
+use Rattle.sheet_lines.specs.Printing.{longest, line, Lined}
+use Rattle.sheet_lines.proofs.LineLaws.{line-there}
+use Rattle.sheet_perform.specs.declared.State.{State}
 use Rattle.sheet.specs.declared.Step.{Step}
-use Rattle.sheet.specs.declared.performing.Performed.{Performed}
-use Rattle.sheet.specs.Performing.{performed, performedSlots}
-use Rattle.sheet.specs.Sheet.{stopText, stepTo, knowing, whatOf, eventText, eventState, eventSlots, text, after, stepAnswer, stepPieces, stepSlots, stepOut, CarriedOut, Stepped, ended, finishAnswer, finishOut, Finished}
+use Rattle.sheet_perform.specs.declared.Performed.{Performed}
+use Rattle.sheet_perform.specs.Performing.{performed, performedSlots}
+use Rattle.sheet.specs.Sheet.{stopText, stepTo, knowing, whatOf, eventText, eventState, eventSlots, text, afterRecord, stepAnswer, stepPieces, stepSlots, stepOut, CarriedOut, Stepped, ended, finishAnswer, finishOut, Finished}
 use Rattle.sheet.proofs.SlotLaws.{eight-slots, slots-fit}
 
 -- room for a line
@@ -68,9 +69,9 @@ module _ (operation : operations.Operation) where
     unfolding whatOf
     what-argument e = rw e
 
-    pub what-dots : operation ≡ operations.the-variants.AfterDots arg → whats.the-variants.Value ≡ whatOf operation
+    pub what-variadic-argument : operation ≡ operations.the-variants.VariadicArgument arg → whats.the-variants.Value ≡ whatOf operation
     unfolding whatOf
-    what-dots e = rw e
+    what-variadic-argument e = rw e
 
 -- ---- an operation that is ready
 
@@ -94,7 +95,7 @@ module _ (s : State) (bs ps slots out : List ℕ) (at : ℕ) where
       → answer ≡ stepTo (eventState (knowing s n) ev ps′ slots) (at + length (eventText (knowing s n) ev ps′ slots))
       → slots′ ≡ eventSlots (knowing s n) ev ps′ slots → out′ ≡ putAt out at (eventText (knowing s n) ev ps′ slots)
       → Stepped s bs ps slots out at answer ps′ slots′ out′
-  unfolding stepAnswer stepPieces stepSlots stepOut text after
+  unfolding stepAnswer stepPieces stepSlots stepOut text afterRecord
   left-by n ev er room answer ps′ slots′ out′ ep ea es eo =
       record {
         answers = rw (ea, room, er, ep);

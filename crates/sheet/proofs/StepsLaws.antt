@@ -1,4 +1,4 @@
--- The loop of `steps`: what is left of the input from here on completes the records that are taken. Assumes nothing.
+-- The loop of `steps`: what is left of the input from here on completes the records that are taken.
 use Prim.Native.Nat.{ℕ, zero, suc, _+_, _-_, _*_, _≤_}
 use mathlib.Core.Path.{_≡_, refl, sym, ap, _∙_}
 use mathlib.Core.List.{List, _∷_, _++_}
@@ -8,15 +8,15 @@ use borrow.Author.Tests.{le-leb, leb-true}
 use lib.Dec.{leb}
 use lib.ListN.{length, take, drop, length-drop}
 use lib.Seq.{drop-drop}
-use Rattle.reading.specs.Records.{recordSize}
-use Rattle.lines.specs.Text.{Put}
-use Rattle.lines.specs.Printing.{longest}
-use Rattle.lines.proofs.RoomLaws.{both-true}
-use Rattle.lines.proofs.TextLaws.{put-then, put-nothing}
-use Rattle.lines.proofs.PrintingLaws.{Goes, goes-first}
-use Rattle.sheet.specs.declared.State.{State}
+use Rattle.shape.proofs.Bools.{both-true}
+use Rattle.sheet_records.specs.Records.{recordSize}
+use Rattle.sheet_lines.specs.Text.{Put}
+use Rattle.sheet_lines.specs.Printing.{longest}
+use Rattle.sheet_lines.proofs.TextLaws.{put-then, put-nothing}
+use Rattle.sheet_lines.proofs.PrintingLaws.{Goes, goes-first}
+use Rattle.sheet_perform.specs.declared.State.{State}
 use Rattle.sheet.specs.declared.Step.{Step}
-use Rattle.sheet.specs.Sheet.{Between, between, stepTo, text, after, stepAnswer, stepPieces, stepSlots, stepOut, Stepped, texts, afterAll, recordsIn, whole, taken, takenOf, stepsAnswer, stepsPieces, stepsSlots, stepsOut, Taken}
+use Rattle.sheet.specs.Sheet.{Between, between, stepTo, text, afterRecord, stepAnswer, stepPieces, stepSlots, stepOut, Stepped, texts, afterAll, recordsIn, whole, taken, takenOf, stepsAnswer, stepsPieces, stepsSlots, stepsOut, Taken}
 use Rattle.sheet.proofs.BoundLaws.{text-bound}
 
 -- a record that goes on ends inside the input
@@ -45,7 +45,7 @@ left-first b₀ input out₀ =
 
 -- one record more
 module _ (b : Between) (rest : List ℕ) (room at : ℕ) (fits : recordSize ≤ length rest) (roomy : leb (at + longest) room ≡ true)
-    (b′ : Between) (eb : after b (take recordSize rest) ≡ b′) (at′ : ℕ) (ea : at + length (text b (take recordSize rest)) ≡ at′)
+    (b′ : Between) (eb : afterRecord b (take recordSize rest) ≡ b′) (at′ : ℕ) (ea : at + length (text b (take recordSize rest)) ≡ at′)
     (rest′ : List ℕ) (er : drop recordSize rest ≡ rest′) where
   whole-more : whole rest ≡ suc (whole rest′)
   whole-more = let l : length rest′ ≡ length rest - recordSize = ap length (sym er) ∙ length-drop recordSize rest in omega arith
@@ -70,15 +70,15 @@ module _ (b : Between) (rest : List ℕ) (room at : ℕ) (fits : recordSize ≤ 
 -- what a step with room leaves
 module _ (s : State) (bs ps slots out : List ℕ) (at : ℕ) (answer : Step) (ps′ slots′ out′ : List ℕ)
     (x : Stepped s bs ps slots out at answer ps′ slots′ out′) (roomy : leb (at + longest) (length out) ≡ true) where
-  answered : answer ≡ stepTo (after (between s ps slots) bs .state) (at + length (text (between s ps slots) bs))
+  answered : answer ≡ stepTo (afterRecord (between s ps slots) bs .state) (at + length (text (between s ps slots) bs))
   unfolding stepAnswer
   answered = rw roomy at (x .answers)
 
-  behind-it : after (between s ps slots) bs ≡ between (answer .next) ps′ slots′
+  behind-it : afterRecord (between s ps slots) bs ≡ between (answer .next) ps′ slots′
   unfolding stepPieces stepSlots
   behind-it =
-      let p : ps′ ≡ after (between s ps slots) bs .pieces = rw roomy at (x .pieces-left) in
-      let q : slots′ ≡ after (between s ps slots) bs .slots = rw roomy at (x .slots-left) in
+      let p : ps′ ≡ afterRecord (between s ps slots) bs .pieces = rw roomy at (x .pieces-left) in
+      let q : slots′ ≡ afterRecord (between s ps slots) bs .slots = rw roomy at (x .slots-left) in
       rw (answered, p, q)
 
   ends-at : at + length (text (between s ps slots) bs) ≡ answer .at

@@ -1,39 +1,35 @@
--- No second answer, and no other words or bytes in a lent buffer, meet the promise of a public function. Assumes nothing.
+-- No second answer, and no other words or bytes in a lent buffer, meet the promise of a public function.
 use mathlib.Core.Path.{sym, _∙_}
 use contract.Lifetimes.{Lfts}
 use denote.Ref.{now}
 use Rattle.shape.proofs.OneAnswer.{OneAnswer, OneExit}
-use Rattle.sheet.proofs.State.start.Reads as start
-use Rattle.sheet.proofs.State.step.Reads as step
-use Rattle.sheet.proofs.State.steps.Reads as steps
-use Rattle.sheet.proofs.State.finish.Reads as finish
+use Rattle.sheet.proofs.take_record.Reads as take-record
+use Rattle.sheet.proofs.take_records.Reads as take-records
+use Rattle.sheet.proofs.finish.Reads as finish
 
-start-decides : (κs : Lfts 0) → OneAnswer (start.Post κs)
-start-decides κs a r q s t p p′ = p ∙ sym p′
+take-record-decides : (κs : Lfts 4) → OneAnswer (take-record.Post κs)
+take-record-decides κs a r q s t p p′ = p .answers ∙ sym (p′ .answers)
 
-step-decides : (κs : Lfts 4) → OneAnswer (step.Post κs)
-step-decides κs a r q s t p p′ = p .answers ∙ sym (p′ .answers)
+take-record-pieces : (κs : Lfts 4) → OneExit (take-record.Post κs) (λ s. now (s .1 .1 .0))
+take-record-pieces κs a r q s t p p′ = p .pieces-left ∙ sym (p′ .pieces-left)
 
-step-pieces : (κs : Lfts 4) → OneExit (step.Post κs) (λ s. now (s .1 .1 .0))
-step-pieces κs a r q s t p p′ = p .pieces-left ∙ sym (p′ .pieces-left)
+take-record-slots : (κs : Lfts 4) → OneExit (take-record.Post κs) (λ s. now (s .1 .1 .1 .0))
+take-record-slots κs a r q s t p p′ = p .slots-left ∙ sym (p′ .slots-left)
 
-step-slots : (κs : Lfts 4) → OneExit (step.Post κs) (λ s. now (s .1 .1 .1 .0))
-step-slots κs a r q s t p p′ = p .slots-left ∙ sym (p′ .slots-left)
+take-record-text : (κs : Lfts 4) → OneExit (take-record.Post κs) (λ s. now (s .1 .1 .1 .1 .0))
+take-record-text κs a r q s t p p′ = p .text-left ∙ sym (p′ .text-left)
 
-step-text : (κs : Lfts 4) → OneExit (step.Post κs) (λ s. now (s .1 .1 .1 .1 .0))
-step-text κs a r q s t p p′ = p .text-left ∙ sym (p′ .text-left)
+take-records-decides : (κs : Lfts 4) → OneAnswer (take-records.Post κs)
+take-records-decides κs a r q s t p p′ = p .answers ∙ sym (p′ .answers)
 
-steps-decides : (κs : Lfts 4) → OneAnswer (steps.Post κs)
-steps-decides κs a r q s t p p′ = p .answers ∙ sym (p′ .answers)
+take-records-pieces : (κs : Lfts 4) → OneExit (take-records.Post κs) (λ s. now (s .1 .1 .0))
+take-records-pieces κs a r q s t p p′ = p .pieces-left ∙ sym (p′ .pieces-left)
 
-steps-pieces : (κs : Lfts 4) → OneExit (steps.Post κs) (λ s. now (s .1 .1 .0))
-steps-pieces κs a r q s t p p′ = p .pieces-left ∙ sym (p′ .pieces-left)
+take-records-slots : (κs : Lfts 4) → OneExit (take-records.Post κs) (λ s. now (s .1 .1 .1 .0))
+take-records-slots κs a r q s t p p′ = p .slots-left ∙ sym (p′ .slots-left)
 
-steps-slots : (κs : Lfts 4) → OneExit (steps.Post κs) (λ s. now (s .1 .1 .1 .0))
-steps-slots κs a r q s t p p′ = p .slots-left ∙ sym (p′ .slots-left)
-
-steps-text : (κs : Lfts 4) → OneExit (steps.Post κs) (λ s. now (s .1 .1 .1 .1 .0))
-steps-text κs a r q s t p p′ = p .text-left ∙ sym (p′ .text-left)
+take-records-text : (κs : Lfts 4) → OneExit (take-records.Post κs) (λ s. now (s .1 .1 .1 .1 .0))
+take-records-text κs a r q s t p p′ = p .text-left ∙ sym (p′ .text-left)
 
 finish-decides : (κs : Lfts 1) → OneAnswer (finish.Post κs)
 finish-decides κs a r q s t p p′ = p .answers ∙ sym (p′ .answers)

@@ -1,2 +1,1 @@
-pub mod Performing
 pub mod Sheet

@@ -2,25 +2,25 @@
 use Prim.Native.Nat.{ℕ, zero, suc, _+_, _*_, _/_}
 use mathlib.Core.Path.{_≡_}
 use mathlib.Core.List.{List, [], _∷_, _++_}
-use mathlib.Core.Bool.{Bool, false, _||_, cond}
+use mathlib.Core.Bool.{Bool, _||_, cond}
 use lib.Dec.{leb, eqb}
 use lib.ListN.{length, take, drop, replicate}
 use Rattle.shape.specs.Numbers.{most-pieces}
 use Rattle.slots.specs.Words.{mostWords, putAt}
 use Rattle.text.specs.Text.{bytes}
-use Rattle.classify.specs.Answers.{unmarked}
-use Rattle.reader.specs.declared.Reader.{Reader}
-use Rattle.reader.specs.declared.Operation as operations
-use Rattle.reading.specs.declared.Event as events
-use Rattle.reading.specs.declared.Reading.{Reading}
-use Rattle.reading.specs.Records.{recordSize}
-use Rattle.reading.specs.Reading.{pieceSize, readAnswer, readPieces, startedReader, stoppedReader}
-use Rattle.lines.specs.declared.What as whats
-use Rattle.lines.specs.Printing.{line, newline, longest}
-use Rattle.sheet.specs.declared.State.{State}
+use Rattle.sheet_records.specs.declared.known.Reader.{Reader}
+use Rattle.sheet_records.specs.declared.known.Operation as operations
+use Rattle.sheet_records.specs.declared.Event as events
+use Rattle.sheet_records.specs.declared.Reading.{Reading}
+use Rattle.sheet_records.specs.Records.{recordSize}
+use Rattle.sheet_records.specs.Reading.{pieceSize, readAnswer, readPieces}
+use Rattle.sheet_records.specs.Known.{stoppedReader}
+use Rattle.sheet_lines.specs.declared.What as whats
+use Rattle.sheet_lines.specs.Printing.{line, newline, longest}
+use Rattle.sheet_perform.specs.declared.State.{State}
 use Rattle.sheet.specs.declared.Step.{Step}
 use Rattle.sheet.specs.declared.Steps.{Steps}
-use Rattle.sheet.specs.Performing.{performed, performedSlots}
+use Rattle.sheet_perform.specs.Performing.{started, performed, performedSlots}
 
 -- ---- between two records
 
@@ -29,10 +29,6 @@ pub record Between : Type 0 where
   pub state : State
   pub pieces : List ℕ
   pub slots : List ℕ
-
--- before the first record no call is open and no piece is due
-abbrev pub started : State
-started = record { call = unmarked 0 0 0; reader = startedReader }
 
 -- the state with what the reader knows now
 abbrev pub knowing : State → Reader → State
@@ -52,7 +48,7 @@ whatOf (operations.the-variants.Fresh abi) = whats.the-variants.Fresh
 whatOf operations.the-variants.Mark = whats.the-variants.Mark
 whatOf (operations.the-variants.Return arg) = whats.the-variants.Value
 whatOf (operations.the-variants.Argument arg) = whats.the-variants.Value
-whatOf (operations.the-variants.AfterDots arg) = whats.the-variants.Value
+whatOf (operations.the-variants.VariadicArgument arg) = whats.the-variants.Value
 
 -- the line of an event: an operation that isn't whole yet has none
 unfoldable pub eventText : State → events.Event → List ℕ → List ℕ → List ℕ
@@ -80,23 +76,23 @@ pub record CarriedOut (s : State) (operation : operations.Operation) (ps slots o
 abbrev pub readingOf : Between → List ℕ → Reading
 readingOf b bytes = readAnswer (b .state .reader) bytes (length (b .pieces))
 
-abbrev pub piecesOf : Between → List ℕ → List ℕ
-piecesOf b bytes = readPieces (b .state .reader) bytes (b .pieces)
+abbrev pub piecesAfter : Between → List ℕ → List ℕ
+piecesAfter b bytes = readPieces (b .state .reader) bytes (b .pieces)
 
 -- the state in which the event is followed
-abbrev pub stateOf : Between → List ℕ → State
-stateOf b bytes = knowing (b .state) (readingOf b bytes .next)
+abbrev pub stateRead : Between → List ℕ → State
+stateRead b bytes = knowing (b .state) (readingOf b bytes .next)
 
 -- the text of a record, and what stands behind it
 unfoldable pub text : Between → List ℕ → List ℕ
-text b bytes = eventText (stateOf b bytes) (readingOf b bytes .event) (piecesOf b bytes) (b .slots)
+text b bytes = eventText (stateRead b bytes) (readingOf b bytes .event) (piecesAfter b bytes) (b .slots)
 
-unfoldable pub after : Between → List ℕ → Between
-after b bytes =
+unfoldable pub afterRecord : Between → List ℕ → Between
+afterRecord b bytes =
     record {
-      state = eventState (stateOf b bytes) (readingOf b bytes .event) (piecesOf b bytes) (b .slots);
-      pieces = piecesOf b bytes;
-      slots = eventSlots (stateOf b bytes) (readingOf b bytes .event) (piecesOf b bytes) (b .slots);
+      state = eventState (stateRead b bytes) (readingOf b bytes .event) (piecesAfter b bytes) (b .slots);
+      pieces = piecesAfter b bytes;
+      slots = eventSlots (stateRead b bytes) (readingOf b bytes .event) (piecesAfter b bytes) (b .slots);
     }
 
 -- ---- a step: nothing is done where the longest line has no room from `at` on
@@ -107,14 +103,14 @@ between s ps slots = record { state = s; pieces = ps; slots = slots }
 unfoldable pub stepAnswer : State → List ℕ → List ℕ → List ℕ → ℕ → ℕ → Step
 stepAnswer s bytes ps slots room at =
     cond (leb (at + longest) room)
-    (stepTo (after (between s ps slots) bytes .state) (at + length (text (between s ps slots) bytes)))
+    (stepTo (afterRecord (between s ps slots) bytes .state) (at + length (text (between s ps slots) bytes)))
     (stepTo s at)
 
 unfoldable pub stepPieces : State → List ℕ → List ℕ → List ℕ → ℕ → ℕ → List ℕ
-stepPieces s bytes ps slots room at = cond (leb (at + longest) room) (after (between s ps slots) bytes .pieces) ps
+stepPieces s bytes ps slots room at = cond (leb (at + longest) room) (afterRecord (between s ps slots) bytes .pieces) ps
 
 unfoldable pub stepSlots : State → List ℕ → List ℕ → List ℕ → ℕ → ℕ → List ℕ
-stepSlots s bytes ps slots room at = cond (leb (at + longest) room) (after (between s ps slots) bytes .slots) slots
+stepSlots s bytes ps slots room at = cond (leb (at + longest) room) (afterRecord (between s ps slots) bytes .slots) slots
 
 unfoldable pub stepOut : State → List ℕ → List ℕ → List ℕ → List ℕ → ℕ → List ℕ
 stepOut s bytes ps slots out at =
@@ -155,11 +151,11 @@ pub record Finished (s : State) (out : List ℕ) (at : ℕ) (answer : Step) (out
 -- the lines of records one after the other, and what stands behind them
 unfoldable pub texts : Between → List (List ℕ) → List ℕ
 texts b [] = []
-texts b (r ∷ rs) = text b r ++ texts (after b r) rs
+texts b (r ∷ rs) = text b r ++ texts (afterRecord b r) rs
 
 unfoldable pub afterAll : Between → List (List ℕ) → Between
 afterAll b [] = b
-afterAll b (r ∷ rs) = afterAll (after b r) rs
+afterAll b (r ∷ rs) = afterAll (afterRecord b r) rs
 
 -- the first so many records of some bytes
 unfoldable pub recordsIn : ℕ → List ℕ → List (List ℕ)
@@ -175,7 +171,7 @@ unfoldable pub taken : ℕ → Between → List ℕ → ℕ → ℕ → ℕ
 taken zero b bytes room at = 0
 taken (suc n) b bytes room at =
     cond (leb (at + longest) room)
-    (suc (taken n (after b (take recordSize bytes)) (drop recordSize bytes) room (at + length (text b (take recordSize bytes)))))
+    (suc (taken n (afterRecord b (take recordSize bytes)) (drop recordSize bytes) room (at + length (text b (take recordSize bytes)))))
     0
 
 -- the records that are taken of an input

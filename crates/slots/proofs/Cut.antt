@@ -1,11 +1,11 @@
--- The parts of a size, by index. Assumes nothing.
+-- The parts of a size, by index.
 use Prim.Native.Nat.{ℕ, zero, suc, _+_, _-_, _*_, _/_, _≤_, _<_, min, max}
 use mathlib.Core.Path.{_≡_, refl, ap, sym, _∙_}
-use mathlib.Core.List.{List, [], _∷_, _++_, append-nil}
+use mathlib.Core.List.{List, _++_}
 use native.Mathlib.Omega.{arith}
 use native.Mathlib.Numerals.{add-one}
 use native.Mathlib.Nat.{add-div-right, div-eq-of-lt, le-div-iff-mul-le, suc-mul}
-use lib.ListN.{length, drop, length-append}
+use lib.ListN.{length, length-append}
 use Rattle.slots.specs.declared.Slot.{Slot}
 use Rattle.slots.specs.Words.{integerSlot, slotWords, slotSize, wordsOf, putAt, written}
 use Rattle.slots.specs.Cut.{upTo, ceilDiv, partOf, cut}
@@ -58,7 +58,7 @@ module _ (f : ℕ → Slot) (i : ℕ) (ws : List ℕ) where
       let l : length (wordsOf (upTo i f)) ≡ slotSize * i = length-words (upTo i f) ∙ ap (λ (n : ℕ). slotSize * n) (length-upTo i f) in
       rw (words-next, ← l) (put-next (wordsOf (upTo i f)) (slotWords (f i)) ws (omega arith))
 
--- the loop of `cut_integers`, with the tests and the invariant as premises
+-- the loop of `integer_slots`, with the tests and the invariant as premises
 module _ (size width count w : ℕ) (ec : count ≡ length (cut size width)) (ew : w ≡ max width 1) where
   pub cut-inside : (i : ℕ) → i < count → i * w < size
   cut-inside i h =

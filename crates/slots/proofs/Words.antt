@@ -1,5 +1,5 @@
 -- Words at a place of a buffer, written run by run, and slots read back from them. Nothing here but `length-words` and `stores` says how many
--- words a slot has. Assumes nothing.
+-- words a slot has.
 use Prim.Native.Nat.{ℕ, suc, _+_, _*_, _/_, _≤_, _<_}
 use mathlib.Core.Path.{_≡_, refl, ap, sym, subst, _∙_}
 use mathlib.Core.List.{List, [], _∷_, _++_, append-assoc, append-nil}

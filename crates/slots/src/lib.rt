@@ -39,6 +39,16 @@ pub enum Found {
     Nothing,
 }
 
+// Where the slots of a value that travels as Pieces stand: there are none, each piece of the shape is one, the classes of its eightbytes say
+// them for its size, a size is cut into integers, or there is the one that is given.
+pub enum Source {
+    Empty,
+    EachPiece,
+    Classes { size: u64 },
+    Cut { size: u64, width: u64 },
+    One { kind: u64, offset: u64, size: u64 },
+}
+
 // How many slots fit in a buffer of this many words.
 pub fn room(words: usize) -> usize
     ensures { λ r. ⌜ r ≡ words / slotSize ⌝ }
@@ -47,7 +57,7 @@ pub fn room(words: usize) -> usize
 }
 
 // Cuts a size into integer slots of a width, the last holding what is left: how many, written to the front where they all fit.
-pub fn cut_integers(size: u64, width: u64, out: &mut [u64]) -> u64
+pub fn integer_slots(size: u64, width: u64, out: &mut [u64]) -> u64
     ensures { λ r. ⌜ (r ≡ length (cut size width)) × (now (out .exit) ≡ written (cut size width) (now (out .entry))) ⌝ }
 {
     let count = parts(size, width);

@@ -1,5 +1,5 @@
 -- The laws of spending: each way out of the code is one line of the definitions. A law's premises are the tests and the callees' promises as
--- the code has them. Assumes nothing.
+-- the code has them.
 use Prim.Native.Nat.{ℕ, _-_, _≤_, _<_, min, max}
 use mathlib.Core.Path.{_≡_}
 use mathlib.Core.Bool.{Bool, true, false, _&&_}
@@ -19,10 +19,10 @@ use Rattle.describe.specs.declared.ReturnPointer.the-variants.{FirstArgument, F
 use Rattle.spend.specs.declared.Left.{Left}
 use Rattle.spend.specs.declared.Way as ways
 use Rattle.spend.specs.declared.Spent.{Spent}
-use Rattle.spend.specs.declared.Slots.{Slots}
+use Rattle.spend.specs.declared.Wanted.{Wanted}
 use Rattle.spend.specs.declared.Decision.{Decision}
 use Rattle.spend.specs.declared.Step as steps
-use Rattle.spend.specs.Ways.{spends, plain, piecesOf, cutSlots, oneSlot, leftAfter}
+use Rattle.spend.specs.Ways.{spends, plain, inPieces, cutSlots, oneSlot, leftAfter}
 use Rattle.spend.specs.Spending.{wantOf, reference, memory, byPointer, integerCost, floatCost, drainOf, whenShort, inSlots, byReference, inMemoryAndSpend, travelOf}
 
 -- ---- counts
@@ -40,7 +40,7 @@ drains-none cost left h = rw (le-ltb _ _ h)
 pub cost-split : (shared : Bool) (count floats n : ℕ) → shared ≡ false → n ≡ count - floats → n ≡ integerCost shared count floats
 cost-split shared count floats n h en = rw (en, h)
 
-pub cuts : (size width n : ℕ) → n ≡ length (cut size width) → _≡_ {A = Slots} (record { count = n; floats = 0; source = cutSlots size width .source }) (cutSlots size width)
+pub cuts : (size width n : ℕ) → n ≡ length (cut size width) → _≡_ {A = Wanted} (record { count = n; floats = 0; source = cutSlots size width .source }) (cutSlots size width)
 cuts size width n en = rw en
 
 pub given : (way : ways.Way) (want left n : ℕ) → n ≡ min want left → (r : Decision) → r ≡ plain way (spends 0 n 0 0) → r ≡ plain way (spends 0 (min want left) 0 0)
@@ -74,13 +74,13 @@ module _ (returning : Bool) (I want : ℕ) (r : Decision) where
   pub memory-out : returning ≡ false → (n : ℕ) → n ≡ min want I → r ≡ memory 0 n 0 0 → r ≡ inMemoryAndSpend returning I want
   memory-out h n en er = rw (er, en, h)
 
-module _ (shared returning : Bool) (left : Left) (short : Short) (found : Slots) where
-  pub slots-back : returning ≡ true → (d : Decision) → d ≡ piecesOf found (spends 0 0 0 0) → steps.the-variants.Decided d ≡ inSlots shared returning left short found
+module _ (shared returning : Bool) (left : Left) (short : Short) (found : Wanted) where
+  pub slots-back : returning ≡ true → (d : Decision) → d ≡ inPieces found (spends 0 0 0 0) → steps.the-variants.Decided d ≡ inSlots shared returning left short found
   unfolding inSlots
   slots-back h d ed = rw (ed, h)
 
   module _ (out : returning ≡ false) (i : ℕ) (ei : i ≡ integerCost shared (found .count) (found .floats)) (f : ℕ) (ef : f ≡ floatCost shared (found .floats)) where
-    pub slots-fit : (leb i (left .integer) && leb f (left .float)) ≡ true → (d : Decision) → d ≡ piecesOf found (spends 0 i 0 f) → steps.the-variants.Decided d ≡ inSlots shared returning left short found
+    pub slots-fit : (leb i (left .integer) && leb f (left .float)) ≡ true → (d : Decision) → d ≡ inPieces found (spends 0 i 0 f) → steps.the-variants.Decided d ≡ inSlots shared returning left short found
     unfolding inSlots
     slots-fit h d ed = rw (ed, out, ← ei, ← ef, h)
 
@@ -88,8 +88,8 @@ module _ (shared returning : Bool) (left : Left) (short : Short) (found : Slots)
     unfolding inSlots
     slots-short miss r er = rw (er, out, ← ei, ← ef, miss)
 
-module _ (short : Short) (left : Left) (found : Slots) (i f : ℕ) where
-  pub short-unchanged : short ≡ Unchanged → (n : ℕ) → n ≡ min i (left .integer) → (m : ℕ) → m ≡ min f (left .float) → (d : Decision) → d ≡ piecesOf found (spends 0 n 0 m)
+module _ (short : Short) (left : Left) (found : Wanted) (i f : ℕ) where
+  pub short-unchanged : short ≡ Unchanged → (n : ℕ) → n ≡ min i (left .integer) → (m : ℕ) → m ≡ min f (left .float) → (d : Decision) → d ≡ inPieces found (spends 0 n 0 m)
       → steps.the-variants.Decided d ≡ whenShort short left found i f
   unfolding whenShort
   short-unchanged e n en m em d ed = rw (ed, en, em, e)
@@ -107,7 +107,7 @@ module _ (short : Short) (left : Left) (found : Slots) (i f : ℕ) where
   unfolding whenShort
   short-next e = rw e
 
-module _ (B : Banks) (pointer : ReturnPointer) (returning : Bool) (left : Left) (rule : Rule) (size : ℕ) (found : Slots) where
+module _ (B : Banks) (pointer : ReturnPointer) (returning : Bool) (left : Left) (rule : Rule) (size : ℕ) (found : Wanted) where
   pub travel-ignore : rule .then ≡ Ignore → (d : Decision) → d ≡ plain ways.the-variants.Ignore (spends 0 0 0 0) → steps.the-variants.Decided d ≡ travelOf B pointer returning left rule size found
   unfolding travelOf
   travel-ignore e d ed = rw (ed, e)
@@ -116,7 +116,7 @@ module _ (B : Banks) (pointer : ReturnPointer) (returning : Bool) (left : Left) 
   unfolding travelOf
   travel-found e r er = rw (er, e)
 
-  module _ (cutOrOne : Slots) (r : steps.Step) (er : r ≡ inSlots (B .shared) returning left (rule .short) cutOrOne) where
+  module _ (cutOrOne : Wanted) (r : steps.Step) (er : r ≡ inSlots (B .shared) returning left (rule .short) cutOrOne) where
     pub travel-integers : rule .then ≡ AsIntegers → cutOrOne ≡ cutSlots size (B .«integer_width») → r ≡ travelOf B pointer returning left rule size found
     unfolding travelOf
     travel-integers e ec = rw (er, ec, e)

@@ -1,4 +1,4 @@
--- A way's number tells the ways apart. Assumes nothing.
+-- A way's number tells the ways apart.
 use mathlib.Core.Path.{_≡_, refl, ap, _∙_, sym}
 use Rattle.spend.specs.declared.Way.{Way}
 use Rattle.spend.specs.declared.Way.the-variants.{Ignore, Direct, Pieces, Reference, Memory}

@@ -1,5 +1,5 @@
 -- How an aggregate that a rule matched spends registers (REFERENCE 9.3): how it travels, and what it passes over and is given. I and F are the
--- counts left. A scalar's spending (9.2, 9.4) is scalars/specs/Spending.antt, and the parts that both are said with stand first here.
+-- counts left. A scalar's spending (9.2, 9.4) is spend_scalar/specs/Spending.antt, and the parts that both are said with stand first here.
 -- This says nothing of the counts left afterwards: those are the Rust's, in classify/specs/Classify.antt, and a theorem has the two agree.
 use Prim.Native.Nat.{ℕ, _-_, min, max}
 use mathlib.Core.Bool.{Bool, _&&_, cond}
@@ -16,10 +16,10 @@ use Rattle.describe.specs.declared.ReturnPointer.{ReturnPointer}
 use Rattle.describe.specs.declared.ReturnPointer.the-variants.{FirstArgument, FirstArgumentPopped, Dedicated}
 use Rattle.spend.specs.declared.Left.{Left}
 use Rattle.spend.specs.declared.Way as ways
-use Rattle.spend.specs.declared.Slots.{Slots}
+use Rattle.spend.specs.declared.Wanted.{Wanted}
 use Rattle.spend.specs.declared.Decision.{Decision}
 use Rattle.spend.specs.declared.Step as steps
-use Rattle.spend.specs.Ways.{spends, nothing, plain, piecesOf, cutSlots, oneSlot}
+use Rattle.spend.specs.Ways.{spends, nothing, plain, inPieces, cutSlots, oneSlot}
 
 -- "takes n": n, or all that is left, whichever is less
 abbrev pub takes : ℕ → ℕ → ℕ
@@ -61,21 +61,21 @@ drainOf cost left = cond (ltb left cost) left 0
 
 -- short of registers: Unchanged gives what is left up to the cost; Memory spends nothing; MemoryAndDrain passes over each short bank whole;
 -- TryNextRule goes on
-unfoldable pub whenShort : Short → Left → Slots → ℕ → ℕ → steps.Step
+unfoldable pub whenShort : Short → Left → Wanted → ℕ → ℕ → steps.Step
 whenShort Unchanged left found integer float =
-    steps.the-variants.Decided (piecesOf found (spends 0 (takes integer (left .integer)) 0 (takes float (left .float))))
+    steps.the-variants.Decided (inPieces found (spends 0 (takes integer (left .integer)) 0 (takes float (left .float))))
 whenShort Memory left found integer float = steps.the-variants.Decided (memory 0 0 0 0)
 whenShort MemoryAndDrain left found integer float =
     steps.the-variants.Decided (memory (drainOf integer (left .integer)) 0 (drainOf float (left .float)) 0)
 whenShort TryNextRule left found integer float = steps.the-variants.TryNextRule
 
 -- a slot rule: on a return it spends nothing; on an argument, where it fits, the cost is given
-unfoldable pub inSlots : Bool → Bool → Left → Short → Slots → steps.Step
+unfoldable pub inSlots : Bool → Bool → Left → Short → Wanted → steps.Step
 inSlots shared returning left short found =
     let integer : ℕ = integerCost shared (found .count) (found .floats) in
     let float : ℕ = floatCost shared (found .floats) in
-    cond returning (steps.the-variants.Decided (piecesOf found nothing))
-    (cond (leb integer (left .integer) && leb float (left .float)) (steps.the-variants.Decided (piecesOf found (spends 0 integer 0 float)))
+    cond returning (steps.the-variants.Decided (inPieces found nothing))
+    (cond (leb integer (left .integer) && leb float (left .float)) (steps.the-variants.Decided (inPieces found (spends 0 integer 0 float)))
     (whenShort short left found integer float))
 
 -- ByReference: given takes 1 of I for an argument, or for a return unless the pointer is Dedicated
@@ -86,7 +86,7 @@ byReference pointer returning I = cond returning (byPointer pointer I) (referenc
 abbrev pub inMemoryAndSpend : Bool → ℕ → ℕ → Decision
 inMemoryAndSpend returning I want = cond returning (memory 0 0 0 0) (memory 0 (takes want I) 0 0)
 
-abbrev pub travelBy : Travel → Banks → ReturnPointer → Bool → Left → Short → ℕ → Slots → steps.Step
+abbrev pub travelBy : Travel → Banks → ReturnPointer → Bool → Left → Short → ℕ → Wanted → steps.Step
 travelBy Ignore B pointer returning left short size found = steps.the-variants.Decided (plain ways.the-variants.Ignore nothing)
 travelBy AsFound B pointer returning left short size found = inSlots (B .shared) returning left short found
 travelBy AsIntegers B pointer returning left short size found = inSlots (B .shared) returning left short (cutSlots size (B .«integer_width»))
@@ -96,5 +96,5 @@ travelBy InMemory B pointer returning left short size found = steps.the-variants
 travelBy InMemoryAndSpend B pointer returning left short size found =
     steps.the-variants.Decided (inMemoryAndSpend returning (left .integer) (wantOf size (B .«integer_width»)))
 
-unfoldable pub travelOf : Banks → ReturnPointer → Bool → Left → Rule → ℕ → Slots → steps.Step
+unfoldable pub travelOf : Banks → ReturnPointer → Bool → Left → Rule → ℕ → Wanted → steps.Step
 travelOf B pointer returning left rule size found = travelBy (rule .then) B pointer returning left (rule .short) size found

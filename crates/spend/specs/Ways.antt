@@ -8,10 +8,9 @@ use Rattle.shape.specs.Numbers.{integer}
 use Rattle.slots.specs.Cut.{cut}
 use Rattle.spend.specs.declared.Way.{Way}
 use Rattle.spend.specs.declared.Way.the-variants.{Ignore, Direct, Pieces, Reference, Memory}
-use Rattle.spend.specs.declared.Source.{Source}
-use Rattle.spend.specs.declared.Source.the-variants.{Empty, Cut, One}
+use Rattle.slots.specs.declared.Source.the-variants.{Empty, Cut, One}
 use Rattle.spend.specs.declared.Left.{Left}
-use Rattle.spend.specs.declared.Slots.{Slots}
+use Rattle.spend.specs.declared.Wanted.{Wanted}
 use Rattle.spend.specs.declared.Spent.{Spent}
 use Rattle.spend.specs.declared.Decision.{Decision}
 
@@ -49,28 +48,28 @@ nothing = spends 0 0 0 0
 
 -- a way without slots
 abbrev pub plain : Way → Spent → Decision
-plain way spent = record { way = way; slots = Empty; count = 0; spent = spent }
+plain way spent = record { way = way; source = Empty; count = 0; spent = spent }
 
 -- Pieces, in these slots
-abbrev pub piecesOf : Slots → Spent → Decision
-piecesOf found spent = record { way = Pieces; slots = found .source; count = found .count; spent = spent }
+abbrev pub inPieces : Wanted → Spent → Decision
+inPieces found spent = record { way = Pieces; source = found .source; count = found .count; spent = spent }
 
 -- a size cut into integers of a width
-abbrev pub cutSlots : ℕ → ℕ → Slots
+abbrev pub cutSlots : ℕ → ℕ → Wanted
 cutSlots size width = record { count = length (cut size width); floats = 0; source = Cut size width }
 
 -- one slot at the start: its kind, its size, and 1 where it is a float
-abbrev pub oneSlot : ℕ → ℕ → ℕ → Slots
+abbrev pub oneSlot : ℕ → ℕ → ℕ → Wanted
 oneSlot kind size floats = record { count = 1; floats = floats; source = One kind 0 size }
 
 -- what is left of a bank: what was, less what is passed over and given
-abbrev pub after : ℕ → ℕ → ℕ → ℕ
-after left passed given = left - passed - given
+abbrev pub bankAfter : ℕ → ℕ → ℕ → ℕ
+bankAfter left passed given = left - passed - given
 
 abbrev pub leftAfter : Left → Spent → Left
 leftAfter left spent =
     record {
-      integer = after (left .integer) (spent .«integers_passed») (spent .«integers_given»);
-      float = after (left .float) (spent .«floats_passed») (spent .«floats_given»);
+      integer = bankAfter (left .integer) (spent .«integers_passed») (spent .«integers_given»);
+      float = bankAfter (left .float) (spent .«floats_passed») (spent .«floats_given»);
       «integers_only» = left .«integers_only»;
     }

@@ -1,14 +1,15 @@
 // What one value spends of the registers that a call has left, and how it travels: the types of a decision, what decisions are made of, and an
 // aggregate that a rule matched. Passed over and given are counted here; the rules are those of docs/REFERENCE.md, 9.3. A scalar's rules, 9.2
-// and 9.4, are in the crate scalars, which makes its decisions with the functions here.
+// and 9.4, are in the crate spend_scalar, which makes its decisions with the functions here.
 use describe::Banks;
 use describe::ReturnPointer;
 use describe::Rule;
 use describe::Short;
 use describe::Travel;
+use slots::Source;
 ghost use mathlib.Core.Path.{_≡_};
 ghost use Prim.Native.Nat.{_-_, min};
-ghost use Rattle.spend.specs.Ways.{wayNumber, wayFrom, spends, plain, piecesOf, cutSlots, oneSlot, leftAfter};
+ghost use Rattle.spend.specs.Ways.{wayNumber, wayFrom, spends, plain, inPieces, cutSlots, oneSlot, leftAfter};
 ghost use Rattle.spend.specs.Spending.{wantOf, byPointer, travelOf, byReference, inMemoryAndSpend, inSlots, whenShort, integerCost, floatCost, drainOf};
 
 // What a call has left: registers in each bank, and the mark. Where the mark isn't 0, floats go in integer registers alone. It is a word, so
@@ -42,20 +43,10 @@ pub struct Spent {
     pub floats_given: u64,
 }
 
-// Where the slots of a value that travels as Pieces stand: there are none, each piece of the shape is one, the classes of its eightbytes say
-// them for its size, a size is cut into integers, or there is the one that is given.
-pub enum Source {
-    Empty,
-    EachPiece,
-    Classes { size: u64 },
-    Cut { size: u64, width: u64 },
-    One { kind: u64, offset: u64, size: u64 },
-}
-
-// How a value travels, its slots and their number, and what it spends.
+// How a value travels, where its slots stand and how many they are, and what it spends.
 pub struct Decision {
     pub way: Way,
-    pub slots: Source,
+    pub source: Source,
     pub count: u64,
     pub spent: Spent,
 }
@@ -67,7 +58,7 @@ pub enum Step {
 }
 
 // The slots that a rule travels in: how many, how many of them floats, and where they stand.
-pub struct Slots {
+pub struct Wanted {
     pub count: u64,
     pub floats: u64,
     pub source: Source,
@@ -107,7 +98,7 @@ pub fn travel(
     left: Left,
     rule: Rule,
     size: u64,
-    found: Slots,
+    found: Wanted,
 ) -> Step
     ensures { λ r. ⌜ r ≡ travelOf banks pointer returning left rule size found ⌝ }
 {
@@ -171,7 +162,7 @@ fn in_memory_and_spend(returning: bool, left: u64, want: u64) -> Decision
 }
 
 // Slots on a return spend nothing; on an argument they cost registers.
-fn in_slots(shared: bool, returning: bool, left: Left, short: Short, found: Slots) -> Step
+fn in_slots(shared: bool, returning: bool, left: Left, short: Short, found: Wanted) -> Step
     ensures { λ r. ⌜ r ≡ inSlots shared returning left short found ⌝ }
 {
     if returning {
@@ -186,7 +177,7 @@ fn in_slots(shared: bool, returning: bool, left: Left, short: Short, found: Slot
 }
 
 // Slots that cost more than is left: what happens is the rule's.
-fn when_short(short: Short, left: Left, found: Slots, integer: u64, float: u64) -> Step
+fn when_short(short: Short, left: Left, found: Wanted, integer: u64, float: u64) -> Step
     ensures { λ r. ⌜ r ≡ whenShort short left found integer float ⌝ }
 {
     match short {
@@ -244,7 +235,7 @@ pub fn integers(way: Way, passed: u64, given: u64) -> Decision
 {
     Decision {
         way,
-        slots: Source::Empty,
+        source: Source::Empty,
         count: 0,
         spent: Spent {
             integers_passed: passed,
@@ -260,7 +251,7 @@ fn drained(integers: u64, floats: u64) -> Decision
 {
     Decision {
         way: Way::Memory,
-        slots: Source::Empty,
+        source: Source::Empty,
         count: 0,
         spent: Spent {
             integers_passed: integers,
@@ -272,13 +263,13 @@ fn drained(integers: u64, floats: u64) -> Decision
 }
 
 // Slots that are given so many registers of each bank.
-pub fn pieces(found: Slots, integer: u64, float: u64) -> Decision
-    ensures { λ r. ⌜ r ≡ piecesOf found (spends 0 integer 0 float) ⌝ }
+pub fn pieces(found: Wanted, integer: u64, float: u64) -> Decision
+    ensures { λ r. ⌜ r ≡ inPieces found (spends 0 integer 0 float) ⌝ }
 {
-    let slots = found.source;
+    let source = found.source;
     Decision {
         way: Way::Pieces,
-        slots,
+        source,
         count: found.count,
         spent: Spent {
             integers_passed: 0,
@@ -290,10 +281,10 @@ pub fn pieces(found: Slots, integer: u64, float: u64) -> Decision
 }
 
 // A size cut into integers of a width.
-pub fn cut_slots(size: u64, width: u64) -> Slots
+pub fn cut_slots(size: u64, width: u64) -> Wanted
     ensures { λ r. ⌜ r ≡ cutSlots size width ⌝ }
 {
-    Slots {
+    Wanted {
         count: slots::parts(size, width),
         floats: 0,
         source: Source::Cut { size, width },
@@ -301,10 +292,10 @@ pub fn cut_slots(size: u64, width: u64) -> Slots
 }
 
 // One slot at the start: its kind, its size, and 1 where it is a float.
-pub fn one_slot(kind: u64, size: u64, floats: u64) -> Slots
+pub fn one_slot(kind: u64, size: u64, floats: u64) -> Wanted
     ensures { λ r. ⌜ r ≡ oneSlot kind size floats ⌝ }
 {
-    Slots {
+    Wanted {
         count: 1,
         floats,
         source: Source::One {

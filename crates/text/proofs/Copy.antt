@@ -1,4 +1,4 @@
--- A copy byte by byte to a place of a buffer, and what it has done at its end. Assumes nothing.
+-- A copy byte by byte to a place of a buffer, and what it has done at its end.
 use Prim.Native.Nat.{ℕ, _+_, _-_, _≤_, _<_}
 use mathlib.Core.Path.{_≡_, refl}
 use mathlib.Core.List.{List}
@@ -8,7 +8,7 @@ use borrow.Author.Tests.{le-leb, lt-leb}
 use lib.ListN.{length, set, getD}
 use lib.Seq.{take-length, paste, paste-suc}
 use Rattle.shape.specs.Numbers.{accepted, no-room}
-use Rattle.text.specs.Text.{written, putAnswer, putWritten, appended, appendEnd}
+use Rattle.text.specs.Text.{wrote, putAnswer, putWritten, appended, appendEnd}
 
 module _ (out₀ : List ℕ) (at : ℕ) (bs : List ℕ) where
   module _ (h : length out₀ < at + length bs) where
@@ -37,12 +37,12 @@ module _ (out₀ : List ℕ) (at : ℕ) (bs : List ℕ) where
         rw (le-leb (at + length bs) (length out₀) (omega arith), e, n, take-length)
 
 module _ (name out₀ : List ℕ) where
-  pub refused : length out₀ < length name → (written no-room 0 ≡ putAnswer name (length out₀)) × (out₀ ≡ putWritten name out₀)
+  pub refused : length out₀ < length name → (wrote no-room 0 ≡ putAnswer name (length out₀)) × (out₀ ≡ putWritten name out₀)
   unfolding putAnswer putWritten
   refused h = (rw (lt-leb _ _ h), rw (lt-leb _ _ h))
 
   module _ (room : length name ≤ length out₀) where
-    pub put-answer : written accepted (length name) ≡ putAnswer name (length out₀)
+    pub put-answer : wrote accepted (length name) ≡ putAnswer name (length out₀)
     unfolding putAnswer
     put-answer = rw (le-leb _ _ room)
 

@@ -1,4 +1,4 @@
--- No second answer, and no other bytes in a lent buffer, meet the promise of a public function. Assumes nothing.
+-- No second answer, and no other bytes in a lent buffer, meet the promise of a public function.
 use mathlib.Core.Path.{sym, _∙_}
 use contract.Lifetimes.{Lfts}
 use denote.Ref.{now}

@@ -14,12 +14,12 @@ abbrev pub bytes : String → List ℕ
 bytes ends = []
 bytes (c then s) = code c ∷ bytes s
 
-abbrev pub written : ℕ → ℕ → Written
-written refusal count = record { refusal = refusal; length = count }
+abbrev pub wrote : ℕ → ℕ → Written
+wrote refusal count = record { refusal = refusal; length = count }
 
 -- the number of bytes, or NO_ROOM where they don't all fit
 unfoldable pub putAnswer : List ℕ → ℕ → Written
-putAnswer name room = cond (leb (length name) room) (written accepted (length name)) (written no-room 0)
+putAnswer name room = cond (leb (length name) room) (wrote accepted (length name)) (wrote no-room 0)
 
 -- the bytes at the front, where they fit; every byte behind them keeps its value
 unfoldable pub putWritten : List ℕ → List ℕ → List ℕ

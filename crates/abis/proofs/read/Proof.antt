@@ -1,6 +1,6 @@
 -- `read` gives each number what is read of its row: antt computes the code of each description, which is the row at that place of the table.
 use borrow.Author.Needs.{needs}
-use Rattle.describe.proofs.Cases.{none-below}
+use Rattle.shape.proofs.Cases.{none-below}
 use Rattle.abis.specs.Abis.{described, descriptions, description-count}
 use Rattle.abis.proofs.Rows.{here, past-last, read-here}
 use Rattle.abis.proofs.read.Statement.{statement}

@@ -1,7 +1,7 @@
 -- `row` reads the table inside it: antt computes that the table is the code of every description. Past it the zeros are the code of none.
 use mathlib.Core.Path.{refl}
 use borrow.Author.Needs.{needs}
-use Rattle.describe.specs.Row.{encode}
+use Rattle.rows.specs.Row.{encode}
 use Rattle.abis.specs.Abis.{described, descriptions}
 use Rattle.abis.proofs.Rows.{indexed, past-last}
 use Rattle.abis.proofs.row.Statement.{statement}

@@ -5,8 +5,4 @@ use Rattle.abis.proofs.scalars.Statement.{statement}
 use Rattle.abis.proofs.scalars.Tie as tie
 
 pub scalars-spec : {M : Type 1} → statement M
-scalars-spec =
-    tie.close
-    (tie.spec
-    (λ c κs. search needs)
-    (λ c. search (scalars-read)))
+scalars-spec = tie.close (tie.spec (λ c κs. search needs) (λ c. search (scalars-read)))

@@ -5,9 +5,6 @@ use borrow.Author.Needs.{needs}
 use Rattle.abis_main.proofs.name.Statement.{statement}
 use Rattle.abis_main.proofs.name.Tie as tie
 
-slice-aggregate-append : tie.Need-slice-aggregate-append
-slice-aggregate-append c = simp length-take (omega arith)
-
 pub name-spec : {M : Type 1} → statement M
 name-spec =
     tie.close
@@ -19,7 +16,7 @@ name-spec =
     (λ c. search needs)
     (λ c. search needs)
     (λ c. search needs)
-    slice-aggregate-append
+    (λ c. simp length-take (omega arith))
     (λ c κs. search needs)
     (λ c. search needs)
     (λ c κs. search needs)

@@ -1,4 +1,4 @@
--- `argument_of` answers what the call's method answers, and leaves what that leaves in the buffer. Assumes nothing.
+-- `argument_of` answers what the call's method answers, and leaves what that leaves in the buffer.
 use borrow.Author.Needs.{needs}
 use Rattle.classify.specs.Answers.{argumentAnswer, argumentWritten}
 use Rattle.bridge.proofs.Laws.{asked}

@@ -1,4 +1,4 @@
--- `barkpaddle_bridge_argument` meets its contract: the walk of `Asking.antt`, at `argument_of`. Assumes nothing.
+-- `barkpaddle_bridge_argument` meets its contract: the walk of `Asking.antt`, at `argument_of`.
 use contract.Running.{givenOf, tables, tablesOf}
 use denote.Triple.Spec.{tripleOf}
 use denote.Triple.Table.{entered, cited}

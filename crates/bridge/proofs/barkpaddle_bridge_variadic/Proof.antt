@@ -1,4 +1,4 @@
--- `barkpaddle_bridge_variadic` meets its contract: the walk of `Alone.antt`, at `variadic_of`. Assumes nothing.
+-- `barkpaddle_bridge_variadic` meets its contract: the walk of `Alone.antt`, at `variadic_of`.
 use contract.Running.{givenOf, tables, tablesOf}
 use denote.Triple.Spec.{tripleOf}
 use denote.Triple.Table.{entered, cited}

@@ -1,4 +1,4 @@
--- `returns_of` answers what the call's method answers, and leaves what that leaves in the buffer. Assumes nothing.
+-- `returns_of` answers what the call's method answers, and leaves what that leaves in the buffer.
 use borrow.Author.Needs.{needs}
 use Rattle.classify.specs.Answers.{returnsAnswer, returnsWritten}
 use Rattle.bridge.proofs.Laws.{asked}

@@ -1,6 +1,6 @@
--- `variadic_argument_of` answers what the call's method answers, and leaves what that leaves in the buffer. Assumes nothing.
+-- `variadic_argument_of` answers what the call's method answers, and leaves what that leaves in the buffer.
 use borrow.Author.Needs.{needs}
-use Rattle.classify.specs.Answers.{dotsAnswer, dotsWritten}
+use Rattle.classify.specs.Answers.{variadicArgumentAnswer, variadicArgumentWritten}
 use Rattle.bridge.proofs.Laws.{asked}
 use Rattle.bridge.proofs.variadic_argument_of.Statement.{statement}
 use Rattle.bridge.proofs.variadic_argument_of.Tie as tie
@@ -12,4 +12,4 @@ variadic-argument-of-spec =
     (λ c κs. search needs)
     (λ c κs. search needs)
     (λ c. search needs)
-    (λ c. search (asked dotsAnswer dotsWritten)))
+    (λ c. search (asked variadicArgumentAnswer variadicArgumentWritten)))

@@ -1,4 +1,4 @@
--- `agreed` is safe and ends: the tally keeps its length, and each turn leaves fewer operations. Assumes nothing.
+-- `agreed` is safe and ends: the tally keeps its length, and each turn leaves fewer operations.
 use Prim.Native.Nat.{_-_}
 use mathlib.Core.Path.{_≡_}
 use lib.ListN.{length}

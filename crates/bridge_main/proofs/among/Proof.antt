@@ -1,4 +1,4 @@
--- `among` counts words that are there. Assumes nothing.
+-- `among` counts words that are there.
 use mathlib.Core.Path.{sym}
 use lib.Seq.{length-take-le}
 use native.Mathlib.Omega.{arith}

@@ -1,4 +1,4 @@
--- `argument` lends its own copy of the call: the walk of `Lending.antt`, at `barkpaddle_bridge_argument`. Assumes nothing.
+-- `argument` lends its own copy of the call: the walk of `Lending.antt`, at `barkpaddle_bridge_argument`.
 use contract.Running.{givenOf, tables, tablesOf}
 use denote.Triple.Spec.{tripleOf}
 use denote.Triple.Table.{entered, cited}

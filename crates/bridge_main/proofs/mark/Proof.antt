@@ -1,5 +1,5 @@
 -- `mark` lends its own copy of the call to the form of the mark and hands back what that leaves: a walk of its MIR, by hand, since the checker
--- covers no reference to a struct. The copy is lent for a lifetime that is made for the call and ended after it. Assumes nothing.
+-- covers no reference to a struct. The copy is lent for a lifetime that is made for the call and ended after it.
 use mathlib.Core.Path.{_≡_, refl, ap, subst}
 use Prim.Native.Nat.{ℕ}
 use mathlib.Core.List.{[], _∷_, List}

@@ -1,4 +1,4 @@
--- `returns` lends its own copy of the call: the walk of `Lending.antt`, at `barkpaddle_bridge_returns`. Assumes nothing.
+-- `returns` lends its own copy of the call: the walk of `Lending.antt`, at `barkpaddle_bridge_returns`.
 use contract.Running.{givenOf, tables, tablesOf}
 use denote.Triple.Spec.{tripleOf}
 use denote.Triple.Table.{entered, cited}

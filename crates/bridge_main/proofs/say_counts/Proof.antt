@@ -1,4 +1,4 @@
--- `say_counts` is safe and ends: each turn leaves fewer counts. Assumes nothing.
+-- `say_counts` is safe and ends: each turn leaves fewer counts.
 use Prim.Native.Nat.{_-_}
 use borrow.Author.Needs.{needs}
 use Rattle.bridge_main.proofs.say_counts.Statement.{statement}

@@ -1,4 +1,4 @@
--- `check_pieces` answers the first refusal among the pieces. The invariant: what the pieces from the place on decide is what all decide. Assumes nothing.
+-- `check_pieces` answers the first refusal among the pieces. The invariant: what the pieces from the place on decide is what all decide.
 use Prim.Native.Nat.{_≤_, _-_}
 use mathlib.Core.Path.{_≡_, refl}
 use lib.ListN.{length, drop}
@@ -16,45 +16,18 @@ Inv-loop words at₀ at = (at ≤ length words) × (piecesRefusal (piecesOf word
 abbrev μ-loop : tie.MeasureT-loop
 μ-loop words at₀ at = length words - at
 
-loop-holds : tie.Need-loop-holds Inv-loop μ-loop
-loop-holds c = (omega arith, refl)
-
-sub-loop : tie.Need-sub-loop Inv-loop μ-loop
-sub-loop c = search needs
-
-piece-at-requires : tie.Need-piece-at-requires Inv-loop μ-loop
-piece-at-requires c κs = search needs
-
-check-piece-requires : tie.Need-check-piece-requires Inv-loop μ-loop
-check-piece-requires c κs = search needs
-
-returns : tie.Need-returns Inv-loop μ-loop
-returns c = search (refused-here)
-
-add-at : tie.Need-add-at Inv-loop μ-loop
-add-at c = search needs
-
-loop-less : tie.Need-loop-less Inv-loop μ-loop
-loop-less c = search needs
-
-loop-again : tie.Need-loop-again Inv-loop μ-loop
-loop-again c = (omega arith, search (refused-later))
-
-returns-2 : tie.Need-returns-2 Inv-loop μ-loop
-returns-2 c = search (pieces-accepted)
-
 pub check-pieces-spec : {M : Type 1} → statement M
 check-pieces-spec =
     tie.close
     (tie.spec
     Inv-loop
     μ-loop
-    loop-holds
-    sub-loop
-    piece-at-requires
-    check-piece-requires
-    returns
-    add-at
-    loop-less
-    loop-again
-    returns-2)
+    (λ c. (omega arith, refl))
+    (λ c. search needs)
+    (λ c κs. search needs)
+    (λ c κs. search needs)
+    (λ c. search (refused-here))
+    (λ c. search needs)
+    (λ c. search needs)
+    (λ c. (omega arith, search (refused-later)))
+    (λ c. search (pieces-accepted)))

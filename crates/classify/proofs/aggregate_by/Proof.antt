@@ -1,4 +1,4 @@
--- `aggregate_by` answers what decides the aggregate, where nothing refuses it. Assumes nothing.
+-- `aggregate_by` answers what decides the aggregate, where nothing refuses it.
 use borrow.Author.Needs.{needs}
 use Rattle.classify.proofs.Operations.{aggregate-done}
 use Rattle.classify.proofs.aggregate_by.Statement.{statement}

@@ -1,4 +1,4 @@
--- `check_aggregate` checks what is left, then the shape. Assumes nothing.
+-- `check_aggregate` checks what is left, then the shape.
 use borrow.Author.Needs.{needs}
 use Rattle.classify.proofs.Steps.{checked-left, checked-shape}
 use Rattle.classify.proofs.check_aggregate.Statement.{statement}

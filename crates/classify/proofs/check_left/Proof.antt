@@ -1,4 +1,4 @@
--- `check_left` answers the refusal of what is left. Assumes nothing.
+-- `check_left` answers the refusal of what is left.
 use borrow.Author.Needs.{needs}
 use Rattle.classify.proofs.Steps.{left-integers, left-floats, left-unmarked, left-marked, left-marked-badly}
 use Rattle.classify.proofs.check_left.Statement.{statement}

@@ -1,4 +1,4 @@
--- `check_scalar` checks what is left, then the scalar. Assumes nothing.
+-- `check_scalar` checks what is left, then the scalar.
 use borrow.Author.Needs.{needs}
 use Rattle.classify.proofs.Steps.{checked-left, checked-scalar}
 use Rattle.classify.proofs.check_scalar.Statement.{statement}

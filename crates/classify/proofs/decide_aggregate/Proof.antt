@@ -1,4 +1,4 @@
--- `decide_aggregate` answers what decides an aggregate. Assumes nothing.
+-- `decide_aggregate` answers what decides an aggregate.
 use borrow.Author.Needs.{needs}
 use Rattle.classify.proofs.Operations.{aggregate-memory, aggregate-out}
 use Rattle.classify.proofs.decide_aggregate.Statement.{statement}

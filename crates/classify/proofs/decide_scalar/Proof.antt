@@ -1,4 +1,4 @@
--- `decide_scalar` answers what decides a scalar. Assumes nothing.
+-- `decide_scalar` answers what decides a scalar.
 use borrow.Author.Needs.{needs}
 use Rattle.classify.proofs.Operations.{scalar-back, scalar-memory, scalar-out}
 use Rattle.classify.proofs.decide_scalar.Statement.{statement}

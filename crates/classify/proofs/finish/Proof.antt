@@ -1,4 +1,4 @@
--- `finish` refuses what doesn't fit, and else writes and answers. Assumes nothing.
+-- `finish` refuses what doesn't fit, and else writes and answers.
 use borrow.Author.Needs.{needs}
 use Rattle.classify.proofs.Steps.{slots-short, slots-fit}
 use Rattle.classify.proofs.finish.Statement.{statement}

@@ -1,4 +1,4 @@
--- `finish_scalar` refuses what doesn't fit, and else writes and answers. Assumes nothing.
+-- `finish_scalar` refuses what doesn't fit, and else writes and answers.
 use borrow.Author.Needs.{needs}
 use Rattle.classify.proofs.Steps.{scalar-short, scalar-fits}
 use Rattle.classify.proofs.finish_scalar.Statement.{statement}

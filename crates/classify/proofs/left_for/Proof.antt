@@ -1,4 +1,4 @@
--- `left_for` empties the banks or sets the mark. Assumes nothing.
+-- `left_for` empties the banks or sets the mark.
 use borrow.Author.Needs.{needs}
 use Rattle.classify.proofs.Operations.{left-emptied, left-marked, left-same}
 use Rattle.classify.proofs.left_for.Statement.{statement}

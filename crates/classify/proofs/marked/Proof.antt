@@ -1,4 +1,4 @@
--- `marked` sets the mark where the kind says so. Assumes nothing.
+-- `marked` sets the mark where the kind says so.
 use borrow.Author.Needs.{needs}
 use Rattle.classify.proofs.Steps.{marks, marks-nothing}
 use Rattle.classify.proofs.marked.Statement.{statement}

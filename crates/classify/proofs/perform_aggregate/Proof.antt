@@ -1,4 +1,4 @@
--- `perform_aggregate` refuses a number that no row has and what the checks refuse, and else goes by the row, whose lists end. Assumes nothing.
+-- `perform_aggregate` refuses a number that no row has and what the checks refuse, and else goes by the row, whose lists end.
 use borrow.Author.Needs.{needs}
 use Rattle.classify.proofs.Operations.{row-missing-refused, row-refused, list-ends, row-aggregate}
 use Rattle.classify.proofs.perform_aggregate.Statement.{statement}

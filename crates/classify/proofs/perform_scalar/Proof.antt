@@ -1,4 +1,4 @@
--- `perform_scalar` refuses a number that no row has and what the checks refuse, and else goes by the row. Assumes nothing.
+-- `perform_scalar` refuses a number that no row has and what the checks refuse, and else goes by the row.
 use borrow.Author.Needs.{needs}
 use Rattle.classify.proofs.Operations.{row-missing-refused, row-refused, row-scalar}
 use Rattle.classify.proofs.perform_scalar.Statement.{statement}

@@ -1,4 +1,4 @@
--- `refused` answers the refusal with the call that was handed in. Assumes nothing.
+-- `refused` answers the refusal with the call that was handed in.
 use borrow.Author.Needs.{needs}
 use Rattle.classify.proofs.Steps.{refuses}
 use Rattle.classify.proofs.refused.Statement.{statement}

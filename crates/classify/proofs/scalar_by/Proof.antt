@@ -1,4 +1,4 @@
--- `scalar_by` answers what decides the scalar, where nothing refuses it. Assumes nothing.
+-- `scalar_by` answers what decides the scalar, where nothing refuses it.
 use borrow.Author.Needs.{needs}
 use Rattle.classify.proofs.Operations.{scalar-done}
 use Rattle.classify.proofs.scalar_by.Statement.{statement}

@@ -1,4 +1,4 @@
--- `scalar_is_by_reference` asks the size where the flag is set. Assumes nothing.
+-- `scalar_is_by_reference` asks the size where the flag is set.
 use borrow.Author.Needs.{needs}
 use Rattle.describe.proofs.References.{reference-where, reference-nowhere}
 use Rattle.describe.proofs.scalar_is_by_reference.Statement.{statement}

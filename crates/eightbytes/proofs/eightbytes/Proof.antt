@@ -1,4 +1,4 @@
--- `eightbytes` answers the search. The invariant: the classes as they are, and the pieces that are left, decide the classes of all. Assumes nothing.
+-- `eightbytes` answers the search. The invariant: the classes as they are, and the pieces that are left, decide the classes of all.
 use Prim.Native.Nat.{_-_, _≤_, _<_}
 use mathlib.Core.Path.{_≡_, refl, _∙_}
 use mathlib.Core.List.{map}
@@ -7,7 +7,8 @@ use lib.ListN.{length, take, drop, replicate}
 use Rattle.shape.specs.Words.{piecesOf}
 use Rattle.slots.proofs.Cut.{length-cut}
 use Rattle.eightbytes.specs.Class.{None, classOf}
-use Rattle.eightbytes.specs.Eightbytes.{eightbytesIn, lastOf, mark, marked, settled, classified, Coded}
+use Rattle.eightbytes.specs.Eightbytes.{eightbytesIn, mark, classesAfter, settled, classified, Coded}
+use Rattle.eightbytes.specs.Reach.{lastOf}
 use Rattle.eightbytes.proofs.Codes.{coded-is, coded-zeros}
 use Rattle.eightbytes.proofs.Marks.{marked-start, behind-start, marked-end, marked-stop, marked-turn, marked-behind, marked-length, inside}
 use Rattle.eightbytes.proofs.Found.{found-by, classes-by, nothing-by, over-limit, unfit, fit}
@@ -19,16 +20,10 @@ use Rattle.eightbytes.proofs.eightbytes.Tie as tie
 abbrev Inv-loop : tie.InvT-loop
 Inv-loop words limit size n classes₀ at₀ classes at =
     (at ≤ length words) × (Coded classes) × (length classes ≡ 8) × (drop n classes ≡ replicate (8 - n) 0)
-    × (marked (replicate n None) (piecesOf words) ≡ marked (take n (map classOf classes)) (piecesOf (drop at words)))
+    × (classesAfter (replicate n None) (piecesOf words) ≡ classesAfter (take n (map classOf classes)) (piecesOf (drop at words)))
 
 abbrev μ-loop : tie.MeasureT-loop
 μ-loop words limit size n classes₀ at₀ classes at = length words - at
-
-least-requires : tie.Need-least-requires Inv-loop μ-loop
-least-requires c κs = search needs
-
-nothing-requires : tie.Need-nothing-requires Inv-loop μ-loop
-nothing-requires c κs = search needs
 
 returns : tie.Need-returns Inv-loop μ-loop
 returns c =
@@ -36,25 +31,10 @@ returns c =
     let e : classified (a .limit) (a .shape) (piecesOf (a .words .now)) ≡ none = search (over-limit) in
     (found-by _ _ _ _ e _ (nothing-by _ _ (c .nothing .ensures .0)), classes-by _ _ _ _ e _ (c .nothing .ensures .1))
 
-parts-requires : tie.Need-parts-requires Inv-loop μ-loop
-parts-requires c κs = search needs
-
 loop-holds : tie.Need-loop-holds Inv-loop μ-loop
 loop-holds c =
     let k : c .parts .result ≤ 8 = omega (arith, length-cut (c .before .before .before .before .args .shape .size) 8) in
     (omega arith, coded-zeros 8, refl, behind-start (c .parts .result) k, marked-start (c .parts .result) _ k)
-
-sub-loop : tie.Need-sub-loop Inv-loop μ-loop
-sub-loop c = search needs
-
-piece-at-requires : tie.Need-piece-at-requires Inv-loop μ-loop
-piece-at-requires c κs = search needs
-
-fits-requires : tie.Need-fits-requires Inv-loop μ-loop
-fits-requires c κs = search needs
-
-nothing-requires-2 : tie.Need-nothing-requires-2 Inv-loop μ-loop
-nothing-requires-2 c κs = search needs
 
 returns-2 : tie.Need-returns-2 Inv-loop μ-loop
 returns-2 c =
@@ -62,7 +42,7 @@ returns-2 c =
     let n = c .before .before .before .before .before .before .parts .result in
     let en : n ≡ eightbytesIn (a .shape .size) = omega (arith, length-cut (a .shape .size) 8) in
     let k : n ≤ length (c .before .before .before .before .before .loop .classes) = omega arith in
-    let m : marked (replicate n None) (piecesOf (a .words .now)) ≡ none = search (marked-stop) in
+    let m : classesAfter (replicate n None) (piecesOf (a .words .now)) ≡ none = search (marked-stop) in
     let e : classified (a .limit) (a .shape) (piecesOf (a .words .now)) ≡ none = search (unfit) in
     (found-by _ _ _ _ e _ (nothing-by _ _ (c .nothing2 .ensures .0)), classes-by _ _ _ _ e _ (c .nothing2 .ensures .1))
 
@@ -74,12 +54,6 @@ mark-requires c κs =
     let k : n ≤ length (c .before .before .before .before .loop .classes) = omega arith in
     let i : lastOf (c .before .before .piece-at .result) < n = search (inside) in
     (c .before .before .before .before .loop .inv .1, omega arith)
-
-add-at : tie.Need-add-at Inv-loop μ-loop
-add-at c = search needs
-
-loop-less : tie.Need-loop-less Inv-loop μ-loop
-loop-less c = omega arith
 
 loop-again : tie.Need-loop-again Inv-loop μ-loop
 loop-again c =
@@ -107,7 +81,7 @@ returns-3 : tie.Need-returns-3 Inv-loop μ-loop
 returns-3 c =
     let a = c .before .before .before .before .before .before .before .args in
     let en : c .before .before .before .parts .result ≡ eightbytesIn (a .shape .size) = omega (arith, length-cut (a .shape .size) 8) in
-    let m : marked (replicate (c .before .before .before .parts .result) None) (piecesOf (a .words .now)) ≡ some (take (c .before .before .before .parts .result) (map classOf (c .before .before .loop .classes))) = search (marked-end) in
+    let m : classesAfter (replicate (c .before .before .before .parts .result) None) (piecesOf (a .words .now)) ≡ some (take (c .before .before .before .parts .result) (map classOf (c .before .before .loop .classes))) = search (marked-end) in
     let e : classified (a .limit) (a .shape) (piecesOf (a .words .now)) ≡ settled (take (c .before .before .before .parts .result) (map classOf (c .before .before .loop .classes))) = search (fit) in
     (found-by _ _ _ _ e _ (c .settle .ensures .0), classes-by _ _ _ _ e _ (c .settle .ensures .1))
 
@@ -117,19 +91,19 @@ eightbytes-spec =
     (tie.spec
     Inv-loop
     μ-loop
-    least-requires
-    nothing-requires
+    (λ c κs. search needs)
+    (λ c κs. search needs)
     returns
-    parts-requires
+    (λ c κs. search needs)
     loop-holds
-    sub-loop
-    piece-at-requires
-    fits-requires
-    nothing-requires-2
+    (λ c. search needs)
+    (λ c κs. search needs)
+    (λ c κs. search needs)
+    (λ c κs. search needs)
     returns-2
     mark-requires
-    add-at
-    loop-less
+    (λ c. search needs)
+    (λ c. omega arith)
     loop-again
     settle-requires
     returns-3)

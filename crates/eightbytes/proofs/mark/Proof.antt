@@ -1,4 +1,4 @@
--- `mark` merges a piece's class into each eightbyte that it reaches into. The invariant: what is left to cover, from the classes as they are, gives what the whole gives. Assumes nothing.
+-- `mark` merges a piece's class into each eightbyte that it reaches into. The invariant: what is left to cover, from the classes as they are, gives what the whole gives.
 use Prim.Native.Nat.{_+_, _-_, _<_}
 use mathlib.Core.Path.{_≡_, refl, ap, _∙_}
 use mathlib.Core.List.{map}
@@ -19,50 +19,11 @@ Inv-loop last at₀ class₀ cs₀ at class cs =
 abbrev μ-loop : tie.MeasureT-loop
 μ-loop last at₀ class₀ cs₀ at class cs = last + 1 - at
 
-end-requires : tie.Need-end-requires Inv-loop μ-loop
-end-requires c κs = search needs
-
-sub-last : tie.Need-sub-last Inv-loop μ-loop
-sub-last c = search needs
-
-class-of-requires : tie.Need-class-of-requires Inv-loop μ-loop
-class-of-requires c κs = search needs
-
-array-read-joined : tie.Need-array-read-joined Inv-loop μ-loop
-array-read-joined c = omega arith
-
-joined-requires : tie.Need-joined-requires Inv-loop μ-loop
-joined-requires c κs = (c .before .before .before .before .pre .0 _, coded-lt _ (c .before .class-of .ensures))
-
-array-write-cs : tie.Need-array-write-cs Inv-loop μ-loop
-array-write-cs c = omega arith
-
 returns : tie.Need-returns Inv-loop μ-loop
 returns c =
     let a = c .before .before .before .before .before .args in
     cover-one (a .classes) _ _ _ _ (c .before .before .before .before .before .pre .0) (c .before .if1 .taken) (c .joined .ensures)
     ∙ ap (map code) (mark-start (a .classes) (a .p) _ _ (c .before .before .before .before .end .ensures) (c .before .before .class-of .ensures))
-
-loop-holds : tie.Need-loop-holds Inv-loop μ-loop
-loop-holds c = (c .before .before .before .before .pre .0, coded-lt _ (c .before .class-of .ensures), refl)
-
-array-read-joined-2 : tie.Need-array-read-joined-2 Inv-loop μ-loop
-array-read-joined-2 c = omega arith
-
-joined-requires-2 : tie.Need-joined-requires-2 Inv-loop μ-loop
-joined-requires-2 c κs = (c .before .loop .inv .0 _, c .before .loop .inv .1)
-
-array-write-cs-2 : tie.Need-array-write-cs-2 Inv-loop μ-loop
-array-write-cs-2 c = omega arith
-
-later-requires : tie.Need-later-requires Inv-loop μ-loop
-later-requires c κs = search needs
-
-add-at : tie.Need-add-at Inv-loop μ-loop
-add-at c = omega arith
-
-loop-less : tie.Need-loop-less Inv-loop μ-loop
-loop-less c = cover-less _ _ (c .before .before .loop-test .taken)
 
 loop-again : tie.Need-loop-again Inv-loop μ-loop
 loop-again c =
@@ -83,19 +44,19 @@ mark-spec =
     (tie.spec
     Inv-loop
     μ-loop
-    end-requires
-    sub-last
-    class-of-requires
-    array-read-joined
-    joined-requires
-    array-write-cs
+    (λ c κs. search needs)
+    (λ c. search needs)
+    (λ c κs. search needs)
+    (λ c. omega arith)
+    (λ c κs. (c .before .before .before .before .pre .0 _, coded-lt _ (c .before .class-of .ensures)))
+    (λ c. omega arith)
     returns
-    loop-holds
-    array-read-joined-2
-    joined-requires-2
-    array-write-cs-2
-    later-requires
-    add-at
-    loop-less
+    (λ c. (c .before .before .before .before .pre .0, coded-lt _ (c .before .class-of .ensures), refl))
+    (λ c. omega arith)
+    (λ c κs. (c .before .loop .inv .0 _, c .before .loop .inv .1))
+    (λ c. omega arith)
+    (λ c κs. search needs)
+    (λ c. omega arith)
+    (λ c. cover-less _ _ (c .before .before .loop-test .taken))
     loop-again
     returns-2)

@@ -1,4 +1,4 @@
--- `merge` reads what the definition says at each of the 36 entries, by computation. Only this file and `merge` itself know of a table. Assumes nothing.
+-- `merge` reads what the definition says at each of the 36 entries, by computation. Only this file and `merge` itself know of a table.
 use Prim.Native.Nat.{ℕ, zero, suc, _<_}
 use mathlib.Core.Path.{_≡_, refl}
 use mathlib.Core.List.{List, [], _∷_, map}
@@ -33,18 +33,15 @@ in-table a b ha hb =
     below6 (λ a. getD (getD rows a []) b 0 ≡ code (merge (classOf a) (classOf b)))
     (in-row 0 b hb) (in-row 1 b hb) (in-row 2 b hb) (in-row 3 b hb) (in-row 4 b hb) (in-row 5 b hb) a ha
 
-mul-result : tie.Need-mul-result
-mul-result c = search needs
-
-index-1-result : tie.Need-index-1-result
-index-1-result c = search needs
-
-index-2-result : tie.Need-index-2-result
-index-2-result c = search needs
-
 returns : tie.Need-returns
 unfolding code classOf same merge
 returns c = in-table (c .before .args .a) (c .before .args .b) (search needs) (search needs)
 
 pub merge-spec : {M : Type 1} → statement M
-merge-spec = tie.close (tie.spec mul-result index-1-result index-2-result returns)
+merge-spec =
+    tie.close
+    (tie.spec
+    (λ c. search needs)
+    (λ c. search needs)
+    (λ c. search needs)
+    returns)

@@ -1,4 +1,4 @@
--- `nothing` answers that nothing is found, and eight zeros. Assumes nothing.
+-- `nothing` answers that nothing is found, and eight zeros.
 use mathlib.Core.Path.{refl}
 use Rattle.eightbytes.specs.Eightbytes.{codes}
 use Rattle.eightbytes.proofs.nothing.Statement.{statement}

@@ -1,4 +1,4 @@
--- `settle_all` mends the classes and counts their slots. The invariant: what is done and what is left make the whole, in classes and in counts. Assumes nothing.
+-- `settle_all` mends the classes and counts their slots. The invariant: what is done and what is left make the whole, in classes and in counts.
 use Prim.Native.Nat.{_+_, _-_, _≤_, _<_}
 use mathlib.Core.Path.{_≡_, refl, sym, _∙_}
 use mathlib.Core.List.{map, _++_}
@@ -6,7 +6,7 @@ use lib.ListN.{length, take, drop, length-set}
 use native.Mathlib.Nat.{zero-add}
 use lib.Seq.{drop-set-lt}
 use Rattle.eightbytes.specs.Class.{None, classOf}
-use Rattle.eightbytes.specs.Eightbytes.{spoiled, mend, slotsIn, Coded}
+use Rattle.eightbytes.specs.Eightbytes.{spoiled, mend, slotCount, Coded}
 use Rattle.eightbytes.proofs.Class.{coded-lt, kept-is}
 use Rattle.eightbytes.proofs.Codes.{coded-set}
 use Rattle.eightbytes.proofs.Rest.{rest}
@@ -21,28 +21,16 @@ Inv-loop n most cs₀ below₀ count₀ floats₀ i₀ cs below count floats i =
     (i ≤ n) × (count ≤ i) × (floats ≤ i) × (below < 6) × (Coded cs) × (length cs ≡ 8) × (drop n cs ≡ drop n cs₀)
     × (spoiled (rest cs₀ n 0) ≡ spoiled (rest cs n i))
     × (mend None (rest cs₀ n 0) ≡ take i (map classOf cs) ++ mend (classOf below) (rest cs n i))
-    × (slotsIn (mend None (rest cs₀ n 0)) ≡ count + slotsIn (mend (classOf below) (rest cs n i)))
+    × (slotCount (mend None (rest cs₀ n 0)) ≡ count + slotCount (mend (classOf below) (rest cs n i)))
     × (ssesIn (mend None (rest cs₀ n 0)) ≡ floats + ssesIn (mend (classOf below) (rest cs n i)))
 
 abbrev μ-loop : tie.MeasureT-loop
 μ-loop n most cs₀ below₀ count₀ floats₀ i₀ cs below count floats i = n - i
 
-least-requires : tie.Need-least-requires Inv-loop μ-loop
-least-requires c κs = search needs
-
 loop-holds : tie.Need-loop-holds Inv-loop μ-loop
 unfolding classOf
 loop-holds c =
     (omega arith, omega arith, omega arith, omega arith, c .before .pre .0, omega arith, refl, refl, refl, sym (zero-add _), sym (zero-add _))
-
-array-read-mended : tie.Need-array-read-mended Inv-loop μ-loop
-array-read-mended c = omega arith
-
-mended-requires : tie.Need-mended-requires Inv-loop μ-loop
-mended-requires c κs = search needs
-
-nothing-requires : tie.Need-nothing-requires Inv-loop μ-loop
-nothing-requires c κs = search needs
 
 returns : tie.Need-returns Inv-loop μ-loop
 returns c =
@@ -50,27 +38,6 @@ returns c =
     let a = c .before .before .before .before .before .before .args in
     let s = spoil-stop (l .cs) (a .n) (l .i) (l .below) (omega arith) (omega arith) _ (kept-is _ _ (c .before .before .mended .ensures) (l .inv .4 _)) _ (l .inv .7) (omega arith) in
     (stop-found (a .n) (a .classes) _ s (c .nothing .ensures .0), stop-classes (a .n) (a .classes) _ s (c .nothing .ensures .1))
-
-array-write-cs : tie.Need-array-write-cs Inv-loop μ-loop
-array-write-cs c = omega arith
-
-one-if-requires : tie.Need-one-if-requires Inv-loop μ-loop
-one-if-requires c κs = search needs
-
-add-count : tie.Need-add-count Inv-loop μ-loop
-add-count c = omega arith
-
-one-if-requires-2 : tie.Need-one-if-requires-2 Inv-loop μ-loop
-one-if-requires-2 c κs = search needs
-
-add-floats : tie.Need-add-floats Inv-loop μ-loop
-add-floats c = omega arith
-
-add-i : tie.Need-add-i Inv-loop μ-loop
-add-i c = omega arith
-
-loop-less : tie.Need-loop-less Inv-loop μ-loop
-loop-less c = omega arith
 
 loop-again : tie.Need-loop-again Inv-loop μ-loop
 loop-again c =
@@ -107,18 +74,18 @@ settle-all-spec =
     (tie.spec
     Inv-loop
     μ-loop
-    least-requires
+    (λ c κs. search needs)
     loop-holds
-    array-read-mended
-    mended-requires
-    nothing-requires
+    (λ c. omega arith)
+    (λ c κs. search needs)
+    (λ c κs. search needs)
     returns
-    array-write-cs
-    one-if-requires
-    add-count
-    one-if-requires-2
-    add-floats
-    add-i
-    loop-less
+    (λ c. omega arith)
+    (λ c κs. search needs)
+    (λ c. omega arith)
+    (λ c κs. search needs)
+    (λ c. omega arith)
+    (λ c. omega arith)
+    (λ c. omega arith)
     loop-again
     returns-2)

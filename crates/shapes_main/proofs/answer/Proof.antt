@@ -1,4 +1,4 @@
--- `answer` is safe: so many pieces have their bytes and words. Assumes nothing.
+-- `answer` is safe: so many pieces have their bytes and words.
 use mathlib.Core.Path.{sym}
 use lib.Seq.{length-take-le}
 use native.Mathlib.Omega.{arith}

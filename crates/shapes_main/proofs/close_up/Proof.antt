@@ -1,5 +1,4 @@
 -- `close_up` is safe and ends: the buffer keeps its length, no more words stand in it than it has places, and each turn leaves fewer words.
--- Assumes nothing.
 use Prim.Native.Nat.{_≤_, _-_}
 use mathlib.Core.Path.{_≡_, sym}
 use mathlib.Core.Logic.{⊎-elim}

@@ -1,4 +1,4 @@
--- `lines` is safe and ends: the buffer keeps its length, and each turn leaves fewer lines. Assumes nothing.
+-- `lines` is safe and ends: the buffer keeps its length, and each turn leaves fewer lines.
 use Prim.Native.Nat.{_-_}
 use mathlib.Core.Path.{_≡_}
 use lib.ListN.{length}

@@ -1,4 +1,4 @@
--- `one_shape` is safe: a head has its six words. Assumes nothing.
+-- `one_shape` is safe: a head has its six words.
 use borrow.Author.Needs.{needs}
 use Rattle.shapes_main.proofs.one_shape.Statement.{statement}
 use Rattle.shapes_main.proofs.one_shape.Tie as tie

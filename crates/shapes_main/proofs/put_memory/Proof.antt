@@ -1,4 +1,4 @@
--- `put_memory` is safe and ends: the buffer keeps its length, and each turn leaves fewer rows. Assumes nothing.
+-- `put_memory` is safe and ends: the buffer keeps its length, and each turn leaves fewer rows.
 use Prim.Native.Nat.{_-_}
 use mathlib.Core.Path.{_≡_}
 use lib.ListN.{length}

@@ -1,4 +1,4 @@
--- `put_up_to_dot` is safe and ends: the buffer keeps its length, and each turn leaves fewer bytes of the text. Assumes nothing.
+-- `put_up_to_dot` is safe and ends: the buffer keeps its length, and each turn leaves fewer bytes of the text.
 use Prim.Native.Nat.{_-_}
 use mathlib.Core.Path.{_≡_}
 use lib.ListN.{length}

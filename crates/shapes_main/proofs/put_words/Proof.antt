@@ -1,4 +1,4 @@
--- `put_words` is safe and ends: the buffer keeps its length, and each turn leaves fewer words. Assumes nothing.
+-- `put_words` is safe and ends: the buffer keeps its length, and each turn leaves fewer words.
 use Prim.Native.Nat.{_≤_, _-_}
 use mathlib.Core.Path.{_≡_}
 use lib.ListN.{length}

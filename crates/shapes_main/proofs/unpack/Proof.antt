@@ -1,4 +1,4 @@
--- `unpack` is safe and ends: the words keep their number, and each turn leaves fewer bytes. Assumes nothing.
+-- `unpack` is safe and ends: the words keep their number, and each turn leaves fewer bytes.
 use Prim.Native.Nat.{_≤_, _-_}
 use mathlib.Core.Path.{_≡_}
 use lib.ListN.{length}

@@ -1,6 +1,6 @@
--- `way_from` gives the case of each number, arm by arm; the last arm is past the end of the cases before it. Assumes nothing.
+-- `way_from` gives the case of each number, arm by arm; the last arm is past the end of the cases before it.
 use mathlib.Core.List.{[], _∷_}
-use Rattle.describe.proofs.Cases.{past-end}
+use Rattle.shape.proofs.Cases.{past-end}
 use Rattle.spend.specs.declared.Way.the-variants.{Ignore, Direct, Pieces, Reference, Memory}
 use Rattle.spend.proofs.way_from.Statement.{statement}
 use Rattle.spend.proofs.way_from.Tie as tie

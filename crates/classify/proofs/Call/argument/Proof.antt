@@ -1,4 +1,4 @@
--- `argument` performs an operation by what is asked about. Assumes nothing.
+-- `argument` performs an operation by what is asked about.
 use borrow.Author.Needs.{needs}
 use Rattle.classify.proofs.Operations.{argument-void, argument-scalar, argument-aggregate}
 use Rattle.classify.proofs.Call.argument.Statement.{statement}

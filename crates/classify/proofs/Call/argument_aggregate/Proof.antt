@@ -1,4 +1,4 @@
--- `argument_aggregate` performs an operation on an aggregate. Assumes nothing.
+-- `argument_aggregate` performs an operation on an aggregate.
 use borrow.Author.Needs.{needs}
 use Rattle.classify.proofs.Operations.{argument-row}
 use Rattle.classify.proofs.Call.argument_aggregate.Statement.{statement}

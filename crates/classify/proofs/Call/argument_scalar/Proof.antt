@@ -1,4 +1,4 @@
--- `argument_scalar` performs an operation on a scalar. Assumes nothing.
+-- `argument_scalar` performs an operation on a scalar.
 use borrow.Author.Needs.{needs}
 use Rattle.classify.proofs.Operations.{argument-row}
 use Rattle.classify.proofs.Call.argument_scalar.Statement.{statement}

@@ -1,4 +1,4 @@
--- `fresh` answers the start of a call. Assumes nothing.
+-- `fresh` answers the start of a call.
 use borrow.Author.Needs.{needs}
 use Rattle.classify.proofs.Steps.{fresh-refused, fresh-done}
 use Rattle.classify.proofs.Call.fresh.Statement.{statement}

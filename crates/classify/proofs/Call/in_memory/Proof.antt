@@ -1,4 +1,4 @@
--- `in_memory` refuses what the checks refuse, and else answers the alignment. Assumes nothing.
+-- `in_memory` refuses what the checks refuse, and else answers the alignment.
 use borrow.Author.Needs.{needs}
 use Rattle.classify.proofs.Steps.{memory-missing, memory-refused, memory-answered}
 use Rattle.classify.proofs.Call.in_memory.Statement.{statement}

@@ -1,4 +1,4 @@
--- `nothing` refuses what the check of the call refuses. Assumes nothing.
+-- `nothing` refuses what the check of the call refuses.
 use borrow.Author.Needs.{needs}
 use Rattle.classify.proofs.Steps.{void-missing, void-refused, void-done}
 use Rattle.classify.proofs.Call.nothing.Statement.{statement}

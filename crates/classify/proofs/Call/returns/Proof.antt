@@ -1,4 +1,4 @@
--- `returns` performs an operation by what is asked about. Assumes nothing.
+-- `returns` performs an operation by what is asked about.
 use borrow.Author.Needs.{needs}
 use Rattle.classify.proofs.Operations.{returns-void, returns-scalar, returns-aggregate}
 use Rattle.classify.proofs.Call.returns.Statement.{statement}

@@ -1,4 +1,4 @@
--- `returns_aggregate` performs an operation on an aggregate. Assumes nothing.
+-- `returns_aggregate` performs an operation on an aggregate.
 use borrow.Author.Needs.{needs}
 use Rattle.classify.proofs.Operations.{returns-row}
 use Rattle.classify.proofs.Call.returns_aggregate.Statement.{statement}

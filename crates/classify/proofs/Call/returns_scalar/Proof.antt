@@ -1,4 +1,4 @@
--- `returns_scalar` performs an operation on a scalar. Assumes nothing.
+-- `returns_scalar` performs an operation on a scalar.
 use borrow.Author.Needs.{needs}
 use Rattle.classify.proofs.Operations.{returns-row}
 use Rattle.classify.proofs.Call.returns_scalar.Statement.{statement}

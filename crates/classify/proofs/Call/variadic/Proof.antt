@@ -1,4 +1,4 @@
--- `variadic` answers the marked call. Assumes nothing.
+-- `variadic` answers the marked call.
 use borrow.Author.Needs.{needs}
 use Rattle.classify.proofs.Steps.{mark-missing, mark-refused, mark-done}
 use Rattle.classify.proofs.Call.variadic.Statement.{statement}

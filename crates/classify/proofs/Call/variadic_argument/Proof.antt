@@ -1,6 +1,6 @@
--- `variadic_argument` performs an operation by what is asked about. Assumes nothing.
+-- `variadic_argument` performs an operation by what is asked about.
 use borrow.Author.Needs.{needs}
-use Rattle.classify.proofs.Operations.{dots-void, dots-scalar, dots-aggregate}
+use Rattle.classify.proofs.Operations.{variadic-argument-void, variadic-argument-scalar, variadic-argument-aggregate}
 use Rattle.classify.proofs.Call.variadic_argument.Statement.{statement}
 use Rattle.classify.proofs.Call.variadic_argument.Tie as tie
 
@@ -14,8 +14,8 @@ variadic-argument-spec =
     (λ c κs. search needs)
     (λ c. search needs)
     (λ c κs. search needs)
-    (λ c. search (dots-void))
+    (λ c. search (variadic-argument-void))
     (λ c. search needs)
-    (λ c. search (dots-scalar))
+    (λ c. search (variadic-argument-scalar))
     (λ c. search needs)
-    (λ c. search (dots-aggregate)))
+    (λ c. search (variadic-argument-aggregate)))

@@ -1,6 +1,6 @@
--- `variadic_argument_aggregate` performs an operation on an aggregate. Assumes nothing.
+-- `variadic_argument_aggregate` performs an operation on an aggregate.
 use borrow.Author.Needs.{needs}
-use Rattle.classify.proofs.Operations.{dots-row}
+use Rattle.classify.proofs.Operations.{variadic-argument-row}
 use Rattle.classify.proofs.Call.variadic_argument_aggregate.Statement.{statement}
 use Rattle.classify.proofs.Call.variadic_argument_aggregate.Tie as tie
 
@@ -10,4 +10,4 @@ variadic-argument-aggregate-spec =
     (tie.spec
     (λ c κs. search needs)
     (λ c. search needs)
-    (λ c. search (dots-row)))
+    (λ c. search (variadic-argument-row)))

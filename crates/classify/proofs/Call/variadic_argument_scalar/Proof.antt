@@ -1,6 +1,6 @@
--- `variadic_argument_scalar` performs an operation on a scalar. Assumes nothing.
+-- `variadic_argument_scalar` performs an operation on a scalar.
 use borrow.Author.Needs.{needs}
-use Rattle.classify.proofs.Operations.{dots-row}
+use Rattle.classify.proofs.Operations.{variadic-argument-row}
 use Rattle.classify.proofs.Call.variadic_argument_scalar.Statement.{statement}
 use Rattle.classify.proofs.Call.variadic_argument_scalar.Tie as tie
 
@@ -10,4 +10,4 @@ variadic-argument-scalar-spec =
     (tie.spec
     (λ c κs. search needs)
     (λ c. search needs)
-    (λ c. search (dots-row)))
+    (λ c. search (variadic-argument-row)))

@@ -1,2 +1,0 @@
-pub mod Alike
-mod Unique

@@ -1,2 +1,0 @@
-pub mod Class
-pub mod Reach

@@ -1,0 +1,67 @@
+// One piece and one class at a time: whether a piece fits in a shape's eightbytes, the classes that it brings to them, and the rule after the
+// merge (docs/REFERENCE.md, 8).
+ghost use mathlib.Core.Path.{_≡_};
+ghost use Rattle.eightbytes.specs.Class.{code, classOf, kept, kindClass, later as later·, mended as mended·};
+ghost use Rattle.eightbytes.specs.Reach.{aligned as aligned·, fits as fits·};
+use shape::Piece;
+
+// Classes.
+pub const NONE: u8 = 0;
+
+const INTEGER: u8 = 1;
+
+pub const SSE: u8 = 2;
+
+pub const SSE_UP: u8 = 3;
+
+pub const X87: u8 = 4;
+
+pub const EIGHTBYTE: u64 = 8;
+
+// Whether a piece stands where its alignment asks and reaches past none of the eightbytes.
+pub fn fits(n: usize, p: Piece) -> bool
+    ensures { λ r. ⌜ r ≡ fits· n p ⌝ }
+{
+    aligned(p) & ((p.end() - 1) / EIGHTBYTE < n as u64)
+}
+
+fn aligned(p: Piece) -> bool
+    ensures { λ r. ⌜ r ≡ aligned· p ⌝ }
+{
+    if p.align <= 1 {
+        return true;
+    }
+    p.offset % p.align == 0
+}
+
+pub fn class_of(kind: u64) -> u8
+    ensures { λ r. ⌜ r ≡ code (kindClass kind) ⌝ }
+{
+    if kind == shape::INTEGER {
+        return INTEGER;
+    }
+    if kind == shape::X87_EXTENDED {
+        return X87;
+    }
+    SSE
+}
+
+// The class of a piece's next eightbyte: a float wider than one is one value, and not two.
+pub fn later(class: u8) -> u8
+    ensures { λ r. ⌜ r ≡ kept class (later· (classOf class)) ⌝ }
+{
+    if class == SSE {
+        return SSE_UP;
+    }
+    class
+}
+
+// The rule after the merge: the upper half of a value whose lower half is something else stands on its own.
+pub fn mended(below: u8, class: u8) -> u8
+    ensures { λ r. ⌜ r ≡ kept class (mended· (classOf below) (classOf class)) ⌝ }
+{
+    if (class == SSE_UP) & !((below == SSE) | (below == SSE_UP)) {
+        return SSE;
+    }
+    class
+}

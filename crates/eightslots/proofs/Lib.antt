@@ -1,3 +1,0 @@
-pub mod Put
-pub mod Pair
-mod Unique

@@ -1,0 +1,13 @@
+-- `barkpaddle_argument_void` hands on what the call answers where nothing travels.
+use borrow.Author.Needs.{needs}
+use Rattle.export_numbers.proofs.Handed.{passes-nothing}
+use Rattle.export_arguments.proofs.barkpaddle_argument_void.Statement.{statement}
+use Rattle.export_arguments.proofs.barkpaddle_argument_void.Tie as tie
+
+pub barkpaddle-argument-void-spec : {M : Type 1} → statement M
+barkpaddle-argument-void-spec =
+    tie.close
+    (tie.spec
+    (λ c κs. search needs)
+    (λ c κs. search needs)
+    (λ c. search (passes-nothing)))

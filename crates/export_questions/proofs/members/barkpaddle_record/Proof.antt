@@ -1,0 +1,14 @@
+-- `barkpaddle_record` says what `record` answers in numbers.
+use borrow.Author.Needs.{needs}
+use Rattle.export_questions.proofs.Handed.{recorded}
+use Rattle.export_questions.proofs.members.barkpaddle_record.Statement.{statement}
+use Rattle.export_questions.proofs.members.barkpaddle_record.Tie as tie
+
+pub barkpaddle-record-spec : {M : Type 1} → statement M
+barkpaddle-record-spec =
+    tie.close
+    (tie.spec
+    (λ c κs. search needs)
+    (λ c κs. search needs)
+    (λ c κs. search needs)
+    (λ c. recorded _ _ (c .before .before .before .«record» .ensures) _ (c .before .flag-number .ensures) _ (c .flag-number2 .ensures)))

@@ -1,0 +1,36 @@
+-- What the entries that ask answer, as numbers (REFERENCE 13.2 to 13.5).
+use Rattle.rows.specs.Codes.{flag}
+use Rattle.text.specs.declared.Written.{Written}
+use Rattle.layouts.specs.declared.Placed.{Placed}
+use Rattle.layouts.specs.declared.Recorded.{Recorded}
+use Rattle.abis.specs.declared.Asked.{Asked}
+use Rattle.abis.specs.declared.AskedFormat.{AskedFormat}
+use Rattle.classify.specs.declared.InMemory.{InMemory}
+use Rattle.export_numbers.specs.declared.Told.{Told}
+use Rattle.export_numbers.specs.Numbers.{told}
+use Rattle.export_questions.specs.declared.members.Record.{Record}
+
+abbrev pub alignTold : InMemory → Told
+alignTold a = told (a .refusal) (a .align)
+
+abbrev pub countTold : Placed → Told
+countTold a = told (a .refusal) (a .count)
+
+abbrev pub lengthTold : Written → Told
+lengthTold a = told (a .refusal) (a .length)
+
+abbrev pub yesTold : Asked → Told
+yesTold a = told (a .refusal) (flag (a .answer))
+
+abbrev pub formatTold : AskedFormat → Told
+formatTold a = told (a .refusal) (a .format)
+
+abbrev pub recordNumbers : Recorded → Record
+recordNumbers a =
+    record {
+      refusal = a .refusal;
+      size = a .shape .size;
+      align = a .shape .align;
+      complex = flag (a .shape .complex);
+      floating = flag (a .shape .floating);
+    }

@@ -1,0 +1,13 @@
+-- `barkpaddle_return_void` hands on what the call answers where nothing travels.
+use borrow.Author.Needs.{needs}
+use Rattle.export_numbers.proofs.Handed.{returns-nothing}
+use Rattle.export_returns.proofs.barkpaddle_return_void.Statement.{statement}
+use Rattle.export_returns.proofs.barkpaddle_return_void.Tie as tie
+
+pub barkpaddle-return-void-spec : {M : Type 1} → statement M
+barkpaddle-return-void-spec =
+    tie.close
+    (tie.spec
+    (λ c κs. search needs)
+    (λ c κs. search needs)
+    (λ c. search (returns-nothing)))

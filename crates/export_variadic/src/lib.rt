@@ -1,0 +1,61 @@
+// The exported entries that say how an argument after the dots travels, in numbers and slices (REFERENCE 13.2). The call comes as its
+// description, the counts left and the mark, and goes back in the answer.
+ghost use mathlib.Core.List.{[]};
+ghost use Rattle.export_numbers.specs.Numbers.{callFrom, voidArg, scalarFrom, aggregateFrom};
+ghost use Rattle.classify.specs.Answers.{PassesVariadic};
+use classify::Answer;
+use shape::Scalar;
+
+// How the next argument after the dots travels: nothing travels.
+#[no_mangle]
+pub extern "C" fn barkpaddle_variadic_argument_void(
+    abi: u64,
+    integer: u64,
+    float: u64,
+    integers_only: u64,
+    slots: &mut [u64],
+) -> Answer
+    ensures { λ r. ⌜ PassesVariadic (callFrom abi integer float «integers_only») voidArg [] (now (slots .entry)) r (now (slots .exit)) ⌝ }
+{
+    let call = export_numbers::call_from(abi, integer, float, integers_only);
+    call.nothing()
+}
+
+// How the next argument after the dots travels: a scalar.
+#[no_mangle]
+pub extern "C" fn barkpaddle_variadic_argument_scalar(
+    abi: u64,
+    integer: u64,
+    float: u64,
+    integers_only: u64,
+    kind: u64,
+    size: u64,
+    align: u64,
+    slots: &mut [u64],
+) -> Answer
+    ensures { λ r. ⌜ PassesVariadic (callFrom abi integer float «integers_only») (scalarFrom kind size align) [] (now (slots .entry)) r (now (slots .exit)) ⌝ }
+{
+    let call = export_numbers::call_from(abi, integer, float, integers_only);
+    call.variadic_argument_scalar(Scalar { kind, size, align }, slots)
+}
+
+// How the next argument after the dots travels: an aggregate, its pieces as words.
+#[no_mangle]
+pub extern "C" fn barkpaddle_variadic_argument_aggregate(
+    abi: u64,
+    integer: u64,
+    float: u64,
+    integers_only: u64,
+    size: u64,
+    align: u64,
+    complex: u64,
+    floating: u64,
+    words: &[u64],
+    slots: &mut [u64],
+) -> Answer
+    ensures { λ r. ⌜ PassesVariadic (callFrom abi integer float «integers_only») (aggregateFrom size align complex floating) (now (words .entry)) (now (slots .entry)) r (now (slots .exit)) ⌝ }
+{
+    let call = export_numbers::call_from(abi, integer, float, integers_only);
+    let shape = export_numbers::shape_from(size, align, complex, floating);
+    call.variadic_argument_aggregate(shape, words, slots)
+}

@@ -1,0 +1,4 @@
+pub mod Numbers
+pub mod Inverse
+pub mod Packed
+mod Unique

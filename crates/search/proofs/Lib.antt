@@ -1,2 +1,0 @@
-pub mod Searching
-mod Unique

@@ -1,0 +1,114 @@
+-- Operations to lines (REFERENCE 11): what the operation is or how the value travels; the counts left; integers passed over and given; floats
+-- passed over and given; then the slots, or the refusal's number. One space between all, and a newline.
+use Prim.Native.Nat.{ℕ, _+_, _*_, _/_, _%_}
+use mathlib.Core.Path.{_≡_}
+use mathlib.Core.List.{List, [], _∷_, _++_}
+use mathlib.Core.Bool.{Bool, _&&_, cond}
+use lib.Dec.{leb, eqb}
+use lib.ListN.{length, take}
+use Rattle.slots.specs.Words.{slotSize, mostSlots, mostWords, putAt}
+use Rattle.text.specs.Text.{bytes}
+use Rattle.spend.specs.declared.Way as ways
+use Rattle.spend.specs.Ways.{wayFrom}
+use Rattle.classify.specs.declared.Outcome.{Outcome}
+use Rattle.classify.specs.declared.Answer.{Answer}
+use Rattle.sheet_lines.specs.declared.What as whats
+use Rattle.sheet_lines.specs.Text.{decimal, mostDigits}
+
+abbrev pub space : ℕ
+space = 32
+
+abbrev pub colon : ℕ
+colon = 58
+
+abbrev pub newline : ℕ
+newline = 10
+
+unfoldable pub wayText : ways.Way → List ℕ
+wayText ways.the-variants.Ignore = bytes "ignore"
+wayText ways.the-variants.Direct = bytes "direct"
+wayText ways.the-variants.Pieces = bytes "pieces"
+wayText ways.the-variants.Reference = bytes "reference"
+wayText ways.the-variants.Memory = bytes "memory"
+
+-- what the operation is, or the way
+unfoldable pub whatText : whats.What → ways.Way → List ℕ
+whatText whats.the-variants.Fresh way = bytes "fresh"
+whatText whats.the-variants.Mark way = bytes "marked"
+whatText whats.the-variants.Value way = wayText way
+
+abbrev pub refusedText : List ℕ
+refusedText = bytes "refused"
+
+unfoldable pub nameText : whats.What → Outcome → List ℕ
+nameText what o = cond (eqb (o .refusal) 0) (whatText what (wayFrom (o .way))) refusedText
+
+-- a number behind a mark
+abbrev pub part : ℕ → ℕ → List ℕ
+part mark n = mark ∷ decimal n
+
+-- two numbers, each behind a space
+abbrev pub pair : ℕ → ℕ → List ℕ
+pair m n = part space m ++ part space n
+
+-- I and F, integers passed over and given, floats passed over and given
+unfoldable pub countsText : Answer → List ℕ
+countsText a =
+    pair (a .next .left .integer) (a .next .left .float)
+    ++ (pair (a .outcome .spent .«integers_passed») (a .outcome .spent .«integers_given»)
+    ++ pair (a .outcome .spent .«floats_passed») (a .outcome .spent .«floats_given»))
+
+-- a space before each slot, and a colon between its words
+abbrev pub markAt : ℕ → ℕ
+markAt i = cond (eqb (i % slotSize) 0) space colon
+
+-- the words of slots, of which the first has this index
+unfoldable pub slotsText : ℕ → List ℕ → List ℕ
+slotsText i [] = []
+slotsText i (w ∷ ws) = part (markAt i) w ++ slotsText (i + 1) ws
+
+unfoldable pub restText : Outcome → List ℕ → List ℕ
+restText o slots =
+    cond (eqb (o .refusal) 0) (slotsText 0 (take (o .slots * slotSize) slots)) (part space (o .refusal))
+
+unfoldable pub line : whats.What → Answer → List ℕ → List ℕ
+line what a slots =
+    nameText what (a .outcome) ++ (countsText a ++ (restText (a .outcome) slots ++ (newline ∷ [])))
+
+-- ---- a line at a place of a text
+
+-- the letters of the longest name, a number behind a mark, two of them, the six counts, and the words of the most slots
+abbrev pub mostName : ℕ
+mostName = 9
+
+abbrev pub mostPart : ℕ
+mostPart = 1 + mostDigits
+
+abbrev pub mostPair : ℕ
+mostPair = 2 * mostPart
+
+abbrev pub mostCounts : ℕ
+mostCounts = 3 * mostPair
+
+abbrev pub mostRest : ℕ
+mostRest = mostWords * mostPart
+
+-- with a newline behind all
+abbrev pub longest : ℕ
+longest = mostName + mostCounts + mostRest + 1
+
+-- the longest line has room from `at` on, and the slots are no more than any result needs and stand among the words
+abbrev pub printable : Answer → List ℕ → ℕ → ℕ → Bool
+printable a slots room at =
+    leb (at + longest) room && (leb (a .outcome .slots) mostSlots && leb (a .outcome .slots) (length slots / slotSize))
+
+-- where the line ends, and the text with it; nothing is written of what isn't printable
+unfoldable pub lineEnd : whats.What → Answer → List ℕ → ℕ → ℕ → ℕ
+lineEnd what a slots room at = cond (printable a slots room at) (at + length (line what a slots)) at
+
+unfoldable pub lineOut : whats.What → Answer → List ℕ → List ℕ → ℕ → List ℕ
+lineOut what a slots out at = cond (printable a slots (length out) at) (putAt out at (line what a slots)) out
+
+pub record Lined (what : whats.What) (a : Answer) (slots out : List ℕ) (at to : ℕ) (out′ : List ℕ) : Type 0 where
+  pub ends : to ≡ lineEnd what a slots (length out) at
+  pub text-left : out′ ≡ lineOut what a slots out at

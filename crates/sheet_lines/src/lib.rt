@@ -1,0 +1,164 @@
+// The line of an operation (docs/REFERENCE.md, 11): what it is or how the value travels, the counts left, passed over and given, then the
+// slots or the refusal. A line is written whole, or not at all.
+mod writing;
+
+use classify::Answer;
+use classify::Outcome;
+use spend::Way;
+use writing::put_byte;
+use writing::put_number;
+use writing::put_text;
+ghost use mathlib.Core.Path.{_≡_};
+ghost use mathlib.Core.Bool.{_&&_};
+ghost use Prim.Native.Nat.{_+_, _*_, _/_, _≤_};
+ghost use lib.Dec.{leb};
+ghost use lib.ListN.{length, take};
+ghost use Rattle.slots.specs.Words.{slotSize, mostSlots};
+ghost use Rattle.sheet_lines.specs.Text.{Put};
+ghost use Rattle.sheet_lines.specs.Printing as spec;
+
+// The letters of the longest name, and a number behind a mark.
+const MOST_NAME: usize = 9;
+
+const MOST_PART: usize = 1 + writing::DIGITS as usize;
+
+// No line is longer: a name, six counts, the words of the most slots, and a newline.
+pub const LONGEST: usize = MOST_NAME + 6 * MOST_PART + slots::MOST_WORDS * MOST_PART + 1;
+
+// What an operation was: a fresh call, the mark, or one on a value, whose line starts with how the value travels.
+pub enum What {
+    Fresh,
+    Mark,
+    Value,
+}
+
+// Writes the line of an operation from a place of the text on, and answers where it ends. Nothing is written where the longest line has no
+// room, and of an answer that has more slots than any result needs or than stand beside it: no answer of an operation has.
+pub fn put_line(what: What, answer: Answer, slots: &[u64], out: &mut [u8], at: usize) -> usize
+    ensures { λ r. ⌜ spec.Lined what answer (now (slots .entry)) (now (out .entry)) at r (now (out .exit)) ⌝ }
+{
+    if !has_room(out.len(), at) {
+        return at;
+    }
+    let outcome = answer.outcome;
+    if !are_there(outcome.slots, slots.len()) {
+        return at;
+    }
+    print(what, answer, slots, out, at)
+}
+
+// Whether the longest line fits from a place on.
+pub fn has_room(length: usize, at: usize) -> bool
+    ensures { λ r. ⌜ r ≡ leb (at + spec.longest) length ⌝ }
+{
+    if length < LONGEST {
+        return false;
+    }
+    at <= length - LONGEST
+}
+
+// Whether so many slots are few enough for a line and stand among so many words.
+fn are_there(n: u64, words: usize) -> bool
+    ensures { λ r. ⌜ r ≡ leb n mostSlots && leb n (words / slotSize) ⌝ }
+{
+    (n <= slots::MOST_SLOTS as u64) & (n <= slots::room(words) as u64)
+}
+
+fn print(what: What, answer: Answer, slots: &[u64], out: &mut [u8], at: usize) -> usize
+    requires { ⌜ (at + spec.longest ≤ length (now out)) × (answer .outcome .slots ≤ mostSlots) × (answer .outcome .slots * slotSize ≤ length (now slots)) ⌝ }
+    ensures { λ r. ⌜ Put (now (out .entry)) at (spec.line what answer (now (slots .entry))) r (now (out .exit)) ⌝ }
+{
+    let outcome = answer.outcome;
+    let a = put_name(what, outcome, out, at);
+    let b = put_counts(answer, out, a);
+    let c = put_rest(outcome, slots, out, b);
+    put_byte(out, c, b'\n')
+}
+
+fn put_name(what: What, outcome: Outcome, out: &mut [u8], at: usize) -> usize
+    requires { ⌜ at + spec.mostName ≤ length (now out) ⌝ }
+    ensures { λ r. ⌜ Put (now (out .entry)) at (spec.nameText what outcome) r (now (out .exit)) × (r ≤ at + spec.mostName) ⌝ }
+{
+    if outcome.refusal != shape::ACCEPTED {
+        return put_text(out, at, b"refused");
+    }
+    match what {
+        What::Fresh => put_text(out, at, b"fresh"),
+        What::Mark => put_text(out, at, b"marked"),
+        What::Value => put_way(spend::way_from(outcome.way), out, at),
+    }
+}
+
+fn put_way(way: Way, out: &mut [u8], at: usize) -> usize
+    requires { ⌜ at + spec.mostName ≤ length (now out) ⌝ }
+    ensures { λ r. ⌜ Put (now (out .entry)) at (spec.wayText way) r (now (out .exit)) × (r ≤ at + spec.mostName) ⌝ }
+{
+    match way {
+        Way::Ignore => put_text(out, at, b"ignore"),
+        Way::Direct => put_text(out, at, b"direct"),
+        Way::Pieces => put_text(out, at, b"pieces"),
+        Way::Reference => put_text(out, at, b"reference"),
+        Way::Memory => put_text(out, at, b"memory"),
+    }
+}
+
+fn put_counts(answer: Answer, out: &mut [u8], at: usize) -> usize
+    requires { ⌜ at + spec.mostCounts ≤ length (now out) ⌝ }
+    ensures { λ r. ⌜ Put (now (out .entry)) at (spec.countsText answer) r (now (out .exit)) × (r ≤ at + spec.mostCounts) ⌝ }
+{
+    let call = answer.next;
+    let outcome = answer.outcome;
+    let spent = outcome.spent;
+    let left = call.left;
+    let a = put_pair(out, at, left.integer, left.float);
+    let b = put_pair(out, a, spent.integers_passed, spent.integers_given);
+    put_pair(out, b, spent.floats_passed, spent.floats_given)
+}
+
+fn put_rest(outcome: Outcome, slots: &[u64], out: &mut [u8], at: usize) -> usize
+    requires { ⌜ (at + spec.mostRest ≤ length (now out)) × (outcome .slots ≤ mostSlots) × (outcome .slots * slotSize ≤ length (now slots)) ⌝ }
+    ensures { λ r. ⌜ Put (now (out .entry)) at (spec.restText outcome (now (slots .entry))) r (now (out .exit)) × (r ≤ at + spec.mostRest) ⌝ }
+{
+    if outcome.refusal != shape::ACCEPTED {
+        return put_part(out, at, b' ', outcome.refusal);
+    }
+    put_slots(slots, outcome.slots as usize * slots::SLOT, out, at)
+}
+
+// The words of slots: a space before each slot, and a colon between its words.
+fn put_slots(slots: &[u64], n: usize, out: &mut [u8], at: usize) -> usize
+    requires { ⌜ (at + n * spec.mostPart ≤ length (now out)) × (n ≤ length (now slots)) ⌝ }
+    ensures { λ r. ⌜ Put (now (out .entry)) at (spec.slotsText 0 (take n (now (slots .entry)))) r (now (out .exit)) × (r ≤ at + n * spec.mostPart) ⌝ }
+{
+    let mut to = at;
+    let mut i = 0;
+    while i < n {
+        to = put_part(out, to, mark(i), slots[i]);
+        i += 1;
+    }
+    to
+}
+
+fn mark(i: usize) -> u8
+    ensures { λ r. ⌜ r ≡ spec.markAt i ⌝ }
+{
+    if i % slots::SLOT == 0 { b' ' } else { b':' }
+}
+
+// Two numbers, each behind a space.
+fn put_pair(out: &mut [u8], at: usize, m: u64, n: u64) -> usize
+    requires { ⌜ at + spec.mostPair ≤ length (now out) ⌝ }
+    ensures { λ r. ⌜ Put (now (out .entry)) at (spec.pair m n) r (now (out .exit)) × (r ≤ at + spec.mostPair) ⌝ }
+{
+    let to = put_part(out, at, b' ', m);
+    put_part(out, to, b' ', n)
+}
+
+// A number behind a mark.
+fn put_part(out: &mut [u8], at: usize, mark: u8, n: u64) -> usize
+    requires { ⌜ at + spec.mostPart ≤ length (now out) ⌝ }
+    ensures { λ r. ⌜ Put (now (out .entry)) at (spec.part mark n) r (now (out .exit)) × (r ≤ at + spec.mostPart) ⌝ }
+{
+    let to = put_byte(out, at, mark);
+    put_number(out, to, n)
+}

@@ -1,0 +1,2 @@
+pub mod PerformingLaws
+mod Unique

@@ -1,0 +1,4 @@
+pub mod RecordLaws
+pub mod OpenLaws
+pub mod ReadingLaws
+mod Unique

@@ -1,2 +1,0 @@
-pub mod SpellingLaws
-mod Unique

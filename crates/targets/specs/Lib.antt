@@ -1,0 +1,3 @@
+pub mod Codes
+pub mod Followed
+pub mod Answers
