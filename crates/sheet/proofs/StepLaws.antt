@@ -7,7 +7,6 @@ use native.Mathlib.Omega.{arith}
 use borrow.Author.Tests.{le-leb, leb-true, not-true, not-false}
 use lib.Dec.{leb, eqb}
 use lib.ListN.{length}
-use Rattle.shape.specs.declared.Arg.{Arg}
 use Rattle.slots.specs.Words.{putAt}
 use Rattle.slots.proofs.Words.{put-none, put-fits}
 use Rattle.text.specs.Text.{appendEnd, appended}
@@ -16,8 +15,8 @@ use Rattle.sheet_records.specs.declared.known.Operation as operations
 use Rattle.sheet_records.specs.declared.Event as events
 use Rattle.sheet_records.specs.declared.Reading.{Reading}
 use Rattle.sheet_records.specs.Reading.{came, readAnswer, readPieces}
-use Rattle.sheet_records.specs.Known.{stoppedReader}
-use Rattle.sheet_lines.specs.declared.What as whats
+use Rattle.sheet_records.specs.Known.{actOf, stoppedReader}
+use Rattle.sheet_records.specs.declared.known.Act as acts
 use Rattle.sheet_lines.specs.Text.{Put}
 use Rattle.sheet_lines.specs.Printing.{longest, line, Lined}
 use Rattle.sheet_lines.proofs.LineLaws.{line-there}
@@ -25,7 +24,7 @@ use Rattle.sheet_perform.specs.declared.State.{State}
 use Rattle.sheet.specs.declared.Step.{Step}
 use Rattle.sheet_perform.specs.declared.Performed.{Performed}
 use Rattle.sheet_perform.specs.Performing.{performed, performedSlots}
-use Rattle.sheet.specs.Sheet.{stopText, stepTo, knowing, whatOf, eventText, eventState, eventSlots, text, afterRecord, stepAnswer, stepPieces, stepSlots, stepOut, CarriedOut, Stepped, ended, finishAnswer, finishOut, Finished}
+use Rattle.sheet.specs.Sheet.{stopText, stepTo, knowing, eventText, eventState, eventSlots, text, afterRecord, stepAnswer, stepPieces, stepSlots, stepOut, CarriedOut, Stepped, ended, finishAnswer, finishOut, Finished}
 use Rattle.sheet.proofs.SlotLaws.{eight-slots, slots-fit}
 
 -- room for a line
@@ -49,41 +48,17 @@ stop-put out at to out′ h et eo =
     let f = le-leb (at + length stopText) (length out) fits in
     record { ends = rw f at et; put = rw f at eo ∙ sym (put-fits out at stopText fits); fits = fits }
 
--- ---- how a line starts
-
-module _ (operation : operations.Operation) where
-  pub what-fresh : (abi : ℕ) → operation ≡ operations.the-variants.Fresh abi → whats.the-variants.Fresh ≡ whatOf operation
-  unfolding whatOf
-  what-fresh abi e = rw e
-
-  pub what-mark : operation ≡ operations.the-variants.Mark → whats.the-variants.Mark ≡ whatOf operation
-  unfolding whatOf
-  what-mark e = rw e
-
-  module _ (arg : Arg) where
-    pub what-return : operation ≡ operations.the-variants.Return arg → whats.the-variants.Value ≡ whatOf operation
-    unfolding whatOf
-    what-return e = rw e
-
-    pub what-argument : operation ≡ operations.the-variants.Argument arg → whats.the-variants.Value ≡ whatOf operation
-    unfolding whatOf
-    what-argument e = rw e
-
-    pub what-variadic-argument : operation ≡ operations.the-variants.VariadicArgument arg → whats.the-variants.Value ≡ whatOf operation
-    unfolding whatOf
-    what-variadic-argument e = rw e
-
 -- ---- an operation that is ready
 
 pub carried-out : (s : State) (op : operations.Operation) (ps slots out : List ℕ) (at : ℕ) → at + longest ≤ length out
     → (x : Performed) → x ≡ performed s op ps slots
-    → (slots′ : List ℕ) → slots′ ≡ performedSlots s op ps slots → length slots′ ≡ length slots → (what : whats.What) → what ≡ whatOf op
-    → (to : ℕ) (out′ : List ℕ) → Lined what (x .answer) slots′ out at to out′
+    → (slots′ : List ℕ) → slots′ ≡ performedSlots s op ps slots → length slots′ ≡ length slots → (act : acts.Act) → act ≡ actOf op
+    → (to : ℕ) (out′ : List ℕ) → Lined act (x .answer) slots′ out at to out′
     → CarriedOut s op ps slots out at (stepTo (x .next) to) slots′ out′
 unfolding eventState eventText eventSlots
-carried-out s op ps slots out at room x ex slots′ es same what ew to out′ l =
-    let y : Put out at (line what (x .answer) slots′) to out′ =
-    line-there what (x .answer) slots′ out at to out′ l room (rw ex (eight-slots s op ps slots)) (rw (ex, same) (slots-fit s op ps slots)) in
+carried-out s op ps slots out at room x ex slots′ es same act ew to out′ l =
+    let y : Put out at (line act (x .answer) slots′) to out′ =
+    line-there act (x .answer) slots′ out at to out′ l room (rw ex (eight-slots s op ps slots)) (rw (ex, same) (slots-fit s op ps slots)) in
     record { answers = rw (y .ends, ex, es, ew); slots-left = es; text-left = y .put ∙ rw (ex, es, ew) }
 
 -- ---- a step

@@ -14,8 +14,7 @@ use Rattle.sheet_records.specs.declared.Event as events
 use Rattle.sheet_records.specs.declared.Reading.{Reading}
 use Rattle.sheet_records.specs.Records.{recordSize}
 use Rattle.sheet_records.specs.Reading.{pieceSize, readAnswer, readPieces}
-use Rattle.sheet_records.specs.Known.{stoppedReader}
-use Rattle.sheet_lines.specs.declared.What as whats
+use Rattle.sheet_records.specs.Known.{actOf, stoppedReader}
 use Rattle.sheet_lines.specs.Printing.{line, newline, longest}
 use Rattle.sheet_perform.specs.declared.State.{State}
 use Rattle.sheet.specs.declared.Step.{Step}
@@ -42,20 +41,12 @@ stepTo s at = record { next = s; at = at }
 abbrev pub stopText : List ℕ
 stopText = bytes "stop" ++ (newline ∷ [])
 
--- how the line of an operation starts: by what it is, or by the way of its value
-unfoldable pub whatOf : operations.Operation → whats.What
-whatOf (operations.the-variants.Fresh abi) = whats.the-variants.Fresh
-whatOf operations.the-variants.Mark = whats.the-variants.Mark
-whatOf (operations.the-variants.Return arg) = whats.the-variants.Value
-whatOf (operations.the-variants.Argument arg) = whats.the-variants.Value
-whatOf (operations.the-variants.VariadicArgument arg) = whats.the-variants.Value
-
 -- the line of an event: an operation that isn't whole yet has none
 unfoldable pub eventText : State → events.Event → List ℕ → List ℕ → List ℕ
 eventText s events.the-variants.More ps slots = []
 eventText s events.the-variants.Stop ps slots = stopText
 eventText s (events.the-variants.Ready operation) ps slots =
-    line (whatOf operation) (performed s operation ps slots .answer) (performedSlots s operation ps slots)
+    line (actOf operation) (performed s operation ps slots .answer) (performedSlots s operation ps slots)
 
 unfoldable pub eventState : State → events.Event → List ℕ → List ℕ → State
 eventState s events.the-variants.More ps slots = s

@@ -1,7 +1,6 @@
 // A sheet, record by record (docs/REFERENCE.md, 11): records of 48 bytes in, a line for each operation out. The crate sheet_records has what
 // comes of a record, sheet_perform performs an operation, and sheet_lines prints it; here records follow one another. What stands between two
 // records is a small value, `sheet_perform::State`; the pieces of an aggregate that is being read stand in a lent buffer.
-use sheet_lines::What;
 use sheet_lines::has_room;
 use sheet_perform::State;
 use sheet_records::Event;
@@ -15,7 +14,7 @@ ghost use lib.Dec.{leb};
 ghost use lib.ListN.{length};
 ghost use Rattle.sheet_lines.specs.Text.{Put};
 ghost use Rattle.sheet_lines.specs.Printing.{longest};
-ghost use Rattle.sheet.specs.Sheet.{stopText, whatOf, CarriedOut, Stepped, Taken, Finished};
+ghost use Rattle.sheet.specs.Sheet.{stopText, CarriedOut, Stepped, Taken, Finished};
 
 // Words that hold the most pieces of an aggregate. Those that hold the most slots of an answer are `slots::MOST_WORDS`.
 pub const PIECES: usize = checks::MOST_PIECES * shape::PIECE;
@@ -129,20 +128,8 @@ fn carry_out(
     let performed = state.perform(operation, pieces, slots);
     let next = performed.next;
     let answer = performed.answer;
-    let to = sheet_lines::put_line(what_of(operation), answer, slots, out, at);
+    let to = sheet_lines::put_line(sheet_records::act_of(operation), answer, slots, out, at);
     Step { next, at: to }
-}
-
-fn what_of(operation: Operation) -> What
-    ensures { λ r. ⌜ r ≡ whatOf operation ⌝ }
-{
-    match operation {
-        Operation::Fresh(_) => What::Fresh,
-        Operation::Mark => What::Mark,
-        Operation::Return(_) => What::Value,
-        Operation::Argument(_) => What::Value,
-        Operation::VariadicArgument(_) => What::Value,
-    }
 }
 
 fn put_stop(out: &mut [u8], at: usize) -> usize

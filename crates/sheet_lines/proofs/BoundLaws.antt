@@ -10,9 +10,9 @@ use Rattle.spend.specs.declared.Way as ways
 use Rattle.spend.specs.Ways.{wayFrom}
 use Rattle.classify.specs.declared.Outcome.{Outcome}
 use Rattle.classify.specs.declared.Answer.{Answer}
-use Rattle.sheet_lines.specs.declared.What as whats
+use Rattle.sheet_records.specs.declared.known.Act as acts
 use Rattle.sheet_lines.specs.Text.{decimal, mostDigits}
-use Rattle.sheet_lines.specs.Printing.{newline, space, wayText, whatText, refusedText, nameText, part, pair, countsText, markAt, slotsText, restText, line, mostName, mostPart, mostPair, mostCounts, mostRest, longest}
+use Rattle.sheet_lines.specs.Printing.{newline, space, wayText, actText, refusedText, nameText, part, pair, countsText, markAt, slotsText, restText, line, mostName, mostPart, mostPair, mostCounts, mostRest, longest}
 use Rattle.sheet_lines.proofs.TextLaws.{digits-bound}
 
 either : (b : Bool) (x y : List ℕ) (n : ℕ) → length x ≤ n → length y ≤ n → length (cond b x y) ≤ n
@@ -30,15 +30,15 @@ way-bound ways.the-variants.Pieces = omega arith
 way-bound ways.the-variants.Reference = omega arith
 way-bound ways.the-variants.Memory = omega arith
 
-what-bound : (what : whats.What) (way : ways.Way) → length (whatText what way) ≤ mostName
-unfolding whatText
-what-bound whats.the-variants.Fresh way = omega arith
-what-bound whats.the-variants.Mark way = omega arith
-what-bound whats.the-variants.Value way = way-bound way
+act-bound : (act : acts.Act) (way : ways.Way) → length (actText act way) ≤ mostName
+unfolding actText
+act-bound acts.the-variants.Fresh way = omega arith
+act-bound acts.the-variants.Mark way = omega arith
+act-bound acts.the-variants.Value way = way-bound way
 
-name-bound : (what : whats.What) (o : Outcome) → length (nameText what o) ≤ mostName
+name-bound : (act : acts.Act) (o : Outcome) → length (nameText act o) ≤ mostName
 unfolding nameText
-name-bound what o = either (eqb (o .refusal) 0) (whatText what (wayFrom (o .way))) refusedText mostName (what-bound what (wayFrom (o .way))) (omega arith)
+name-bound act o = either (eqb (o .refusal) 0) (actText act (wayFrom (o .way))) refusedText mostName (act-bound act (wayFrom (o .way))) (omega arith)
 
 part-bound : (mark n : ℕ) → length (part mark n) ≤ mostPart
 part-bound mark n = let h : length (decimal n) ≤ mostDigits = digits-bound mostDigits n in omega arith
@@ -66,9 +66,9 @@ rest-bound o slots h =
     let p = part-bound space (o .refusal) in
     either (eqb (o .refusal) 0) (slotsText 0 (take (o .slots * slotSize) slots)) (part space (o .refusal)) mostRest b (omega arith)
 
-pub line-bound : (what : whats.What) (a : Answer) (slots : List ℕ) → a .outcome .slots ≤ mostSlots → length (line what a slots) ≤ longest
+pub line-bound : (act : acts.Act) (a : Answer) (slots : List ℕ) → a .outcome .slots ≤ mostSlots → length (line act a slots) ≤ longest
 unfolding line
-line-bound what a slots h =
-    joined (nameText what (a .outcome)) _ mostName (mostCounts + (mostRest + 1)) (name-bound what (a .outcome))
+line-bound act a slots h =
+    joined (nameText act (a .outcome)) _ mostName (mostCounts + (mostRest + 1)) (name-bound act (a .outcome))
     (joined (countsText a) _ mostCounts (mostRest + 1) (counts-bound a)
     (joined (restText (a .outcome) slots) (newline ∷ []) mostRest 1 (rest-bound (a .outcome) slots h) (omega arith)))

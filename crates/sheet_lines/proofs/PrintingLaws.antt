@@ -13,9 +13,9 @@ use Rattle.spend.specs.declared.Way as ways
 use Rattle.spend.specs.Ways.{wayFrom}
 use Rattle.classify.specs.declared.Outcome.{Outcome}
 use Rattle.classify.specs.declared.Answer.{Answer}
-use Rattle.sheet_lines.specs.declared.What as whats
+use Rattle.sheet_records.specs.declared.known.Act as acts
 use Rattle.sheet_lines.specs.Text.{Put, decimal}
-use Rattle.sheet_lines.specs.Printing.{space, newline, wayText, whatText, refusedText, nameText, part, pair, countsText, markAt, slotsText, restText, line, mostPart}
+use Rattle.sheet_lines.specs.Printing.{space, newline, wayText, actText, refusedText, nameText, part, pair, countsText, markAt, slotsText, restText, line, mostPart}
 use Rattle.sheet_lines.proofs.TextLaws.{put-then, put-nothing}
 
 module _ (o : List ℕ) (at r : ℕ) (p : List ℕ) where
@@ -40,26 +40,26 @@ module _ (o : List ℕ) (at r : ℕ) (p : List ℕ) where
     unfolding wayText
     way-memory e x = rw e x
 
-  module _ (what : whats.What) (out : Outcome) where
-    pub name-refused : (out .refusal ≡ 0 → ⊥) → Put o at refusedText r p → Put o at (nameText what out) r p
+  module _ (act : acts.Act) (out : Outcome) where
+    pub name-refused : (out .refusal ≡ 0 → ⊥) → Put o at refusedText r p → Put o at (nameText act out) r p
     unfolding nameText
     name-refused h x = rw (ne-eqb _ _ h) x
 
     module _ (h : out .refusal ≡ 0) where
-      named : Put o at (whatText what (wayFrom (out .way))) r p → Put o at (nameText what out) r p
+      named : Put o at (actText act (wayFrom (out .way))) r p → Put o at (nameText act out) r p
       unfolding nameText
       named x = rw (eq-eqb _ _ h) x
 
-      pub name-fresh : what ≡ whats.the-variants.Fresh → Put o at (bytes "fresh") r p → Put o at (nameText what out) r p
-      unfolding whatText
+      pub name-fresh : act ≡ acts.the-variants.Fresh → Put o at (bytes "fresh") r p → Put o at (nameText act out) r p
+      unfolding actText
       name-fresh e x = named (rw e x)
 
-      pub name-marked : what ≡ whats.the-variants.Mark → Put o at (bytes "marked") r p → Put o at (nameText what out) r p
-      unfolding whatText
+      pub name-marked : act ≡ acts.the-variants.Mark → Put o at (bytes "marked") r p → Put o at (nameText act out) r p
+      unfolding actText
       name-marked e x = named (rw e x)
 
-      pub name-value : what ≡ whats.the-variants.Value → (way : ways.Way) → way ≡ wayFrom (out .way) → Put o at (wayText way) r p → Put o at (nameText what out) r p
-      unfolding whatText
+      pub name-value : act ≡ acts.the-variants.Value → (way : ways.Way) → way ≡ wayFrom (out .way) → Put o at (wayText way) r p → Put o at (nameText act out) r p
+      unfolding actText
       name-value e way ew x = named (rw (e, ← ew) x)
 
   module _ (out : Outcome) (slots : List ℕ) where
@@ -87,11 +87,11 @@ pub counts-put : (answer : Answer) (o : List ℕ) (at a : ℕ) (p : List ℕ) (b
 unfolding countsText
 counts-put answer o at a p b q c s x1 x2 x3 = put-then x1 (put-then x2 x3)
 
-pub line-put : (what : whats.What) (answer : Answer) (slots o : List ℕ) (at a : ℕ) (p : List ℕ) (b : ℕ) (q : List ℕ) (c : ℕ) (s : List ℕ) (d : ℕ) (t : List ℕ)
-    → Put o at (nameText what (answer .outcome)) a p → Put p a (countsText answer) b q → Put q b (restText (answer .outcome) slots) c s
-    → Put s c (newline ∷ []) d t → Put o at (line what answer slots) d t
+pub line-put : (act : acts.Act) (answer : Answer) (slots o : List ℕ) (at a : ℕ) (p : List ℕ) (b : ℕ) (q : List ℕ) (c : ℕ) (s : List ℕ) (d : ℕ) (t : List ℕ)
+    → Put o at (nameText act (answer .outcome)) a p → Put p a (countsText answer) b q → Put q b (restText (answer .outcome) slots) c s
+    → Put s c (newline ∷ []) d t → Put o at (line act answer slots) d t
 unfolding line
-line-put what answer slots o at a p b q c s d t x1 x2 x3 x4 = put-then x1 (put-then x2 (put-then x3 x4))
+line-put act answer slots o at a p b q c s d t x1 x2 x3 x4 = put-then x1 (put-then x2 (put-then x3 x4))
 
 -- ---- the loop of `put_slots`
 

@@ -12,7 +12,7 @@ use Rattle.spend.specs.declared.Way as ways
 use Rattle.spend.specs.Ways.{wayFrom}
 use Rattle.classify.specs.declared.Outcome.{Outcome}
 use Rattle.classify.specs.declared.Answer.{Answer}
-use Rattle.sheet_lines.specs.declared.What as whats
+use Rattle.sheet_records.specs.declared.known.Act as acts
 use Rattle.sheet_lines.specs.Text.{decimal, mostDigits}
 
 abbrev pub space : ℕ
@@ -32,16 +32,16 @@ wayText ways.the-variants.Reference = bytes "reference"
 wayText ways.the-variants.Memory = bytes "memory"
 
 -- what the operation is, or the way
-unfoldable pub whatText : whats.What → ways.Way → List ℕ
-whatText whats.the-variants.Fresh way = bytes "fresh"
-whatText whats.the-variants.Mark way = bytes "marked"
-whatText whats.the-variants.Value way = wayText way
+unfoldable pub actText : acts.Act → ways.Way → List ℕ
+actText acts.the-variants.Fresh way = bytes "fresh"
+actText acts.the-variants.Mark way = bytes "marked"
+actText acts.the-variants.Value way = wayText way
 
 abbrev pub refusedText : List ℕ
 refusedText = bytes "refused"
 
-unfoldable pub nameText : whats.What → Outcome → List ℕ
-nameText what o = cond (eqb (o .refusal) 0) (whatText what (wayFrom (o .way))) refusedText
+unfoldable pub nameText : acts.Act → Outcome → List ℕ
+nameText act o = cond (eqb (o .refusal) 0) (actText act (wayFrom (o .way))) refusedText
 
 -- a number behind a mark
 abbrev pub part : ℕ → ℕ → List ℕ
@@ -71,9 +71,9 @@ unfoldable pub restText : Outcome → List ℕ → List ℕ
 restText o slots =
     cond (eqb (o .refusal) 0) (slotsText 0 (take (o .slots * slotSize) slots)) (part space (o .refusal))
 
-unfoldable pub line : whats.What → Answer → List ℕ → List ℕ
-line what a slots =
-    nameText what (a .outcome) ++ (countsText a ++ (restText (a .outcome) slots ++ (newline ∷ [])))
+unfoldable pub line : acts.Act → Answer → List ℕ → List ℕ
+line act a slots =
+    nameText act (a .outcome) ++ (countsText a ++ (restText (a .outcome) slots ++ (newline ∷ [])))
 
 -- ---- a line at a place of a text
 
@@ -103,12 +103,12 @@ printable a slots room at =
     leb (at + longest) room && (leb (a .outcome .slots) mostSlots && leb (a .outcome .slots) (length slots / slotSize))
 
 -- where the line ends, and the text with it; nothing is written of what isn't printable
-unfoldable pub lineEnd : whats.What → Answer → List ℕ → ℕ → ℕ → ℕ
-lineEnd what a slots room at = cond (printable a slots room at) (at + length (line what a slots)) at
+unfoldable pub lineEnd : acts.Act → Answer → List ℕ → ℕ → ℕ → ℕ
+lineEnd act a slots room at = cond (printable a slots room at) (at + length (line act a slots)) at
 
-unfoldable pub lineOut : whats.What → Answer → List ℕ → List ℕ → ℕ → List ℕ
-lineOut what a slots out at = cond (printable a slots (length out) at) (putAt out at (line what a slots)) out
+unfoldable pub lineOut : acts.Act → Answer → List ℕ → List ℕ → ℕ → List ℕ
+lineOut act a slots out at = cond (printable a slots (length out) at) (putAt out at (line act a slots)) out
 
-pub record Lined (what : whats.What) (a : Answer) (slots out : List ℕ) (at to : ℕ) (out′ : List ℕ) : Type 0 where
-  pub ends : to ≡ lineEnd what a slots (length out) at
-  pub text-left : out′ ≡ lineOut what a slots out at
+pub record Lined (act : acts.Act) (a : Answer) (slots out : List ℕ) (at to : ℕ) (out′ : List ℕ) : Type 0 where
+  pub ends : to ≡ lineEnd act a slots (length out) at
+  pub text-left : out′ ≡ lineOut act a slots out at

@@ -4,6 +4,7 @@ mod writing;
 
 use classify::Answer;
 use classify::Outcome;
+use sheet_records::Act;
 use spend::Way;
 use writing::put_byte;
 use writing::put_number;
@@ -25,17 +26,10 @@ const MOST_PART: usize = 1 + writing::DIGITS as usize;
 // No line is longer: a name, six counts, the words of the most slots, and a newline.
 pub const LONGEST: usize = MOST_NAME + 6 * MOST_PART + slots::MOST_WORDS * MOST_PART + 1;
 
-// What an operation was: a fresh call, the mark, or one on a value, whose line starts with how the value travels.
-pub enum What {
-    Fresh,
-    Mark,
-    Value,
-}
-
 // Writes the line of an operation from a place of the text on, and answers where it ends. Nothing is written where the longest line has no
 // room, and of an answer that has more slots than any result needs or than stand beside it: no answer of an operation has.
-pub fn put_line(what: What, answer: Answer, slots: &[u64], out: &mut [u8], at: usize) -> usize
-    ensures { λ r. ⌜ spec.Lined what answer (now (slots .entry)) (now (out .entry)) at r (now (out .exit)) ⌝ }
+pub fn put_line(act: Act, answer: Answer, slots: &[u64], out: &mut [u8], at: usize) -> usize
+    ensures { λ r. ⌜ spec.Lined act answer (now (slots .entry)) (now (out .entry)) at r (now (out .exit)) ⌝ }
 {
     if !has_room(out.len(), at) {
         return at;
@@ -44,7 +38,7 @@ pub fn put_line(what: What, answer: Answer, slots: &[u64], out: &mut [u8], at: u
     if !are_there(outcome.slots, slots.len()) {
         return at;
     }
-    print(what, answer, slots, out, at)
+    print(act, answer, slots, out, at)
 }
 
 // Whether the longest line fits from a place on.
@@ -64,28 +58,28 @@ fn are_there(n: u64, words: usize) -> bool
     (n <= slots::MOST_SLOTS as u64) & (n <= slots::room(words) as u64)
 }
 
-fn print(what: What, answer: Answer, slots: &[u64], out: &mut [u8], at: usize) -> usize
+fn print(act: Act, answer: Answer, slots: &[u64], out: &mut [u8], at: usize) -> usize
     requires { ⌜ (at + spec.longest ≤ length (now out)) × (answer .outcome .slots ≤ mostSlots) × (answer .outcome .slots * slotSize ≤ length (now slots)) ⌝ }
-    ensures { λ r. ⌜ Put (now (out .entry)) at (spec.line what answer (now (slots .entry))) r (now (out .exit)) ⌝ }
+    ensures { λ r. ⌜ Put (now (out .entry)) at (spec.line act answer (now (slots .entry))) r (now (out .exit)) ⌝ }
 {
     let outcome = answer.outcome;
-    let a = put_name(what, outcome, out, at);
+    let a = put_name(act, outcome, out, at);
     let b = put_counts(answer, out, a);
     let c = put_rest(outcome, slots, out, b);
     put_byte(out, c, b'\n')
 }
 
-fn put_name(what: What, outcome: Outcome, out: &mut [u8], at: usize) -> usize
+fn put_name(act: Act, outcome: Outcome, out: &mut [u8], at: usize) -> usize
     requires { ⌜ at + spec.mostName ≤ length (now out) ⌝ }
-    ensures { λ r. ⌜ Put (now (out .entry)) at (spec.nameText what outcome) r (now (out .exit)) × (r ≤ at + spec.mostName) ⌝ }
+    ensures { λ r. ⌜ Put (now (out .entry)) at (spec.nameText act outcome) r (now (out .exit)) × (r ≤ at + spec.mostName) ⌝ }
 {
     if outcome.refusal != shape::ACCEPTED {
         return put_text(out, at, b"refused");
     }
-    match what {
-        What::Fresh => put_text(out, at, b"fresh"),
-        What::Mark => put_text(out, at, b"marked"),
-        What::Value => put_way(spend::way_from(outcome.way), out, at),
+    match act {
+        Act::Fresh => put_text(out, at, b"fresh"),
+        Act::Mark => put_text(out, at, b"marked"),
+        Act::Value => put_way(spend::way_from(outcome.way), out, at),
     }
 }
 

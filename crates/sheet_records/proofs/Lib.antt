@@ -1,4 +1,4 @@
 pub mod RecordLaws
-pub mod OpenLaws
+pub mod ActLaws
 pub mod ReadingLaws
 mod Unique

@@ -1,4 +1,4 @@
--- No second answer, and no other words in the lent buffer, meet the promise of the public function.
+-- No second answer, and no other words in the lent buffer, meet the promise of a public function.
 use mathlib.Core.Path.{sym, _∙_}
 use contract.Lifetimes.{Lfts}
 use denote.Ref.{now}
@@ -7,6 +7,7 @@ use Rattle.sheet_records.proofs.read.Reads as read
 use Rattle.sheet_records.proofs.known.Reader.start.Reads as start
 use Rattle.sheet_records.proofs.known.Reader.after.Reads as after
 use Rattle.sheet_records.proofs.known.Reader.stop.Reads as stop
+use Rattle.sheet_records.proofs.known.act_of.Reads as act-of
 use Rattle.sheet_records.proofs.known.nothing_due.Reads as nothing-due
 
 read-decides : (κs : Lfts 2) → OneAnswer (read.Post κs)
@@ -26,3 +27,6 @@ stop-decides κs a r q s t p p′ = p ∙ sym p′
 
 nothing-due-decides : (κs : Lfts 0) → OneAnswer (nothing-due.Post κs)
 nothing-due-decides κs a r q s t p p′ = p ∙ sym p′
+
+act-of-decides : (κs : Lfts 0) → OneAnswer (act-of.Post κs)
+act-of-decides κs a r q s t p p′ = p ∙ sym p′

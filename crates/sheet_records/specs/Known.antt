@@ -8,6 +8,7 @@ use Rattle.shape.specs.declared.Shape.{Shape}
 use Rattle.sheet_records.specs.declared.known.Due.{Due}
 use Rattle.sheet_records.specs.declared.known.Reader.{Reader}
 use Rattle.sheet_records.specs.declared.known.Operation as operations
+use Rattle.sheet_records.specs.declared.known.Act as acts
 
 abbrev pub dueOf : ℕ → Shape → ℕ → ℕ → Due
 dueOf first shape pieces words = record { first = first; shape = shape; pieces = pieces; words = words }
@@ -27,14 +28,20 @@ stoppedReader s = record { opened = s .opened; stopped = true; due = s .due }
 
 -- ---- an operation that was performed
 
+-- what an operation is: a fresh call, the mark, or one on a value
+unfoldable pub actOf : operations.Operation → acts.Act
+actOf (operations.the-variants.Fresh abi) = acts.the-variants.Fresh
+actOf operations.the-variants.Mark = acts.the-variants.Mark
+actOf (operations.the-variants.Return arg) = acts.the-variants.Value
+actOf (operations.the-variants.Argument arg) = acts.the-variants.Value
+actOf (operations.the-variants.VariadicArgument arg) = acts.the-variants.Value
+
 -- a fresh call takes the place of the open one, and a refused one closes it; any other operation leaves the call open, refused or not
-unfoldable pub openAfter : Bool → operations.Operation → ℕ → Bool
-openAfter opened (operations.the-variants.Fresh abi) refusal = eqb refusal accepted
-openAfter opened operations.the-variants.Mark refusal = opened
-openAfter opened (operations.the-variants.Return arg) refusal = opened
-openAfter opened (operations.the-variants.Argument arg) refusal = opened
-openAfter opened (operations.the-variants.VariadicArgument arg) refusal = opened
+abbrev pub openAfter : Bool → acts.Act → ℕ → Bool
+openAfter opened acts.the-variants.Fresh refusal = eqb refusal accepted
+openAfter opened acts.the-variants.Mark refusal = opened
+openAfter opened acts.the-variants.Value refusal = opened
 
 abbrev pub readerAfter : Reader → operations.Operation → ℕ → Reader
 readerAfter s operation refusal =
-    record { opened = openAfter (s .opened) operation refusal; stopped = s .stopped; due = s .due }
+    record { opened = openAfter (s .opened) (actOf operation) refusal; stopped = s .stopped; due = s .due }

@@ -28,6 +28,13 @@ pub enum Operation {
     VariadicArgument(Arg),
 }
 
+// What an operation is: a fresh call, the mark, or one on a value.
+pub enum Act {
+    Fresh,
+    Mark,
+    Value,
+}
+
 impl Reader {
     // Before the first record: no call is open and no piece is due.
     pub fn start() -> Reader
@@ -47,7 +54,7 @@ impl Reader {
     {
         let due = self.due;
         Reader {
-            opened: open_after(self.opened, operation, refusal),
+            opened: open_after(self.opened, act_of(operation), refusal),
             stopped: self.stopped,
             due,
         }
@@ -83,14 +90,24 @@ pub fn nothing_due() -> Due
     }
 }
 
-fn open_after(opened: bool, operation: Operation, refusal: u64) -> bool
-    ensures { λ r. ⌜ r ≡ spec.openAfter opened operation refusal ⌝ }
+pub fn act_of(operation: Operation) -> Act
+    ensures { λ r. ⌜ r ≡ spec.actOf operation ⌝ }
 {
     match operation {
-        Operation::Fresh(_) => refusal == shape::ACCEPTED,
-        Operation::Mark => opened,
-        Operation::Return(_) => opened,
-        Operation::Argument(_) => opened,
-        Operation::VariadicArgument(_) => opened,
+        Operation::Fresh(_) => Act::Fresh,
+        Operation::Mark => Act::Mark,
+        Operation::Return(_) => Act::Value,
+        Operation::Argument(_) => Act::Value,
+        Operation::VariadicArgument(_) => Act::Value,
+    }
+}
+
+fn open_after(opened: bool, act: Act, refusal: u64) -> bool
+    ensures { λ r. ⌜ r ≡ spec.openAfter opened act refusal ⌝ }
+{
+    match act {
+        Act::Fresh => refusal == shape::ACCEPTED,
+        Act::Mark => opened,
+        Act::Value => opened,
     }
 }

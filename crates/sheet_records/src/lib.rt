@@ -3,9 +3,11 @@
 mod known;
 mod records;
 
+pub use known::Act;
 pub use known::Due;
 pub use known::Operation;
 pub use known::Reader;
+pub use known::act_of;
 pub use known::nothing_due;
 pub use records::RECORD;
 use records::Record;

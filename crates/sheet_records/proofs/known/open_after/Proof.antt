@@ -1,5 +1,5 @@
 -- `open_after` closes the call where a fresh one is refused.
-use Rattle.sheet_records.proofs.OpenLaws.{fresh-opens, mark-keeps, return-keeps, argument-keeps, variadic-argument-keeps}
+use Rattle.sheet_records.proofs.ActLaws.{open-fresh, open-mark, open-value}
 use borrow.Author.Needs.{needs}
 use Rattle.sheet_records.proofs.known.open_after.Statement.{statement}
 use Rattle.sheet_records.proofs.known.open_after.Tie as tie
@@ -11,10 +11,6 @@ open-after-spec =
     (λ c. search needs)
     (λ c. search needs)
     (λ c. search needs)
-    (λ c. search needs)
-    (λ c. search needs)
-    (λ c. search (fresh-opens))
-    (λ c. search (mark-keeps))
-    (λ c. search (return-keeps))
-    (λ c. search (argument-keeps))
-    (λ c. search (variadic-argument-keeps)))
+    (λ c. search (open-fresh))
+    (λ c. search (open-mark))
+    (λ c. search (open-value)))

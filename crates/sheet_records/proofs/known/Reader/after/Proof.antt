@@ -4,4 +4,9 @@ use Rattle.sheet_records.proofs.known.Reader.after.Statement.{statement
 use Rattle.sheet_records.proofs.known.Reader.after.Tie as tie
 
 pub after-spec : {M : Type 1} → statement M
-after-spec = tie.close (tie.spec (λ c κs. search needs) (λ c. rw (c .open-after .ensures)))
+after-spec =
+    tie.close
+    (tie.spec
+    (λ c κs. search needs)
+    (λ c κs. search needs)
+    (λ c. rw (c .open-after .ensures, c .before .act-of .ensures)))
