@@ -1,6 +1,7 @@
 // The thirty descriptions, a row each, in the order of their numbers. A row's lines: integer and float registers, integer and float
 // width; flags; formats; return pointer and variadic; stack arguments, narrow and bit-precise integers, cleanup; then four rules
 // for returns and four for arguments, each its test, the test's number, and the way of travel with what happens when short.
+// Above a row stands what sets it apart from the others; specs/Abis.antt says why each field and list is as it is.
 use crate::DESCRIPTIONS;
 use rows::WIDTH;
 use rows::codes::*;
@@ -24,6 +25,8 @@ pub const TABLE: [[u8; WIDTH]; DESCRIPTIONS as usize] = [
     I386_MSVC_STDCALL, I386_MSVC_FASTCALL,
 ];
 
+// x87 values have no argument register, and come back on the x87's stack. An aggregate that falls short leaves its registers to later
+// arguments (MEMORY), where AAPCS64's takes the rest of the bank along.
 pub const SYSV_AMD64: [u8; WIDTH] = [
     6, 8, 8, 16,
     WIDE_INTEGER_IS_ALL_OR_NOTHING,
@@ -40,6 +43,7 @@ pub const SYSV_AMD64: [u8; WIDTH] = [
     NO_RULE, 0, 0,
 ];
 
+// Draining leaves no hole in a bank for later arguments to fill. The address of a result has x8, which is no argument register.
 pub const AAPCS64: [u8; WIDTH] = [
     8, 8, 8, 16,
     WIDE_INTEGER_STARTS_EVEN + WIDE_INTEGER_DRAINS,
@@ -56,6 +60,8 @@ pub const AAPCS64: [u8; WIDTH] = [
     ANYTHING, 0, BY_REFERENCE + UNCHANGED,
 ];
 
+// Apple's: no even start; arguments after the dots in memory, so that a prototype is needed; a packed argument area; narrow integers
+// extended, since the other side relies on it.
 pub const DARWIN_ARM64: [u8; WIDTH] = [
     8, 8, 8, 16,
     WIDE_INTEGER_DRAINS,
@@ -72,6 +78,7 @@ pub const DARWIN_ARM64: [u8; WIDTH] = [
     ANYTHING, 0, BY_REFERENCE + UNCHANGED,
 ];
 
+// AAPCS64 but for the dots: the callee walks x0 to x7 and the arguments in memory with one pointer, so that floats go by integers.
 pub const WINDOWS_ARM64: [u8; WIDTH] = [
     8, 8, 8, 16,
     WIDE_INTEGER_STARTS_EVEN + WIDE_INTEGER_DRAINS,
@@ -88,6 +95,8 @@ pub const WINDOWS_ARM64: [u8; WIDTH] = [
     ANYTHING, 0, BY_REFERENCE + UNCHANGED,
 ];
 
+// One rule, by size, which reaches scalars. Arguments have no rule for an empty aggregate: gcc passes its address, which takes one of the
+// four positions that both banks share.
 pub const WIN64: [u8; WIDTH] = [
     4, 0, 8, 16,
     SHARED + WIDE_IS_BY_REFERENCE + DECIMAL_IN_INTEGERS,
@@ -104,6 +113,8 @@ pub const WIN64: [u8; WIDTH] = [
     NO_RULE, 0, 0,
 ];
 
+// A float register has 8 bytes. FLOAT_PAIR is a bonus: where its registers aren't left, the rule of the size is tried. After the dots one
+// pointer walks a0 to a7.
 pub const RISCV_LP64D: [u8; WIDTH] = [
     8, 8, 8, 8,
     NO_FLAG,
@@ -120,6 +131,7 @@ pub const RISCV_LP64D: [u8; WIDTH] = [
     ANYTHING, 0, BY_REFERENCE + UNCHANGED,
 ];
 
+// Everything in memory, and the callee pops the address of a result. A complex float is no structure, so it comes back in edx:eax.
 pub const I386_SYSV: [u8; WIDTH] = [
     0, 0, 4, 8,
     QUAD_RETURNS_BY_REFERENCE,
@@ -136,6 +148,8 @@ pub const I386_SYSV: [u8; WIDTH] = [
     NO_RULE, 0, 0,
 ];
 
+// gcc's regparm(1) to regparm(3), in words. The address of a result is in eax, so there is nothing to pop. A record of one float is on the
+// stack, as that float is.
 pub const I386_SYSV_REGPARM_1: [u8; WIDTH] = [
     1, 0, 4, 8,
     WIDE_INTEGER_IS_ALL_OR_NOTHING + WIDE_INTEGER_DRAINS + QUAD_RETURNS_BY_REFERENCE,
@@ -184,6 +198,7 @@ pub const I386_SYSV_REGPARM_3: [u8; WIDTH] = [
     NO_RULE, 0, 0,
 ];
 
+// -freg-struct-return: what gcc gives a machine mode comes back in registers, a record of one float in st0.
 pub const I386_SYSV_REG_STRUCT: [u8; WIDTH] = [
     0, 0, 4, 8,
     QUAD_RETURNS_BY_REFERENCE,
@@ -248,6 +263,7 @@ pub const I386_SYSV_REGPARM_3_REG_STRUCT: [u8; WIDTH] = [
     NO_RULE, 0, 0,
 ];
 
+// stdcall: the callee takes the whole argument area off, the address of a result with it, so that this isn't popped apart.
 pub const I386_SYSV_STDCALL: [u8; WIDTH] = [
     0, 0, 4, 8,
     QUAD_RETURNS_BY_REFERENCE,
@@ -376,6 +392,8 @@ pub const I386_SYSV_REGPARM_3_REG_STRUCT_STDCALL: [u8; WIDTH] = [
     NO_RULE, 0, 0,
 ];
 
+// fastcall: a record is on the stack and its words are spent all the same; what has a floating mode spends nothing. The address of a
+// result is in ecx.
 pub const I386_SYSV_FASTCALL: [u8; WIDTH] = [
     2, 0, 4, 8,
     WIDE_INTEGER_IN_MEMORY + QUAD_RETURNS_BY_REFERENCE,
@@ -408,6 +426,7 @@ pub const I386_SYSV_REG_STRUCT_FASTCALL: [u8; WIDTH] = [
     NO_RULE, 0, 0,
 ];
 
+// gcc's rule for records that come back is the default on Windows, and the caller takes the address of a result off.
 pub const I386_MINGW: [u8; WIDTH] = [
     0, 0, 4, 8,
     QUAD_RETURNS_BY_REFERENCE,
@@ -424,6 +443,7 @@ pub const I386_MINGW: [u8; WIDTH] = [
     NO_RULE, 0, 0,
 ];
 
+// Microsoft's compiler has no rule for a record of one float.
 pub const I386_MSVC: [u8; WIDTH] = [
     0, 0, 4, 8,
     QUAD_RETURNS_BY_REFERENCE,
@@ -440,6 +460,7 @@ pub const I386_MSVC: [u8; WIDTH] = [
     NO_RULE, 0, 0,
 ];
 
+// How nearly all of the Windows API is declared.
 pub const I386_MINGW_STDCALL: [u8; WIDTH] = [
     0, 0, 4, 8,
     QUAD_RETURNS_BY_REFERENCE,
