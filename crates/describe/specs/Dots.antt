@@ -14,7 +14,11 @@ asFixed = dots false false false
 
 abbrev pub dotsOf : Variadic → Dots
 dotsOf SameAsFixed = asFixed
+-- emptied: with no register left every rule falls short, and that is what "always in memory" means
 dotsOf AlwaysMemory = dots false true false
+-- which registers are written, and not the form of the value
 dotsOf BothBanks = asFixed
+-- a mark of the whole call, for the callee walks named arguments with the same pointer
 dotsOf IntegersOnly = dots true false false
+-- of the argument alone, for named ones keep their float registers
 dotsOf UnnamedIntegers = dots false false true
