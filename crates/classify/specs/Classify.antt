@@ -1,7 +1,7 @@
 -- The Rust's behaviour, restated over readable descriptions, shapes and calls, function by function in the order of classify.rs: how each value
 -- travels, its slots, and the counts left as the Rust computes them. Subtraction stops at 0, as the Rust's saturating one does. What is passed
 -- over and given is not here: that is spend/specs/Spending.antt, spend_scalar/specs/Spending.antt and Spending.antt beside this file, and a theorem
--- has the two agree.
+-- has the two agree. Most reasons stand there, too, and at the fields of descriptions (describe/src/lib.rt).
 use Prim.Native.Nat.{ℕ, _-_, _%_}
 use mathlib.Core.List.{List, [], _∷_}
 use mathlib.Core.Bool.{Bool, true, false, _&&_, _||_, not, cond}
@@ -66,7 +66,8 @@ lessBoth n m left = leaves (left .integer - n) (left .float - m) (left .«intege
 abbrev pub call : Description → Left
 call D = counts (D .banks .integer) (D .banks .float)
 
--- whether floats of a variadic function's call go in integer registers alone, for the named arguments too
+-- whether floats of a variadic function's call go in integer registers alone, for the named arguments too: its callee walks all arguments with
+-- one pointer. So the call itself is marked, before any argument
 abbrev pub isIntegersOnly : Variadic → Bool
 isIntegersOnly SameAsFixed = false
 isIntegersOnly AlwaysMemory = false
@@ -80,7 +81,7 @@ variadic D left = cond (isIntegersOnly (D .variadic)) (withMark left) left
 
 -- ---- scalar
 
--- an integer that wants several registers: an even register first, and one that doesn't fit then may spend what is left
+-- an integer that wants several registers: an even register first, and one that doesn't fit then may spend what is left (C.10, C.13)
 abbrev pub afterEven : Scalars → ℕ → Left → Left
 afterEven S start left =
     cond (S .«wide_integer_starts_even» && eqb ((start - left .integer) % 2) 1) (less 1 left) left
@@ -113,7 +114,7 @@ scalar D left s =
 
 -- ---- travel
 
--- the address of a return value travels with the arguments
+-- the address of a return value travels with the arguments, and so takes a register from them
 abbrev pub isFirst : ReturnPointer → Bool
 isFirst FirstArgument = true
 isFirst FirstArgumentPopped = true
@@ -166,7 +167,8 @@ abbrev pub orRest : Option Passed → Passed → Passed
 orRest (some p) rest = p
 orRest none rest = rest
 
--- a rule whose test came back, before the rules after it: one that found a float for an argument that may not use one is skipped
+-- a rule whose test came back, before the rules after it: one that found a float for an argument that may not use one is skipped; the value
+-- that comes back of a variadic function is where it always is
 abbrev pub tried : Search → Description → Left → Rule → Shape → Bool → Passed → Passed
 tried nothing D left rule shape returning rest = rest
 tried (found ss) D left rule shape returning rest =
@@ -188,7 +190,7 @@ returnedScalar D left s =
     (passed (pieces (floatSlot (D .scalars .«wide_integer_returns_in») 0 ∷ [])) left)
     (passed reference (cond (isFirst (D .«return_pointer»)) (less 1 left) left)))
 
--- how the return value comes back
+-- how the return value comes back. It is asked before the arguments: its address may take the register of one of them
 unfoldable pub returns : Description → Left → args.Arg → List Piece → Passed
 returns D left args.the-variants.Void ps = passed ignore left
 returns D left (args.the-variants.Scalar s) ps = returnedScalar D left s
@@ -200,20 +202,22 @@ argument D left args.the-variants.Void ps = passed ignore left
 argument D left (args.the-variants.Scalar s) ps = scalar D left s
 argument D left (args.the-variants.Aggregate shape) ps = apply D left (D .arguments) shape ps false
 
--- after the dots, where such an argument always is in memory: classified as though no register were left, and none is spent
+-- after the dots, where such an argument always is in memory: classified as though no register were left, so that every rule which wants one
+-- falls short, and none is spent, for the registers are the fixed arguments'
 abbrev pub inMemoryAlways : Description → Left → args.Arg → List Piece → Passed
 inMemoryAlways D left args.the-variants.Void ps = passed ignore left
 inMemoryAlways D left (args.the-variants.Scalar s) ps = passed direct left
 inMemoryAlways D left (args.the-variants.Aggregate shape) ps =
     passed (apply D (leaves 0 0 (left .«integers_only»)) (D .arguments) shape ps false .pass) left
 
--- after the dots, where such an argument is integers-only for itself alone
+-- after the dots, where such an argument is integers-only for itself alone: named ones keep their float registers
 abbrev pub asIntegers : Description → Left → args.Arg → List Piece → Passed
 asIntegers D left arg ps =
     let p : Passed = argument D (withMark left) arg ps in
     passed (p .pass) (counts (p .left .integer) (p .left .float))
 
--- how the next argument after the dots travels
+-- how the next argument after the dots travels. BothBanks says which registers a bridge has to write, and not in which form; under IntegersOnly
+-- the mark of the call has said all
 abbrev pub variadicBy : Variadic → Description → Left → args.Arg → List Piece → Passed
 variadicBy SameAsFixed D left arg ps = argument D left arg ps
 variadicBy BothBanks D left arg ps = argument D left arg ps

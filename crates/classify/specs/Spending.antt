@@ -45,7 +45,8 @@ abbrev pub orNext : steps.Step → Test → Chosen → Chosen
 orNext (steps.the-variants.Decided d) test rest = chosen d test
 orNext steps.the-variants.TryNextRule test rest = rest
 
--- a rule whose test came back: nothing moves on, and so does, under integers-only, an argument's rule that found a float slot
+-- a rule whose test came back: nothing moves on, and so does, under integers-only, an argument's rule that found a float slot. The callee would
+-- not look into float registers, so the aggregate is left to the rules behind, as if no piece of it were a float. What comes back is no argument
 abbrev pub decideBy : Search → Terms → Bool → Left → Rule → Shape → Chosen → Chosen
 decideBy nothing T returning left rule shape rest = rest
 decideBy (found ss) T returning left rule shape rest =
@@ -62,7 +63,8 @@ byRules T returning left (rule ∷ rules) shape ps =
 abbrev pub ignored : Chosen
 ignored = chosen (made.plain ways.the-variants.Ignore made.nothing) Anything
 
--- what a value finds left (REFERENCE 9.5): after the dots its banks may be emptied, or the mark set for it alone
+-- what a value finds left (REFERENCE 9.5): after the dots its banks may be emptied, or the mark set for it alone. With emptied banks every rule
+-- that wants registers falls short, so that "always in memory" needs no rules of its own
 abbrev pub leftFor : Dots → Left → Left
 leftFor dots left =
     cond (dots .emptied) (record { integer = 0; float = 0; «integers_only» = left .«integers_only» })
@@ -79,7 +81,7 @@ scalarBy T returning dots left s =
 abbrev pub freely : Decision → Decision
 freely d = record { way = d .way; source = d .source; count = d .count; spent = made.nothing }
 
--- an aggregate, by what it finds left; one that finds its banks emptied spends nothing
+-- an aggregate, by what it finds left; one that finds its banks emptied spends nothing: the call's own registers were never meant for it
 unfoldable pub aggregateBy : Terms → List Rule → Bool → Dots → Left → Shape → List Piece → Chosen
 aggregateBy T rules returning dots left shape ps =
     let k : Chosen = byRules T returning (leftFor dots left) rules shape ps in
@@ -91,7 +93,8 @@ choice T rules returning dots left args.the-variants.Void ps = ignored
 choice T rules returning dots left (args.the-variants.Scalar s) ps = chosen (scalarBy T returning dots left s) Anything
 choice T rules returning dots left (args.the-variants.Aggregate shape) ps = aggregateBy T rules returning dots left shape ps
 
--- what comes back, a fixed argument, and one after the dots
+-- what comes back, a fixed argument, and one after the dots. What comes back is asked about first: its address may be the first argument, and
+-- then one argument fewer has a register. Asked late, the address gets a later register than the callee looks in
 unfoldable pub returnChoice : Description → Left → args.Arg → List Piece → Chosen
 returnChoice D left arg ps = choice (termsOf D) (D .returns) true asFixed left arg ps
 

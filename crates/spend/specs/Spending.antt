@@ -40,7 +40,8 @@ memory ip ig fp fg = plain ways.the-variants.Memory (spends ip ig fp fg)
 
 -- ---- what comes back through an address
 
--- Reference: given takes 1 of I unless the pointer is Dedicated
+-- Reference: given takes 1 of I unless the pointer is Dedicated. The address is a hidden first argument, so it costs what an argument costs;
+-- a register of its own, AAPCS64's x8, is none of the arguments'
 abbrev pub byPointer : ReturnPointer → ℕ → Decision
 byPointer Dedicated I = reference 0
 byPointer FirstArgument I = reference (takes 1 I)
@@ -48,19 +49,20 @@ byPointer FirstArgumentPopped I = reference (takes 1 I)
 
 -- ---- an aggregate that a rule's test matched
 
--- the cost is slots by bank; with shared banks all come from I
+-- the cost is slots by bank; with shared banks all come from I, which counts positions there: each has a register of either kind
 abbrev pub integerCost : Bool → ℕ → ℕ → ℕ
 integerCost shared count floats = cond shared count (count - floats)
 
 abbrev pub floatCost : Bool → ℕ → ℕ
 floatCost shared floats = cond shared 0 floats
 
--- a short bank is passed over whole; one that isn't short is left as it is
+-- a short bank is passed over whole, so that no later argument gets a register out of turn; one that isn't short is left as it is, since
+-- AAPCS64 closes one bank at a time (C.3 the floats', C.13 the integers')
 abbrev pub drainOf : ℕ → ℕ → ℕ
 drainOf cost left = cond (ltb left cost) left 0
 
 -- short of registers: Unchanged gives what is left up to the cost; Memory spends nothing; MemoryAndDrain passes over each short bank whole;
--- TryNextRule goes on
+-- TryNextRule goes on. Who has which, and why, is said at `Short` (describe/src/lib.rt)
 unfoldable pub whenShort : Short → Left → Wanted → ℕ → ℕ → steps.Step
 whenShort Unchanged left found integer float =
     steps.the-variants.Decided (inPieces found (spends 0 (takes integer (left .integer)) 0 (takes float (left .float))))
@@ -69,7 +71,8 @@ whenShort MemoryAndDrain left found integer float =
     steps.the-variants.Decided (memory (drainOf integer (left .integer)) 0 (drainOf float (left .float)) 0)
 whenShort TryNextRule left found integer float = steps.the-variants.TryNextRule
 
--- a slot rule: on a return it spends nothing; on an argument, where it fits, the cost is given
+-- a slot rule: on a return it spends nothing, for the registers of a result aren't counted with the arguments'; on an argument, where it fits,
+-- the cost is given
 unfoldable pub inSlots : Bool → Bool → Left → Short → Wanted → steps.Step
 inSlots shared returning left short found =
     let integer : ℕ = integerCost shared (found .count) (found .floats) in
@@ -78,11 +81,12 @@ inSlots shared returning left short found =
     (cond (leb integer (left .integer) && leb float (left .float)) (steps.the-variants.Decided (inPieces found (spends 0 integer 0 float)))
     (whenShort short left found integer float))
 
--- ByReference: given takes 1 of I for an argument, or for a return unless the pointer is Dedicated
+-- ByReference: given takes 1 of I for an argument, or for a return unless the pointer is Dedicated. The address of a copy is an argument like
+-- any other
 abbrev pub byReference : ReturnPointer → Bool → ℕ → Decision
 byReference pointer returning I = cond returning (byPointer pointer I) (reference (takes 1 I))
 
--- InMemoryAndSpend on an argument: given takes want of I
+-- InMemoryAndSpend on an argument: given takes want of I. fastcall's records, which gcc counts against ecx and edx though they are on the stack
 abbrev pub inMemoryAndSpend : Bool → ℕ → ℕ → Decision
 inMemoryAndSpend returning I want = cond returning (memory 0 0 0 0) (memory 0 (takes want I) 0 0)
 
