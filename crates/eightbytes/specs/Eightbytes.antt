@@ -42,7 +42,8 @@ unfoldable pub classesAfter : List Class → List Piece → Option (List Class)
 classesAfter cs [] = some cs
 classesAfter cs (p ∷ ps) = cond (fits (length cs) p) (classesAfter (mark cs p) ps) none
 
--- X87 or Memory anywhere
+-- X87 or Memory anywhere: an argument isn't split between registers and memory, so one such eightbyte takes the rest along. X87 counts as memory,
+-- for so an argument goes, and what comes back on the x87's stack was found by a rule before this one
 unfoldable pub spoiled : List Class → Bool
 spoiled [] = false
 spoiled (c ∷ cs) = (same c X87 || same c Memory) || spoiled cs
@@ -51,7 +52,8 @@ unfoldable pub mend : Class → List Class → List Class
 mend below [] = []
 mend below (c ∷ cs) = mended below c ∷ mend (mended below c) cs
 
--- the classes that the slots come from, none where one is X87 or Memory
+-- the classes that the slots come from, none where one is X87 or Memory. Mending goes up from the first eightbyte and looks at the one below as
+-- it was mended: an upper half that became Sse carries the next
 unfoldable pub settled : List Class → Option (List Class)
 settled cs = cond (spoiled cs) none (some (mend None cs))
 
@@ -67,15 +69,18 @@ classified limit shape ps =
 
 -- ---- its slots
 
--- the format of an Sse eightbyte: Quad with SseUp above it, Single where at most four bytes are left
+-- the format of an Sse eightbyte: Quad with SseUp above it, Single where at most four bytes are left. Two floats in an eightbyte are a Double:
+-- the same bits are in the register either way
 abbrev pub formatOf : Bool → ℕ → ℕ
 formatOf up left = cond up quad (cond (leb left 4) single double)
 
--- the slot of an eightbyte at an offset, with so many bytes left: what is not Sse is an integer, None too
+-- the slot of an eightbyte at an offset, with so many bytes left: what is not Sse is an integer, None too, for the Rust leaves no hole in the
+-- middle of an argument; the psABI names no register for it, and compilers spend none (DIFFERENCES, COMPILERS). An integer is only as wide as what
+-- is left, so that no byte past the object is read
 abbrev pub ownSlot : Class → Bool → ℕ → ℕ → Slot
 ownSlot c up at left = cond (same c Sse) (floatSlot (formatOf up left) at) (integerSlot at (min left 8))
 
--- SseUp is part of the slot below
+-- SseUp is part of the slot below: one value, one register
 abbrev pub classSlot : Class → Bool → ℕ → ℕ → List Slot
 classSlot c up at left = cond (same c SseUp) [] (ownSlot c up at left ∷ [])
 

@@ -12,10 +12,11 @@ firstOf p = p .offset / 8
 abbrev pub lastOf : Piece → ℕ
 lastOf p = (endOf p - 1) / 8
 
--- above an alignment of 1, its offset is a multiple of that
+-- above an alignment of 1, its offset is a multiple of that. A packed record has pieces that aren't so, and the psABI sends it to memory (3.2.3).
+-- A bit-field may start anywhere and lie across two eightbytes, so it is handed in with an alignment of 1
 abbrev pub aligned : Piece → Bool
 aligned p = leb (p .align) 1 || eqb (p .offset % p .align) 0
 
--- what a piece has to do: stand where its alignment asks, and reach past none of so many eightbytes
+-- what a piece has to do: stand where its alignment asks, and reach past none of so many eightbytes, since behind them is no class to merge into
 unfoldable pub fits : ℕ → Piece → Bool
 fits n p = aligned p && ltb (lastOf p) n

@@ -18,13 +18,15 @@ pub const X87: u8 = 4;
 
 pub const EIGHTBYTE: u64 = 8;
 
-// Whether a piece stands where its alignment asks and reaches past none of the eightbytes.
+// Whether a piece stands where its alignment asks and reaches past none of the eightbytes: the psABI sends what is packed to memory, and
+// behind the last eightbyte is no class.
 pub fn fits(n: usize, p: Piece) -> bool
     ensures { λ r. ⌜ r ≡ fits· n p ⌝ }
 {
     aligned(p) & ((p.end() - 1) / EIGHTBYTE < n as u64)
 }
 
+// A bit-field has an alignment of 1: it may start anywhere, and is an integer wherever it does.
 fn aligned(p: Piece) -> bool
     ensures { λ r. ⌜ r ≡ aligned· p ⌝ }
 {
@@ -34,6 +36,7 @@ fn aligned(p: Piece) -> bool
     p.offset % p.align == 0
 }
 
+// x87 values are told apart from other floats, since no argument register takes them.
 pub fn class_of(kind: u64) -> u8
     ensures { λ r. ⌜ r ≡ code (kindClass kind) ⌝ }
 {
@@ -46,7 +49,7 @@ pub fn class_of(kind: u64) -> u8
     SSE
 }
 
-// The class of a piece's next eightbyte: a float wider than one is one value, and not two.
+// The class of a piece's next eightbyte: a float wider than one is one value in one register, where an integer of 16 has two.
 pub fn later(class: u8) -> u8
     ensures { λ r. ⌜ r ≡ kept class (later· (classOf class)) ⌝ }
 {
@@ -56,7 +59,8 @@ pub fn later(class: u8) -> u8
     class
 }
 
-// The rule after the merge: the upper half of a value whose lower half is something else stands on its own.
+// The rule after the merge: the upper half of a value whose lower half is something else stands on its own, as in a union of a Quad and an
+// integer of 8.
 pub fn mended(below: u8, class: u8) -> u8
     ensures { λ r. ⌜ r ≡ kept class (mended· (classOf below) (classOf class)) ⌝ }
 {

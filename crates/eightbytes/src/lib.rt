@@ -27,7 +27,9 @@ use shape::Piece;
 use shape::Shape;
 use slots::Found;
 
-// What two classes over one eightbyte make: the row is the class that stands there, the column the one that comes.
+// What two classes over one eightbyte make: the row is the class that stands there, the column the one that comes. An eightbyte goes in one
+// register, so an integer takes the float beside it along, and an x87 value beside anything leaves memory only; `merge` of specs/Class.antt
+// has the reasons rule by rule.
 const MERGE: [[u8; 6]; 6] = [
     [0, 1, 2, 3, 4, 5],
     [1, 1, 1, 1, 5, 5],
@@ -40,7 +42,7 @@ const MERGE: [[u8; 6]; 6] = [
 // The bytes of two eightbytes. Most shapes that come in registers have no more, so both the counting and the writing take these first.
 pub const PAIR: u64 = 16;
 
-// A limit above eight eightbytes counts as eight.
+// A limit above eight eightbytes counts as eight: so many classes there are, and no description's limit is above two.
 const MOST_LIMIT: u64 = 64;
 
 // What the search comes back with, and beside it the class of each eightbyte of the shape: `slot_writing::put_eightbytes` writes the slots
