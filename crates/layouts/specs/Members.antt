@@ -24,7 +24,8 @@ membersRefusal ws =
     refuse (ltb 0 (length ws % 3)) bad-list
     (refuse (ltb most-pieces (length (scalarsOf ws))) bad-list (scalarsRefusal (scalarsOf ws)))
 
--- each member at the next offset, from `end` on, that it fits: a multiple of its alignment, where 0 counts as 1
+-- each member at the next offset, from `end` on, that it fits: a multiple of its alignment, where 0 counts as 1, since 0 has no next multiple. A
+-- member of size 0 takes no room from the next one, though as a piece it ends a byte further on
 unfoldable pub placed : ℕ → List Scalar → List Piece
 placed end [] = []
 placed end (s ∷ ss) =

@@ -25,10 +25,11 @@ alignOf p = p .align
 abbrev pub largestAlign : List Piece → ℕ
 largestAlign ps = maxOf alignOf ps
 
+-- a piece of size 0 ends as one of 1 (shape/specs/Questions.antt), so that it has a last byte, wherever it stands
 abbrev pub furthestEnd : List Piece → ℕ
 furthestEnd ps = maxOf endOf ps
 
--- one piece, a float that fills the record
+-- one piece, a float that fills the record: to such a structure gcc gives the machine mode of its member
 unfoldable pub isFloating : ℕ → List Piece → Bool
 isFloating size [] = false
 isFloating size (p ∷ []) = isFloat (p .kind) && eqb (p .size) size
@@ -43,7 +44,8 @@ abbrev pub refuseRecord : Bool → ℕ → Recorded → Recorded
 refuseRecord true n rest = recorded n 0 0 false
 refuseRecord false n rest = rest
 
--- no pieces: an empty record of alignment 1. Else alignments that are all 0 are refused, and then a rounded size above the limit
+-- no pieces: an empty record of alignment 1. Else alignments that are all 0 are refused, for there is nothing to round the size up to, and the
+-- Rust panics; and then a rounded size above the limit. It is a structure, so it is never complex
 unfoldable pub recordMade : List Piece → Recorded
 recordMade [] = recorded accepted 0 1 false
 recordMade (p ∷ ps) =
