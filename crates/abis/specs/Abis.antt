@@ -114,7 +114,7 @@ abbrev pub aapcs64 : Description
 aapcs64 = aapcs64With (bytes "AAPCS64") true SameAsFixed RegisterSized Unspecified
 
 -- Apple's choices, as clang for its targets has them. A 16-byte integer behind an int is in x1 and x2. With everything after the dots in
--- memory, a function with dots can't be called without its prototype: printf prints garbage then. Who takes a word for each packed
+-- memory, a function with dots can't be called without its prototype: printf prints garbage then. Whoever takes a word for each packed
 -- argument finds garbage from the ninth on. clang's callees and callers rely on narrow integers being extended.
 abbrev pub darwin-arm64 : Description
 darwin-arm64 = aapcs64With (bytes "Darwin arm64") false AlwaysMemory Packed ToInt
@@ -267,8 +267,9 @@ regparm n =
       arguments = rule Empty Ignore ∷ rule LoneFloat InMemory ∷ ruleShort Anything AsIntegers MemoryAndDrain ∷ [];
     }
 
--- ecx and edx, for integers of a word at most, as measured of gcc. A wider integer is on the stack and takes both along. A record is on
--- the stack, and its words count against the registers all the same; a complex, and what has a floating mode, counts as nothing.
+-- ecx and edx, for integers of a word at most; the rest is what gcc was seen to do. A wider integer is on the stack and takes both along.
+-- A record is on the stack, and its words count against the registers all the same; a complex, and what has a floating mode, counts as
+-- nothing.
 abbrev fastcall : I386
 fastcall =
     record {

@@ -142,7 +142,7 @@ pub enum StackArgs {
 // What stands above an integer narrower than an int in its register. A bridge does well to extend always: clang's callees trust in it even
 // where no document says so.
 pub enum Narrow {
-    // Who receives the value reads the bits of its type alone.
+    // Whoever receives the value reads the bits of its type alone.
     Unspecified,
     // RISC-V by its document, Darwin arm64 by what clang relies on, on both sides.
     ToInt,
