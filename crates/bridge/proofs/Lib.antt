@@ -1,6 +1,6 @@
 pub mod Laws
+pub mod Steps
 pub mod Asking
-pub mod Alone
 pub mod Promised
 pub mod Kept
 pub mod Histories

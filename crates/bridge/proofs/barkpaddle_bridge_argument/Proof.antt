@@ -3,7 +3,6 @@ use contract.Running.{givenOf, tables, tablesOf}
 use denote.Triple.Spec.{tripleOf}
 use denote.Triple.Table.{entered, cited}
 use Rattle.classify.specs.Answers.{argumentAnswer, argumentWritten}
-use Rattle.bridge.specs.Lent.{argOf}
 use Rattle.bridge.proofs.Asking as Asking
 use Rattle.bridge.proofs.argument_of.Symbol as value-def
 use Rattle.bridge.proofs.argument_of.Symbol.{name as #value}
@@ -18,5 +17,5 @@ unfolding code.routine tablesOf
 barkpaddle-bridge-argument-spec 𝓤 H 𝓜 𝓖 𝓡 =
     entered 𝓤 H (tripleOf 𝓤 H (𝓖 .A) thin.signature (thin.spec 𝓤 H (𝓖 .A) (𝓜 .mem) (𝓡 .run)))
     (tables 𝓤 H 𝓜 𝓡 code.env .C) (tables 𝓤 H 𝓜 𝓡 code.env .Λ) #thin code.function (code.unfolded 𝓤 H 𝓜 𝓡)
-    (Asking.meets #value (λ c w ws ss. argumentAnswer c (argOf w) ws ss) (λ c w ws ss. argumentWritten c (argOf w) ws ss) 𝓤 H (𝓖 .A) (givenOf 𝓤 H 𝓜 𝓖) (tablesOf 𝓤 H 𝓜 (tables 𝓤 H 𝓜 𝓡 code.env))
-    (cited 𝓤 H (Asking.Value #value (λ c w ws ss. argumentAnswer c (argOf w) ws ss) (λ c w ws ss. argumentWritten c (argOf w) ws ss) 𝓤 H (𝓖 .A)) 𝓜 𝓡 code.env #value value-def.routine code.calls-bridge·argument-of (value-thm.met 𝓤 H 𝓜 𝓖 𝓡)))
+    (Asking.meets argumentAnswer argumentWritten 𝓤 H (𝓖 .A) (givenOf 𝓤 H 𝓜 𝓖) #value (tablesOf 𝓤 H 𝓜 (tables 𝓤 H 𝓜 𝓡 code.env))
+    (cited 𝓤 H (Asking.Value argumentAnswer argumentWritten 𝓤 H (𝓖 .A)) 𝓜 𝓡 code.env #value value-def.routine code.calls-bridge·argument-of (value-thm.met 𝓤 H 𝓜 𝓖 𝓡)))
