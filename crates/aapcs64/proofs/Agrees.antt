@@ -14,6 +14,7 @@ use Rattle.shape.proofs.Bools.{both-true}
 use Rattle.shape.specs.declared.Arg.the-variants.{Aggregate}
 use Rattle.shape.specs.declared.Piece.{Piece}
 use Rattle.shape.specs.declared.Shape.{Shape}
+use Rattle.shape.specs.Lists.{every}
 use Rattle.slots.specs.declared.Slot.{Slot}
 use Rattle.slots.specs.Search.{floatsIn}
 use Rattle.slots.specs.Cut.{upTo, partOf, cut}
@@ -22,8 +23,8 @@ use Rattle.abis.specs.Abis.{described, descriptions}
 use Rattle.classify.specs.Pass.{reference}
 use Rattle.classify.specs.Classify.{passed, counts, call, argument, returns}
 use Rattle.aapcs64.specs.Aapcs64.{Composite, addressable, count, doublewords, memberParts, wordParts, x, registers, stack, copy, copyOnStack, state, passing, parameter, stageC, stageA, isHfa, result}
-use Rattle.aapcs64.specs.Told.{composite, mostAlign, mostNatural, stateOf, partsOf, told, toldPassed, toldResult, toldReturned}
-use Rattle.aapcs64.specs.Domain.{Domain, every}
+use Rattle.aapcs64.specs.Reading.{composite, mostAlign, mostNatural, stateOf, partsOf, reads, readsPassed, readsResult, readsReturned}
+use Rattle.aapcs64.specs.Domain.{Domain}
 use Rattle.aapcs64.proofs.Enough.{Enough, enough}
 use Rattle.aapcs64.proofs.Hfa.{Vectors, Others, Agreed, vectors, others, agreement}
 use Rattle.aapcs64.proofs.Row.{spent, argument-found, argument-small, argument-large, returns-found, returns-small, returns-large}
@@ -108,26 +109,26 @@ used left n h l = omega arith
 
 module _ (I F : ℕ) (hI : I ≤ 8) (hF : F ≤ 8) where
   module _ (i f : ℕ) (ss : List Slot) (ei : length ss - floatsIn ss ≡ i) (ef : floatsIn ss ≡ f) where
-    told-fits : i ≤ I → f ≤ F
-        → toldPassed (counts I F) (spent I F ss) ≡ some (passing (registers (partsOf (8 - I) (8 - F) ss)) (state (8 - I + i) (8 - F + f)))
-    unfolding told
-    told-fits li lf = rw (ei, ef, le-leb i I li, le-leb f F lf, used I i hI li, used F f hF lf)
+    reads-fits : i ≤ I → f ≤ F
+        → readsPassed (counts I F) (spent I F ss) ≡ some (passing (registers (partsOf (8 - I) (8 - F) ss)) (state (8 - I + i) (8 - F + f)))
+    unfolding reads
+    reads-fits li lf = rw (ei, ef, le-leb i I li, le-leb f F lf, used I i hI li, used F f hF lf)
 
-    told-no-floats : i ≤ I → F < f → toldPassed (counts I F) (spent I F ss) ≡ some (passing stack (state (8 - I) 8))
-    unfolding told
-    told-no-floats li lf = rw (ei, ef, le-leb i I li, lt-leb f F lf, le-ltb I i li, lt-ltb F f lf)
+    reads-no-floats : i ≤ I → F < f → readsPassed (counts I F) (spent I F ss) ≡ some (passing stack (state (8 - I) 8))
+    unfolding reads
+    reads-no-floats li lf = rw (ei, ef, le-leb i I li, lt-leb f F lf, le-ltb I i li, lt-ltb F f lf)
 
-    told-no-integers : I < i → f ≤ F → toldPassed (counts I F) (spent I F ss) ≡ some (passing stack (state 8 (8 - F)))
-    unfolding told
-    told-no-integers li lf = rw (ei, ef, lt-leb i I li, lt-ltb I i li, le-ltb F f lf)
+    reads-no-integers : I < i → f ≤ F → readsPassed (counts I F) (spent I F ss) ≡ some (passing stack (state 8 (8 - F)))
+    unfolding reads
+    reads-no-integers li lf = rw (ei, ef, lt-leb i I li, lt-ltb I i li, le-ltb F f lf)
 
-  told-copy : 0 < I → toldPassed (counts I F) (passed reference (counts (I - 1) F)) ≡ some (passing (copy (x (8 - I))) (state (8 - I + 1) (8 - F)))
-  unfolding told
-  told-copy l = rw (lt-ltb (I - 1) I (omega arith), used I 1 hI l)
+  reads-copy : 0 < I → readsPassed (counts I F) (passed reference (counts (I - 1) F)) ≡ some (passing (copy (x (8 - I))) (state (8 - I + 1) (8 - F)))
+  unfolding reads
+  reads-copy l = rw (lt-ltb (I - 1) I (omega arith), used I 1 hI l)
 
-  told-copy-short : I ≤ 0 → toldPassed (counts I F) (passed reference (counts (I - 1) F)) ≡ some (passing copyOnStack (state 8 (8 - F)))
-  unfolding told
-  told-copy-short l =
+  reads-copy-short : I ≤ 0 → readsPassed (counts I F) (passed reference (counts (I - 1) F)) ≡ some (passing copyOnStack (state 8 (8 - F)))
+  unfolding reads
+  reads-copy-short l =
       let a : 8 - (I - 1) ≡ 8 = omega arith in
       rw (le-ltb (I - 1) I (omega arith), a)
 
@@ -140,7 +141,7 @@ module _ (shape : Shape) (ps : List Piece) (d : Enough shape ps) (natural : ℕ)
   module _ (I F : ℕ) (hI : I ≤ 8) (hF : F ≤ 8) where
     abbrev Same : Type 0
     Same =
-        toldPassed (counts I F) (argument (described 1) (counts I F) (Aggregate shape) ps)
+        readsPassed (counts I F) (argument (described 1) (counts I F) (Aggregate shape) ps)
         ≡ some (parameter (state (8 - I) (8 - F)) c)
 
     in-vectors : Vectors natural shape ps → Same
@@ -149,13 +150,13 @@ module _ (shape : Shape) (ps : List Piece) (d : Enough shape ps) (natural : ℕ)
         i : length (f .slots) - floatsIn (f .slots) ≡ 0
         i = omega (arith, f .floats, f .all)
 
-        go : Dec (count c ≤ F) → toldPassed (counts I F) (spent I F (f .slots)) ≡ some (parameter (state (8 - I) (8 - F)) c)
+        go : Dec (count c ≤ F) → readsPassed (counts I F) (spent I F (f .slots)) ≡ some (parameter (state (8 - I) (8 - F)) c)
         go (yes l) =
             let a : 8 - I + 0 ≡ 8 - I = omega arith in
-            told-fits I F hI hF 0 (count c) (f .slots) i (f .floats) (omega arith) l
+            reads-fits I F hI hF 0 (count c) (f .slots) i (f .floats) (omega arith) l
             ∙ rw (f .parts, a, by-C2 (8 - I) (8 - F) c (f .test) (omega arith))
         go (no l) =
-            told-no-floats I F hI hF 0 (count c) (f .slots) i (f .floats) (omega arith) (omega arith)
+            reads-no-floats I F hI hF 0 (count c) (f .slots) i (f .floats) (omega arith) (omega arith)
             ∙ rw (by-C3 (8 - I) (8 - F) c (f .test) (omega arith))
 
     in-words : Others natural shape ps → shape .size ≤ 16 → Same
@@ -168,21 +169,21 @@ module _ (shape : Shape) (ps : List Piece) (d : Enough shape ps) (natural : ℕ)
         small = narrow shape ps natural d n
 
         go : Dec (doublewords c ≤ I)
-            → toldPassed (counts I F) (spent I F (cut (shape .size) 8)) ≡ some (parameter (state (8 - I) (8 - F)) c)
+            → readsPassed (counts I F) (spent I F (cut (shape .size) 8)) ≡ some (parameter (state (8 - I) (8 - F)) c)
         go (yes l) =
             let a : 8 - F + 0 ≡ 8 - F = omega arith in
-            told-fits I F hI hF (doublewords c) 0 (cut (shape .size) 8) i (no-floats (shape .size) h) l (omega arith)
+            reads-fits I F hI hF (doublewords c) 0 (cut (shape .size) 8) i (no-floats (shape .size) h) l (omega arith)
             ∙ rw (in-x (shape .size) h (8 - I) (8 - F), a, by-C12 (8 - I) (8 - F) c (o .test) h small (omega arith))
         go (no l) =
-            told-no-integers I F hI hF (doublewords c) 0 (cut (shape .size) 8) i (no-floats (shape .size) h) (omega arith) (omega arith)
+            reads-no-integers I F hI hF (doublewords c) 0 (cut (shape .size) 8) i (no-floats (shape .size) h) (omega arith) (omega arith)
             ∙ rw (by-C15 (8 - I) (8 - F) c (o .test) h small (omega arith))
 
     by-copy : Others natural shape ps → 16 < shape .size → Same
     by-copy o h = rw (argument-large shape ps (d .some) I F (o .finds) h) (go (decLe I 0))
       where
-        go : Dec (I ≤ 0) → toldPassed (counts I F) (passed reference (counts (I - 1) F)) ≡ some (parameter (state (8 - I) (8 - F)) c)
-        go (yes l) = told-copy-short I F hI hF l ∙ rw (by-C17 (8 - I) (8 - F) c (o .test) h (omega arith))
-        go (no l) = told-copy I F hI hF (omega arith) ∙ rw (by-C9 (8 - I) (8 - F) c (o .test) h (omega arith))
+        go : Dec (I ≤ 0) → readsPassed (counts I F) (passed reference (counts (I - 1) F)) ≡ some (parameter (state (8 - I) (8 - F)) c)
+        go (yes l) = reads-copy-short I F hI hF l ∙ rw (by-C17 (8 - I) (8 - F) c (o .test) h (omega arith))
+        go (no l) = reads-copy I F hI hF (omega arith) ∙ rw (by-C9 (8 - I) (8 - F) c (o .test) h (omega arith))
 
     pub argument-agrees : Same
     argument-agrees = go (agreement natural shape ps d) (decLe (shape .size) 16)
@@ -197,11 +198,11 @@ module _ (shape : Shape) (ps : List Piece) (d : Enough shape ps) (natural : ℕ)
   module _ (I F : ℕ) where
     abbrev SameResult : Type 0
     SameResult =
-        toldReturned (described 1 .«return_pointer») (returns (described 1) (counts I F) (Aggregate shape) ps)
+        readsReturned (described 1 .«return_pointer») (returns (described 1) (counts I F) (Aggregate shape) ps)
         ≡ some (result (state (8 - I) (8 - F)) c)
 
     pub returns-agrees : SameResult
-    unfolding toldResult result described descriptions
+    unfolding readsResult result described descriptions
     returns-agrees = go (agreement natural shape ps d) (decLe (shape .size) 16)
       where
         small : natural ≤ 8
@@ -219,12 +220,12 @@ module _ (shape : Shape) (ps : List Piece) (d : Enough shape ps) (natural : ℕ)
 
 module _ (shape : Shape) (ps : List Piece) (natural I F : ℕ) where
   pub argument-is-aapcs64 : Domain shape ps → natural ≤ mostNatural shape ps → I ≤ 8 → F ≤ 8
-      → toldPassed (counts I F) (argument (described 1) (counts I F) (Aggregate shape) ps)
+      → readsPassed (counts I F) (argument (described 1) (counts I F) (Aggregate shape) ps)
       ≡ some (parameter (state (8 - I) (8 - F)) (composite natural shape ps))
   argument-is-aapcs64 d n hI hF = argument-agrees shape ps (enough shape ps d) natural n I F hI hF
 
   pub returns-is-aapcs64 : Domain shape ps → natural ≤ mostNatural shape ps
-      → toldReturned (described 1 .«return_pointer») (returns (described 1) (counts I F) (Aggregate shape) ps)
+      → readsReturned (described 1 .«return_pointer») (returns (described 1) (counts I F) (Aggregate shape) ps)
       ≡ some (result (state (8 - I) (8 - F)) (composite natural shape ps))
   returns-is-aapcs64 d n = returns-agrees shape ps (enough shape ps d) natural n I F
 

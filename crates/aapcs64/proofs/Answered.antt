@@ -24,7 +24,7 @@ use Rattle.classify.specs.Classify.{Passed, argument, returns}
 use Rattle.classify.specs.Answers.{rowRefusal, refusalOf, answerTo, writtenTo, argumentAnswerBy, argumentWrittenBy, returnsAnswerBy, returnsWrittenBy, argumentAnswer, argumentWritten, returnsAnswer, returnsWritten}
 use Rattle.classify.proofs.Accepted.{Sound, sound, call-checked, unmarked, accepted-so}
 use Rattle.aapcs64.specs.Aapcs64.{parameter, result}
-use Rattle.aapcs64.specs.Told.{composite, mostNatural, stateOf, told, toldResult}
+use Rattle.aapcs64.specs.Reading.{composite, mostNatural, stateOf, reads, readsResult}
 use Rattle.aapcs64.specs.Domain.{Domain}
 use Rattle.aapcs64.proofs.Agrees.{argument-is-aapcs64, returns-is-aapcs64}
 
@@ -73,21 +73,21 @@ module _ (c : Call) (abi : c .abi ≡ 1) (shape : Shape) (ws out : List ℕ) (d 
   pub argument-answered : argumentAnswer c (Aggregate shape) ws out .outcome .refusal ≡ accepted
       → Answers (argumentAnswer c (Aggregate shape) ws out) out (argumentWritten c (Aggregate shape) ws out)
       (λ (slots : List Slot).
-      told (c .left) (wayFrom (argumentAnswer c (Aggregate shape) ws out .outcome .way)) slots (argumentAnswer c (Aggregate shape) ws out .next .left)
+      reads (c .left) (wayFrom (argumentAnswer c (Aggregate shape) ws out .outcome .way)) slots (argumentAnswer c (Aggregate shape) ws out .next .left)
       ≡ some (parameter (stateOf (c .left)) (composite natural shape (piecesOf ws))))
   unfolding argumentAnswer argumentWritten argumentAnswerBy argumentWrittenBy refusalOf
   argument-answered ok =
       answered c abi shape ws out (argument (described (c .abi)) (c .left) (Aggregate shape) (piecesOf ws)) _
-      (λ (way : Way) (slots : List Slot) (after : Left). told (c .left) way slots after ≡ some (parameter (stateOf (c .left)) (composite natural shape (piecesOf ws)))) ok
+      (λ (way : Way) (slots : List Slot) (after : Left). reads (c .left) way slots after ≡ some (parameter (stateOf (c .left)) (composite natural shape (piecesOf ws)))) ok
       (λ k. rw (abi, k .no-mark-is) (argument-is-aapcs64 shape (piecesOf ws) natural (c .left .integer) (c .left .float) d n (k .integers) (k .floats)))
 
   pub returns-answered : returnsAnswer c (Aggregate shape) ws out .outcome .refusal ≡ accepted
       → Answers (returnsAnswer c (Aggregate shape) ws out) out (returnsWritten c (Aggregate shape) ws out)
       (λ (slots : List Slot).
-      toldResult (described 1 .«return_pointer») (wayFrom (returnsAnswer c (Aggregate shape) ws out .outcome .way)) slots (returnsAnswer c (Aggregate shape) ws out .next .left)
+      readsResult (described 1 .«return_pointer») (wayFrom (returnsAnswer c (Aggregate shape) ws out .outcome .way)) slots (returnsAnswer c (Aggregate shape) ws out .next .left)
       ≡ some (result (stateOf (c .left)) (composite natural shape (piecesOf ws))))
   unfolding returnsAnswer returnsWritten returnsAnswerBy returnsWrittenBy refusalOf
   returns-answered ok =
       answered c abi shape ws out (returns (described (c .abi)) (c .left) (Aggregate shape) (piecesOf ws)) _
-      (λ (way : Way) (slots : List Slot) (after : Left). toldResult (described 1 .«return_pointer») way slots after ≡ some (result (stateOf (c .left)) (composite natural shape (piecesOf ws)))) ok
+      (λ (way : Way) (slots : List Slot) (after : Left). readsResult (described 1 .«return_pointer») way slots after ≡ some (result (stateOf (c .left)) (composite natural shape (piecesOf ws)))) ok
       (λ k. rw (abi, k .no-mark-is) (returns-is-aapcs64 shape (piecesOf ws) natural (c .left .integer) (c .left .float) d n))

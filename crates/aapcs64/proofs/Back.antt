@@ -15,7 +15,7 @@ use Rattle.spend.specs.Ways.{no-mark}
 use Rattle.classify.specs.Pass.{Pass, ignore, direct, pieces, reference, memory, wayOf, passSlots}
 use Rattle.classify.specs.Classify.{Passed, passed, counts, leaves}
 use Rattle.aapcs64.specs.Aapcs64.{Register, v, x, Part, Place, registers, stack, copy, copyOnStack, State, Passing, passing}
-use Rattle.aapcs64.specs.Told.{stateOf, partsOf, copyOf, placeOf, passingOf, told, toldPassed}
+use Rattle.aapcs64.specs.Reading.{stateOf, partsOf, copyOf, placeOf, passingOf, reads, readsPassed}
 
 -- ---- reading back
 
@@ -78,8 +78,8 @@ left-back i f hi hf =
     rw (a, b)
 
 module _ (before : Left) (i f : ℕ) (hi : i ≤ 8) (hf : f ≤ 8) (q : Passing) where
-  back : (pass : Pass) → AllKept (passSlots pass) → toldPassed before (passed pass (counts i f)) ≡ some q → passedFor q ≡ passed pass (counts i f)
-  unfolding told
+  back : (pass : Pass) → AllKept (passSlots pass) → readsPassed before (passed pass (counts i f)) ≡ some q → passedFor q ≡ passed pass (counts i f)
+  unfolding reads
   back ignore h e = absurd (let z : _≡_ {A = ℕ} 0 1 = cc in omega arith)
   back direct h e = absurd (let z : _≡_ {A = ℕ} 0 1 = cc in omega arith)
   back (pieces ss) h e =
@@ -96,7 +96,7 @@ module _ (before : Left) (i f : ℕ) (hi : i ≤ 8) (hf : f ≤ 8) (q : Passing)
       let z : q ≡ passing stack (stateOf (counts i f)) = cc in
       rw (z, left-back i f hi hf)
 
-  -- what is told has no mark
+  -- what reads in the standard's terms has no mark
   none-marked : (place : Option Place) (after : Left) → passingOf place after ≡ some q → after .«integers_only» ≡ no-mark
   none-marked none after e = absurd (let z : _≡_ {A = ℕ} 0 1 = cc in omega arith)
   none-marked (some place) after e = go (eqb (after .«integers_only») no-mark) refl e
@@ -105,12 +105,12 @@ module _ (before : Left) (i f : ℕ) (hi : i ≤ 8) (hf : f ≤ 8) (q : Passing)
       go true t y = eqb-true _ _ t
       go false t y = absurd (let z : _≡_ {A = ℕ} 0 1 = cc in omega arith)
 
-  told-unmarked : (p : Passed) → toldPassed before p ≡ some q → p .left .«integers_only» ≡ no-mark
-  unfolding told
-  told-unmarked p e = none-marked (placeOf (wayOf (p .pass)) before (passSlots (p .pass)) (p .left)) (p .left) e
+  reads-unmarked : (p : Passed) → readsPassed before p ≡ some q → p .left .«integers_only» ≡ no-mark
+  unfolding reads
+  reads-unmarked p e = none-marked (placeOf (wayOf (p .pass)) before (passSlots (p .pass)) (p .left)) (p .left) e
 
-pub told-back : (before : Left) (p : Passed) → AllKept (passSlots (p .pass)) → p .left .integer ≤ 8 → p .left .float ≤ 8 → (q : Passing)
-    → toldPassed before p ≡ some q → passedFor q ≡ p
-told-back before p h hi hf q e =
-    let m : p .left ≡ counts (p .left .integer) (p .left .float) = λ j. leaves (p .left .integer) (p .left .float) (told-unmarked before (p .left .integer) (p .left .float) hi hf q p e j) in
-    back before (p .left .integer) (p .left .float) hi hf q (p .pass) h (ap (λ (l : Left). toldPassed before (passed (p .pass) l)) (sym m) ∙ e) ∙ ap (passed (p .pass)) (sym m)
+pub reads-back : (before : Left) (p : Passed) → AllKept (passSlots (p .pass)) → p .left .integer ≤ 8 → p .left .float ≤ 8 → (q : Passing)
+    → readsPassed before p ≡ some q → passedFor q ≡ p
+reads-back before p h hi hf q e =
+    let m : p .left ≡ counts (p .left .integer) (p .left .float) = λ j. leaves (p .left .integer) (p .left .float) (reads-unmarked before (p .left .integer) (p .left .float) hi hf q p e j) in
+    back before (p .left .integer) (p .left .float) hi hf q (p .pass) h (ap (λ (l : Left). readsPassed before (passed (p .pass) l)) (sym m) ∙ e) ∙ ap (passed (p .pass)) (sym m)

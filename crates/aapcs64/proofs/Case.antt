@@ -11,7 +11,7 @@ use Rattle.shape.specs.declared.Shape.{Shape}
 use Rattle.abis.specs.Abis.{described}
 use Rattle.classify.specs.Classify.{Passed, counts, argument, returns}
 use Rattle.aapcs64.specs.Aapcs64.{state, Passing, parameter, Returning, result}
-use Rattle.aapcs64.specs.Told.{composite, mostNatural, toldPassed, toldReturned}
+use Rattle.aapcs64.specs.Reading.{composite, mostNatural, readsPassed, readsReturned}
 
 abbrev pub shaped : ℕ → ℕ → Shape
 shaped size align = record { size = size; align = align; complex = false; floating = false }
@@ -42,10 +42,10 @@ module _ (k : Case) where
 
   -- what `argument-is-aapcs64` and `returns-is-aapcs64` say of it, and what they ask beside the domain
   abbrev pub Same : Type 0
-  Same = toldPassed (counts (k .integers) (k .floats)) rowArgument ≡ some standardArgument
+  Same = readsPassed (counts (k .integers) (k .floats)) rowArgument ≡ some standardArgument
 
   abbrev pub SameResult : Type 0
-  SameResult = toldReturned (described 1 .«return_pointer») rowResult ≡ some standardResult
+  SameResult = readsReturned (described 1 .«return_pointer») rowResult ≡ some standardResult
 
   abbrev pub Allowed : Type 0
   Allowed = leb (k .natural) (mostNatural (k .shape) (k .pieces)) && leb (k .integers) 8 && leb (k .floats) 8 ≡ true

@@ -7,7 +7,8 @@ use mathlib.Core.Bool.{true}
 use lib.Dec.{leb}
 use Rattle.shape.specs.declared.Piece.{Piece}
 use Rattle.shape.specs.declared.Shape.{Shape}
-use Rattle.aapcs64.specs.Domain.{every, isUsual, inOrder, apart, Domain}
+use Rattle.shape.specs.Lists.{every}
+use Rattle.aapcs64.specs.Domain.{isUsual, inOrder, apart, Domain}
 
 pub record Enough (shape : Shape) (ps : List Piece) : Type 0 where
   pub some : 0 < shape .size

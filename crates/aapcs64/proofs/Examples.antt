@@ -6,6 +6,7 @@ use mathlib.Core.List.{[], _∷_}
 use mathlib.Core.Bool.{true}
 use Rattle.shape.specs.declared.Arg.the-variants as args
 use Rattle.shape.specs.declared.Scalar.{Scalar}
+use Rattle.shape.specs.Lists.{every, any}
 use Rattle.shape.specs.Numbers.{integer, single, double}
 use Rattle.shape.specs.Words.{piece, scalar}
 use Rattle.slots.specs.Words.{integerSlot, floatSlot}
@@ -21,8 +22,8 @@ use Rattle.classify.specs.Classify.{Passed, passed, counts, shortOf, slotsInReg
 use Rattle.classify.specs.Classify as classify
 use Rattle.aapcs64.specs.Aapcs64.{Fundamental, integral, floating, fundamental, v, x, part, registers, stack, copy, copyOnStack, state, Passing, passing, allOf, insert, addressable, count, isHfaOf, isHfa, memberParts, wordParts, stageC, parameter, comes, throughX8, Returning, returning, result}
 use Rattle.aapcs64.specs.Aapcs64 as precision
-use Rattle.aapcs64.specs.Told.{mostAlign, stateOf, partsOf, told, toldResult}
-use Rattle.aapcs64.specs.Domain.{every, any, inOrder, apart, furthest, below, Domain}
+use Rattle.aapcs64.specs.Reading.{mostAlign, stateOf, partsOf, reads, readsResult}
+use Rattle.aapcs64.specs.Domain.{inOrder, apart, furthest, below, Domain}
 use Rattle.aapcs64.proofs.Case.{Case, on, shaped, rowArgument, rowResult, standardArgument, standardResult, Same, SameResult, Allowed}
 use Rattle.aapcs64.proofs.Needed.{tests, all, tests-are-domain}
 
@@ -98,7 +99,7 @@ pub record Examples : Type 0 where
   pub large-without-x-is : Example large-without-x (passed reference (counts 0 8)) (passing copyOnStack (state 8 0)) (passed reference (counts 0 8)) (returning throughX8 (state 8 0))
 
 pub examples : Examples
-unfolding every any inOrder apart furthest below mostAlign argument returns described descriptions apply matches foundIf travel slotsInRegisters shortOf homogeneous isHomogeneous allSame floatsAt cut upTo floatsIn parameter stageC isHfa isHfaOf allOf count addressable insert memberParts wordParts result told toldResult partsOf
+unfolding every any inOrder apart furthest below mostAlign argument returns described descriptions apply matches foundIf travel slotsInRegisters shortOf homogeneous isHomogeneous allSame floatsAt cut upTo floatsIn parameter stageC isHfa isHfaOf allOf count addressable insert memberParts wordParts result reads readsResult partsOf
 examples =
     record {
       one-double-is = record { inside = refl; allowed = refl; row-is = refl; standard-is = refl; same = refl; row-result-is = refl; standard-result-is = refl; same-result = refl };

@@ -12,6 +12,7 @@ use borrow.Author.Tests.{eqb-true, eqb-false, eq-eqb, ne-eqb, leb-true, le-leb, 
 use Rattle.shape.proofs.Bools.{both-true}
 use Rattle.shape.specs.declared.Piece.{Piece}
 use Rattle.shape.specs.declared.Shape.{Shape}
+use Rattle.shape.specs.Lists.{every}
 use Rattle.shape.specs.Words.{piece}
 use Rattle.shape.specs.Questions.{isFloat}
 use Rattle.slots.specs.declared.Slot.{Slot}
@@ -19,8 +20,8 @@ use Rattle.slots.specs.Search.{found, nothing, floatsIn}
 use Rattle.find.specs.Find.{foundIf, floatsAt, allSame, isHomogeneous, homogeneous}
 use Rattle.find.proofs.Each.{length-at, floats-at}
 use Rattle.aapcs64.specs.Aapcs64.{Precision, single, double, bytesOf, Fundamental, integral, floating, sizeOf, Composite, isOf, allOf, insert, addressable, count, isHfaOf, isHfa, memberParts}
-use Rattle.aapcs64.specs.Told.{typeOf, memberOf, composite, formatBytes, partsOf}
-use Rattle.aapcs64.specs.Domain.{every, isUsual, end, inOrder, apart}
+use Rattle.aapcs64.specs.Reading.{typeOf, memberOf, composite, formatBytes, partsOf}
+use Rattle.aapcs64.specs.Domain.{isUsual, end, inOrder, apart}
 use Rattle.aapcs64.proofs.Enough.{Enough}
 
 -- ---- the pieces' scalars
@@ -49,19 +50,19 @@ usual p = go (p .kind) (p .size) (p .align)
 
 -- a kind stands for a floating-point type: of such pieces, those of the kind are of its size and alignment
 record Stands (kind : ℕ) (p : Precision) : Type 0 where
-  told : (k s a : ℕ) → Usual k s a → eqb k kind && eqb s (bytesOf p) && eqb a (bytesOf p) ≡ isOf p (typeOf k s)
+  tests : (k s a : ℕ) → Usual k s a → eqb k kind && eqb s (bytesOf p) && eqb a (bytesOf p) ≡ isOf p (typeOf k s)
   sized : (k s a : ℕ) → Usual k s a → isOf p (typeOf k s) ≡ true → s ≡ bytesOf p
   some : 0 < bytesOf p
   format : formatBytes kind ≡ bytesOf p
   float : isFloat kind ≡ true
 
 single-stands : Stands 1 single
-single-stands = record { told = told; sized = sized; some = omega arith; format = refl; float = refl }
+single-stands = record { tests = tests; sized = sized; some = omega arith; format = refl; float = refl }
   where
-    told : (k s a : ℕ) → Usual k s a → eqb k 1 && eqb s 4 && eqb a 4 ≡ isOf single (typeOf k s)
-    told k s a int = refl
-    told k s a singles = refl
-    told k s a doubles = refl
+    tests : (k s a : ℕ) → Usual k s a → eqb k 1 && eqb s 4 && eqb a 4 ≡ isOf single (typeOf k s)
+    tests k s a int = refl
+    tests k s a singles = refl
+    tests k s a doubles = refl
 
     sized : (k s a : ℕ) → Usual k s a → isOf single (typeOf k s) ≡ true → s ≡ 4
     sized k s a int e = absurd (let z : _≡_ {A = ℕ} 0 1 = cc in omega arith)
@@ -69,12 +70,12 @@ single-stands = record { told = told; sized = sized; some = omega arith; format 
     sized k s a doubles e = absurd (let z : _≡_ {A = ℕ} 0 1 = cc in omega arith)
 
 double-stands : Stands 2 double
-double-stands = record { told = told; sized = sized; some = omega arith; format = refl; float = refl }
+double-stands = record { tests = tests; sized = sized; some = omega arith; format = refl; float = refl }
   where
-    told : (k s a : ℕ) → Usual k s a → eqb k 2 && eqb s 8 && eqb a 8 ≡ isOf double (typeOf k s)
-    told k s a int = refl
-    told k s a singles = refl
-    told k s a doubles = refl
+    tests : (k s a : ℕ) → Usual k s a → eqb k 2 && eqb s 8 && eqb a 8 ≡ isOf double (typeOf k s)
+    tests k s a int = refl
+    tests k s a singles = refl
+    tests k s a doubles = refl
 
     sized : (k s a : ℕ) → Usual k s a → isOf double (typeOf k s) ≡ true → s ≡ 8
     sized k s a int e = absurd (let z : _≡_ {A = ℕ} 0 1 = cc in omega arith)
@@ -96,7 +97,7 @@ module _ (kind : ℕ) (p : Precision) (st : Stands kind p) where
   same-type o [] u = refl
   same-type o (q ∷ ps) u =
       let x = both-true (isUsual q) (every isUsual ps) u in
-      rw (st .told (q .kind) (q .size) (q .align) (usual q (x .0)), same-type o ps (x .1))
+      rw (st .tests (q .kind) (q .size) (q .align) (usual q (x .0)), same-type o ps (x .1))
 
   -- of two that follow one another, the second starts behind the first
   behind : (q r : Piece) → Usual (q .kind) (q .size) (q .align) → Usual (r .kind) (r .size) (r .align)

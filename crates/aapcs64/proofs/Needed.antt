@@ -12,6 +12,7 @@ use borrow.Author.Tests.{ltb-true, leb-true, eqb-true, eqb-false}
 use Rattle.shape.proofs.Bools.{both-true}
 use Rattle.shape.specs.declared.Piece.{Piece}
 use Rattle.shape.specs.declared.Shape.{Shape}
+use Rattle.shape.specs.Lists.{every, any}
 use Rattle.shape.specs.Numbers.{integer, single, x87-extended, quad}
 use Rattle.shape.specs.Words.{piece}
 use Rattle.slots.specs.Words.{integerSlot, floatSlot}
@@ -23,8 +24,8 @@ use Rattle.find.specs.Matches.{matches}
 use Rattle.classify.specs.Pass.{ignore, pieces}
 use Rattle.classify.specs.Classify.{Passed, passed, counts, shortOf, slotsInRegisters, travel, apply, argument}
 use Rattle.aapcs64.specs.Aapcs64.{Register, v, x, part, Place, registers, stack, copy, copyOnStack, state, Passing, passing, allOf, insert, addressable, count, isHfaOf, isHfa, memberParts, wordParts, stageC, parameter}
-use Rattle.aapcs64.specs.Told.{mostAlign, partsOf, told, toldPassed}
-use Rattle.aapcs64.specs.Domain.{every, any, isUsual, inOrder, apart, furthest, below, covered, Domain}
+use Rattle.aapcs64.specs.Reading.{mostAlign, partsOf, reads, readsPassed}
+use Rattle.aapcs64.specs.Domain.{isUsual, inOrder, apart, furthest, below, covered, Domain}
 use Rattle.aapcs64.proofs.Case.{Case, on, shaped, rowArgument, standardArgument, Same, Allowed}
 
 -- ---- the clauses as a list of tests, in the domain's order
@@ -99,12 +100,12 @@ pub record Differs (clause : ℕ) (k : Case) (row : Passed) (standard : Passing)
   pub allowed : Allowed k
   pub row-is : rowArgument k ≡ row
   pub standard-is : standardArgument k ≡ standard
-  pub differ : eqb (first (toldPassed (counts (k .integers) (k .floats)) row)) (first (some standard)) ≡ false
+  pub differ : eqb (first (readsPassed (counts (k .integers) (k .floats)) row)) (first (some standard)) ≡ false
 
 -- so the theorem would be false without that clause
 pub breaks : {clause : ℕ} {k : Case} {row : Passed} {standard : Passing} → Differs clause k row standard → Same k → ⊥
 breaks {k = k} {row = row} {standard = standard} d e =
-    let s : toldPassed (counts (k .integers) (k .floats)) row ≡ some standard = rw (d .row-is, d .standard-is) at e in
+    let s : readsPassed (counts (k .integers) (k .floats)) row ≡ some standard = rw (d .row-is, d .standard-is) at e in
     eqb-false _ _ (d .differ) (ap first s)
 
 -- size 0: the description leaves it out. The standard leaves nothing out: it goes in no register
@@ -150,7 +151,7 @@ pub record Needed : Type 0 where
   pub no-overlap : Differs 6 union (passed (pieces (integerSlot 0 4 ∷ [])) (counts 7 8)) (passing (registers (part (v 0) 0 4 ∷ [])) (state 0 1))
 
 pub needed : Needed
-unfolding every any inOrder apart furthest below mostAlign argument described descriptions apply matches foundIf travel slotsInRegisters shortOf homogeneous isHomogeneous allSame floatsAt cut upTo floatsIn parameter stageC isHfa isHfaOf allOf count addressable insert memberParts wordParts told partsOf
+unfolding every any inOrder apart furthest below mostAlign argument described descriptions apply matches foundIf travel slotsInRegisters shortOf homogeneous isHomogeneous allSame floatsAt cut upTo floatsIn parameter stageC isHfa isHfaOf allOf count addressable insert memberParts wordParts reads partsOf
 needed =
     record {
       some = record { only = refl; allowed = refl; row-is = refl; standard-is = refl; differ = refl };
@@ -195,7 +196,7 @@ pub record Unneeded : Type 0 where
   pub format : Alike 3 quads (passed (pieces (floatSlot quad 0 ∷ [])) (counts 8 7)) (passing (registers (part (v 0) 0 16 ∷ [])) (state 0 1))
 
 pub unneeded : Unneeded
-unfolding every any inOrder apart furthest below mostAlign argument described descriptions apply matches foundIf travel slotsInRegisters shortOf homogeneous isHomogeneous allSame floatsAt cut upTo floatsIn parameter stageC isHfa isHfaOf allOf count addressable insert memberParts wordParts told partsOf
+unfolding every any inOrder apart furthest below mostAlign argument described descriptions apply matches foundIf travel slotsInRegisters shortOf homogeneous isHomogeneous allSame floatsAt cut upTo floatsIn parameter stageC isHfa isHfaOf allOf count addressable insert memberParts wordParts reads partsOf
 unneeded =
     record {
       sizes = record { only = refl; allowed = refl; row-is = refl; standard-is = refl; same = refl };

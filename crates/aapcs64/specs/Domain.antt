@@ -6,15 +6,8 @@ use mathlib.Core.Bool.{Bool, true, false, _&&_, _||_}
 use lib.Dec.{leb, ltb, eqb}
 use Rattle.shape.specs.declared.Piece.{Piece}
 use Rattle.shape.specs.declared.Shape.{Shape}
+use Rattle.shape.specs.Lists.{every, any}
 use Rattle.shape.specs.Numbers.{integer, single, double}
-
-unfoldable pub every : (Piece → Bool) → List Piece → Bool
-every f [] = true
-every f (p ∷ ps) = f p && every f ps
-
-unfoldable pub any : (Piece → Bool) → List Piece → Bool
-any f [] = false
-any f (p ∷ ps) = f p || any f ps
 
 -- floats only Single, of size and alignment 4, and Double, of size and alignment 8
 abbrev pub isScalar : ℕ → ℕ → Piece → Bool

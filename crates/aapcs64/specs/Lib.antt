@@ -1,3 +1,3 @@
 pub mod Aapcs64
-pub mod Told
+pub mod Reading
 pub mod Domain

@@ -1,4 +1,3 @@
-pub mod Every
 pub mod Rows
 pub mod Lists
 pub mod Apart

@@ -7,7 +7,9 @@ use native.Mathlib.Nat.{le-of-suc-le-suc, not-suc-le-zero}
 use mathlib.Core.Bool.{_&&_}
 use lib.Dec.{T, leb}
 use lib.ListN.{length, getD, List·getD-map, List·getD-eq-default}
+use Rattle.shape.specs.Lists.{every}
 use Rattle.shape.proofs.Bools.{and-left, and-right}
+use Rattle.shape.proofs.Lists.{anywhere}
 use Rattle.describe.specs.Description.{Description, past, termsOf, othersOf}
 use Rattle.rows.specs.Row.{encode, decode, held, heldBanks, heldFormats, heldRules, heldTests, packed, listed, returnRule, argumentRule, termsFrom, othersFrom}
 use Rattle.rows.proofs.Inverse.{return-rule-back, argument-rule-back, terms-back, others-back, decode-back}
@@ -15,10 +17,9 @@ use Rattle.rows.proofs.Packed.{listed-packed, returns-packed, arguments-packed}
 use Rattle.abis.specs.declared.Brief.{Brief}
 use Rattle.abis.specs.Abis.{described, descriptions, blank, description-count}
 use Rattle.abis.specs.Brief.{briefOf, briefFrom}
-use Rattle.abis.proofs.Every.{anywhere}
 
 pub fits : (d : ℕ) → T (held (described d))
-unfolding described descriptions held
+unfolding every described descriptions held
 fits = anywhere held descriptions blank tt tt
 
 pub return-rule : (d i : ℕ) → returnRule (encode (described d)) i ≡ getD (described d .returns) i past

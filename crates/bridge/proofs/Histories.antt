@@ -7,9 +7,10 @@ use contract.Lifetimes.{Lfts}
 use denote.Ref.{RefT, now}
 use denote.Triple.Clauses.{AtExit}
 use lib.ListN.{take}
+use Rattle.abis.specs.Abis.{description-count}
 use Rattle.classify.specs.declared.Call.{Call}
 use Rattle.classify.specs.declared.Answer.{Answer}
-use Rattle.classify.specs.Answers.{descriptions, freshAnswer}
+use Rattle.classify.specs.Answers.{freshAnswer}
 use Rattle.ledger.specs.Ledger as values
 use Rattle.ledger.specs.Ledger.{answerFor, answersFrom, history, Ledger}
 use Rattle.ledger.specs.Performed.{Started}
@@ -92,7 +93,7 @@ started-is d a p = p .1 .1
 
 -- any description, any operations in any order, refused ones among them, on one lent call that starts fresh: the outcomes and the calls are those of
 -- a history of the value form, and its ledger holds after any number of them
-pub ledger-lent : (d : ℕ) → d < descriptions → (first : Answer) → Started d first → (ops : List Operation) (past : List After)
+pub ledger-lent : (d : ℕ) → d < description-count → (first : Answer) → Started d first → (ops : List Operation) (past : List After)
     → AllLent (first .next) ops past
     → (past ≡ history d (map operationOf ops)) × ((n : ℕ) → Ledger d (take n (history d (map operationOf ops))))
 ledger-lent d known first s ops past p =

@@ -20,6 +20,11 @@ abbrev pub orElse : ℕ → ℕ → ℕ
 orElse zero rest = rest
 orElse (suc n) rest = suc n
 
+-- the buffer with what is written, or as it was where there is a refusal
+abbrev pub unlessRefused : ℕ → List ℕ → List ℕ → List ℕ
+unlessRefused zero new old = new
+unlessRefused (suc n) new old = old
+
 -- a scalar, by kind, size, alignment
 unfoldable pub scalarRefusal : Scalar → ℕ
 scalarRefusal s =

@@ -12,6 +12,7 @@ use Rattle.shape.proofs.Bools.{both-false}
 use Rattle.shape.specs.declared.Arg.{Arg}
 use Rattle.shape.specs.Numbers.{accepted}
 use Rattle.checks.proofs.Accepted.{refuse-none, else-none}
+use Rattle.checks.specs.Check.{unlessRefused}
 use Rattle.slots.specs.Words.{slotSize, written}
 use Rattle.describe.specs.Description.{Description, termsOf}
 use Rattle.spend.specs.declared.Spent.{Spent}
@@ -20,7 +21,7 @@ use Rattle.classify.specs.declared.Call.{Call}
 use Rattle.classify.specs.declared.Answer.{Answer}
 use Rattle.classify.specs.Pass.{passSlots}
 use Rattle.classify.specs.Classify.{Passed, isIntegersOnly}
-use Rattle.classify.specs.Answers.{isBadLeft, leftRefusal, argRefusal, checked, callRefusalBy, refusalBy, refused, acceptedAnswer, orAnswer, unlessRefused, wholeRefusal, answerTo, writtenTo}
+use Rattle.classify.specs.Answers.{isBadLeft, leftRefusal, argRefusal, checked, callRefusalBy, refusalBy, refused, acceptedAnswer, orAnswer, wholeRefusal, answerTo, writtenTo}
 
 -- ---- an answer
 

@@ -10,6 +10,8 @@ use native.Mathlib.Nat.{div-lt-iff-lt-mul}
 use borrow.Author.Tests.{leb-true, eqb-true}
 use lib.Dec.{T, eqb, leb, ltb, leb→le}
 use lib.ListN.{length}
+use Rattle.shape.specs.Lists.{every}
+use Rattle.shape.proofs.Lists.{anywhere}
 use Rattle.shape.proofs.Bools.{both-true, and-left, and-right}
 use Rattle.shape.specs.declared.Arg as args
 use Rattle.shape.specs.declared.Piece.{Piece}
@@ -36,7 +38,6 @@ use Rattle.describe.specs.declared.Variadic.the-variants.{SameAsFixed, AlwaysMe
 use Rattle.describe.specs.Description.{Description, termsOf}
 use Rattle.describe.specs.Questions.{isByReference, returnsByReference}
 use Rattle.abis.specs.Abis.{described, descriptions, blank}
-use Rattle.abis.proofs.Every.{every, anywhere}
 use Rattle.find.specs.Find.{foundIf, complexFloat}
 use Rattle.find.proofs.Finds.{homogeneous-few, pair-few, x87-few, lone-one, mode-slots, complex-slots}
 use Rattle.eightbytes.proofs.Found.{at-most}
@@ -259,7 +260,7 @@ module _ (D : Description) (left : Left) (shape : Shape) (ps : List Piece) (retu
       go false = travel-few left rest later D shape ps returning fits (rule .then) (rule .when) (rule .short) ss e t
 
   apply-few : (rules : List Rule) → T (every (fewRule (D .banks) returning) rules) → slotCount (apply D left rules shape ps returning) ≤ 8
-  unfolding apply
+  unfolding apply every
   apply-few [] t = omega arith
   apply-few (rule ∷ rules) t =
       tried-few rule (apply D left rules shape ps returning)
@@ -290,7 +291,7 @@ abbrev few : Description → Bool
 few D = fewReturns D && (fewArguments D && fewScalars D)
 
 all-few : (d : ℕ) → T (few (described d))
-unfolding described descriptions
+unfolding every described descriptions
 all-few = anywhere few descriptions blank tt tt
 
 wide : (D : Description) → T (fewScalars D) → marks (D .variadic) ≡ true → 8 ≤ D .banks .«integer_width»

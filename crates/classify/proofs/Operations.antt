@@ -14,7 +14,7 @@ use Rattle.shape.specs.declared.Piece.{Piece}
 use Rattle.shape.specs.Numbers.{accepted, bad-abi, integer}
 use Rattle.shape.specs.Questions.{isFloat}
 use Rattle.shape.specs.Words.{piecesOf}
-use Rattle.checks.specs.Check.{orElse}
+use Rattle.checks.specs.Check.{orElse, unlessRefused}
 use Rattle.slots.specs.Words.{slotSize, written}
 use Rattle.describe.specs.declared.Banks.{Banks}
 use Rattle.describe.specs.declared.Dots.{Dots}
@@ -31,7 +31,7 @@ use Rattle.describe.specs.Dots.{dotsOf, asFixed}
 use Rattle.rows.specs.Row.{listed}
 use Rattle.describe.specs.Questions.{isByReference, returnsByReference}
 use Rattle.abis.specs.declared.Brief.{Brief}
-use Rattle.abis.specs.Abis.{described}
+use Rattle.abis.specs.Abis.{described, description-count}
 use Rattle.abis.specs.Brief.{briefOf}
 use Rattle.abis.proofs.Rows.{returns-listed, arguments-listed}
 use Rattle.abis.proofs.Lists.{returns-end, arguments-end}
@@ -53,7 +53,7 @@ use Rattle.classify.specs.Pass as pass
 use Rattle.classify.specs.Classify as rust
 use Rattle.classify.specs.Classify.{Passed}
 use Rattle.classify.specs.Spending as rules
-use Rattle.classify.specs.Answers.{descriptions, leftRefusal, argRefusal, checked, callRefusalBy, refusalBy, rowRefusal, refused, done, orAnswer, unlessRefused, answerTo, writtenTo, Leaves, voidAnswerBy, voidAnswer, returnsAnswerBy, returnsWrittenBy, argumentAnswerBy, argumentWrittenBy, variadicArgumentAnswerBy, variadicArgumentWrittenBy, returnsAnswer, returnsWritten, argumentAnswer, argumentWritten, variadicArgumentAnswer, variadicArgumentWritten, Returns, Passes, PassesVariadic}
+use Rattle.classify.specs.Answers.{leftRefusal, argRefusal, checked, callRefusalBy, refusalBy, rowRefusal, refused, done, orAnswer, answerTo, writtenTo, Leaves, voidAnswerBy, voidAnswer, returnsAnswerBy, returnsWrittenBy, argumentAnswerBy, argumentWrittenBy, variadicArgumentAnswerBy, variadicArgumentWrittenBy, returnsAnswer, returnsWritten, argumentAnswer, argumentWritten, variadicArgumentAnswer, variadicArgumentWritten, Returns, Passes, PassesVariadic}
 use Rattle.classify.specs.Parts as parts
 use Rattle.classify.proofs.Accepted.{sound, call-checked, unmarked}
 use Rattle.classify.proofs.Steps.{row-there, row-missing, or-refused}
@@ -111,7 +111,7 @@ module _ (abi : ℕ) (b : Brief) (eb : b ≡ briefOf (described abi)) where
   list-is true list e = rw (e, eb) (returns-listed abi)
   list-is false list e = rw (e, eb) (arguments-listed abi)
 
-  pub list-ends : abi < descriptions → (returning : Bool) (list : Rules) → list ≡ parts.listFor returning b → Ends (listed list)
+  pub list-ends : abi < description-count → (returning : Bool) (list : Rules) → list ≡ parts.listFor returning b → Ends (listed list)
   list-ends h returning list e = rw (list-is returning list e) (ends returning)
     where
       ends : (x : Bool) → Ends (parts.rulesFor x (described abi))
@@ -203,11 +203,11 @@ kept zero new out h = absurd (h refl)
 kept (suc k) new out h = refl
 
 module _ (returning variadic-argument : Bool) (c : Call) (arg : args.Arg) (ws out : List ℕ) (r : Answer) where
-  pub row-missing-refused : descriptions ≤ c .abi → r ≡ refused c bad-abi → parts.OnRow returning variadic-argument c arg ws out r out
+  pub row-missing-refused : description-count ≤ c .abi → r ≡ refused c bad-abi → parts.OnRow returning variadic-argument c arg ws out r out
   unfolding parts.performedBy parts.performedByIn
   row-missing-refused h er = record { answers = rw (er, row-missing (c .abi) h); writes = rw (row-missing (c .abi) h) }
 
-  module _ (h : c .abi < descriptions) (b : Brief) (eb : b ≡ briefOf (described (c .abi))) (n : ℕ) (en : n ≡ checked (b .terms) (c .left) arg ws) where
+  module _ (h : c .abi < description-count) (b : Brief) (eb : b ≡ briefOf (described (c .abi))) (n : ℕ) (en : n ≡ checked (b .terms) (c .left) arg ws) where
     checks : n ≡ checked (termsOf (described (c .abi))) (c .left) arg ws
     checks = rw eb at en
 
@@ -230,7 +230,7 @@ module _ (returning variadic-argument : Bool) (c : Call) (arg : args.Arg) (ws ou
       row-aggregate list el e = by-row (listed list) (list-is (c .abi) b′ eb′ returning list el) e
 
 -- a scalar's rules are no list's, and its terms are those that the checks looked at
-pub row-scalar : (returning variadic-argument : Bool) (c : Call) (s : Scalar) (out : List ℕ) (r : Answer) → c .abi < descriptions
+pub row-scalar : (returning variadic-argument : Bool) (c : Call) (s : Scalar) (out : List ℕ) (r : Answer) → c .abi < description-count
     → (b : Brief) → b ≡ briefOf (described (c .abi)) → (n : ℕ) → n ≡ checked (b .terms) (c .left) (parts.scalarArg s) [] → n ≡ accepted
     → (dots : Dots) → dots ≡ parts.dotsFor variadic-argument (b .terms .variadic) → (after : List ℕ)
     → parts.By (b .terms) [] returning dots c (parts.scalarArg s) [] out r after

@@ -23,7 +23,7 @@ use Rattle.describe.specs.Description.{termsOf}
 use Rattle.describe.specs.Dots.{dotsOf}
 use Rattle.rows.specs.Row.{listed}
 use Rattle.abis.specs.declared.Brief.{Brief}
-use Rattle.abis.specs.Abis.{described}
+use Rattle.abis.specs.Abis.{described, description-count}
 use Rattle.abis.specs.Brief.{briefOf}
 use Rattle.abis.proofs.Rows.{arguments-listed}
 use Rattle.spend.specs.declared.Left.{Left}
@@ -38,16 +38,16 @@ use Rattle.classify.specs.declared.Answer.{Answer}
 use Rattle.classify.specs.declared.InMemory.{InMemory}
 use Rattle.classify.specs.declared.Decided.{Decided}
 use Rattle.classify.specs.Classify.{isIntegersOnly}
-use Rattle.classify.specs.Answers.{descriptions, callWith, unmarked, leftRefusal, argRefusal, checked, callRefusalBy, refusalBy, rowRefusal, refused, done, orAnswer, freshAnswer, variadicAnswerBy, variadicAnswer, voidAnswerBy, voidAnswer, orAlign, inMemoryAnswerBy, inMemoryAnswer}
+use Rattle.classify.specs.Answers.{callWith, unmarked, leftRefusal, argRefusal, checked, callRefusalBy, refusalBy, rowRefusal, refused, done, orAnswer, freshAnswer, variadicAnswerBy, variadicAnswer, voidAnswerBy, voidAnswer, orAlign, inMemoryAnswerBy, inMemoryAnswer}
 use Rattle.classify.specs.Parts as parts
 
 -- ---- a row
 
-pub row-there : (abi : ℕ) → abi < descriptions → rowRefusal abi ≡ accepted
+pub row-there : (abi : ℕ) → abi < description-count → rowRefusal abi ≡ accepted
 unfolding rowRefusal
 row-there abi h = rw (lt-leb _ _ h)
 
-pub row-missing : (abi : ℕ) → descriptions ≤ abi → rowRefusal abi ≡ bad-abi
+pub row-missing : (abi : ℕ) → description-count ≤ abi → rowRefusal abi ≡ bad-abi
 unfolding rowRefusal
 row-missing abi h = rw (le-leb _ _ h)
 
@@ -100,11 +100,11 @@ module _ (T : Terms) (left : Left) (r : ℕ) (er : r ≡ leftRefusal T left) whe
 
 -- ---- fresh, the mark and void
 
-pub fresh-refused : (abi : ℕ) → descriptions ≤ abi → (c : Call) → c ≡ unmarked 0 0 0 → (r : Answer) → r ≡ refused c bad-abi → r ≡ freshAnswer abi
+pub fresh-refused : (abi : ℕ) → description-count ≤ abi → (c : Call) → c ≡ unmarked 0 0 0 → (r : Answer) → r ≡ refused c bad-abi → r ≡ freshAnswer abi
 unfolding freshAnswer
 fresh-refused abi h c ec r er = rw (er, ec, le-leb _ _ h)
 
-pub fresh-done : (abi : ℕ) → abi < descriptions → (b : Brief) → b ≡ briefOf (described abi) → (c : Call) → c ≡ unmarked abi (b .terms .banks .integer) (b .terms .banks .float)
+pub fresh-done : (abi : ℕ) → abi < description-count → (b : Brief) → b ≡ briefOf (described abi) → (c : Call) → c ≡ unmarked abi (b .terms .banks .integer) (b .terms .banks .float)
     → (r : Answer) → r ≡ done c → r ≡ freshAnswer abi
 unfolding freshAnswer
 fresh-done abi h b eb c ec r er = rw (er, ec, eb, lt-leb _ _ h)
@@ -114,33 +114,33 @@ or-refused zero c rest h = absurd (h refl)
 or-refused (suc n) c rest h = refl
 
 module _ (c : Call) (r : Answer) where
-  pub mark-missing : descriptions ≤ c .abi → r ≡ refused c bad-abi → r ≡ variadicAnswer c
+  pub mark-missing : description-count ≤ c .abi → r ≡ refused c bad-abi → r ≡ variadicAnswer c
   unfolding variadicAnswer variadicAnswerBy callRefusalBy
   mark-missing h er = rw (er, row-missing (c .abi) h)
 
-  pub void-missing : descriptions ≤ c .abi → r ≡ refused c bad-abi → r ≡ voidAnswer c
+  pub void-missing : description-count ≤ c .abi → r ≡ refused c bad-abi → r ≡ voidAnswer c
   unfolding voidAnswer voidAnswerBy callRefusalBy
   void-missing h er = rw (er, row-missing (c .abi) h)
 
-  module _ (h : c .abi < descriptions) (b : Brief) (eb : b ≡ briefOf (described (c .abi))) (n : ℕ) (en : n ≡ leftRefusal (b .terms) (c .left)) where
-    told : n ≡ leftRefusal (termsOf (described (c .abi))) (c .left)
-    told = rw eb at en
+  module _ (h : c .abi < description-count) (b : Brief) (eb : b ≡ briefOf (described (c .abi))) (n : ℕ) (en : n ≡ leftRefusal (b .terms) (c .left)) where
+    refusal-is : n ≡ leftRefusal (termsOf (described (c .abi))) (c .left)
+    refusal-is = rw eb at en
 
     pub mark-refused : (n ≡ accepted → ⊥) → r ≡ refused c n → r ≡ variadicAnswer c
     unfolding variadicAnswer variadicAnswerBy callRefusalBy
-    mark-refused z er = rw (er, row-there (c .abi) h, ← told) (or-refused n c _ z)
+    mark-refused z er = rw (er, row-there (c .abi) h, ← refusal-is) (or-refused n c _ z)
 
     pub mark-done : n ≡ accepted → (left : Left) → left ≡ parts.markedBy (b .terms .variadic) (c .left) → r ≡ done (callWith (c .abi) left) → r ≡ variadicAnswer c
     unfolding variadicAnswer variadicAnswerBy callRefusalBy
-    mark-done z left el er = rw (er, el, eb, row-there (c .abi) h, mark-is, ← told, z)
+    mark-done z left el er = rw (er, el, eb, row-there (c .abi) h, mark-is, ← refusal-is, z)
 
     pub void-refused : (n ≡ accepted → ⊥) → r ≡ refused c n → r ≡ voidAnswer c
     unfolding voidAnswer voidAnswerBy callRefusalBy
-    void-refused z er = rw (er, row-there (c .abi) h, ← told) (or-refused n c _ z)
+    void-refused z er = rw (er, row-there (c .abi) h, ← refusal-is) (or-refused n c _ z)
 
     pub void-done : n ≡ accepted → r ≡ done c → r ≡ voidAnswer c
     unfolding voidAnswer voidAnswerBy callRefusalBy
-    void-done z er = rw (er, row-there (c .abi) h, ← told, z)
+    void-done z er = rw (er, row-there (c .abi) h, ← refusal-is, z)
 
 module _ (v : Variadic) (left : Left) (dots : Dots) (ed : dots ≡ dotsOf v) where
   pub marks : dots .mark ≡ true → (r : Left) → r ≡ withMark left → r ≡ parts.markedBy v left
@@ -186,11 +186,11 @@ or-unaligned zero align h = absurd (h refl)
 or-unaligned (suc n) align h = refl
 
 module _ (c : Call) (shape : Shape) (ws : List ℕ) where
-  pub memory-missing : descriptions ≤ c .abi → _≡_ {A = InMemory} (record { refusal = bad-abi; align = 0 }) (inMemoryAnswer c shape ws)
+  pub memory-missing : description-count ≤ c .abi → _≡_ {A = InMemory} (record { refusal = bad-abi; align = 0 }) (inMemoryAnswer c shape ws)
   unfolding inMemoryAnswer inMemoryAnswerBy refusalBy
   memory-missing h = rw (row-missing (c .abi) h)
 
-  module _ (h : c .abi < descriptions) (b : Brief) (eb : b ≡ briefOf (described (c .abi))) (n : ℕ) (en : n ≡ checked (b .terms) (c .left) (parts.aggregateArg shape) ws) where
+  module _ (h : c .abi < description-count) (b : Brief) (eb : b ≡ briefOf (described (c .abi))) (n : ℕ) (en : n ≡ checked (b .terms) (c .left) (parts.aggregateArg shape) ws) where
     checks : n ≡ checked (termsOf (described (c .abi))) (c .left) (parts.aggregateArg shape) ws
     checks = rw eb at en
 

@@ -12,7 +12,7 @@ use Rattle.shape.specs.declared.Arg as args
 use Rattle.shape.specs.declared.Shape.{Shape}
 use Rattle.shape.specs.Numbers.{accepted, bad-abi, bad-call, no-room}
 use Rattle.shape.specs.Words.{piecesOf}
-use Rattle.checks.specs.Check.{refuse, orElse, scalarRefusal, shapeRefusal}
+use Rattle.checks.specs.Check.{refuse, orElse, unlessRefused, scalarRefusal, shapeRefusal}
 use Rattle.slots.specs.Words.{slotSize, written}
 use Rattle.describe.specs.declared.Terms.{Terms}
 use Rattle.describe.specs.Description.{Description, termsOf}
@@ -29,9 +29,6 @@ use Rattle.classify.specs.declared.InMemory.{InMemory}
 use Rattle.classify.specs.Pass.{wayOf, passSlots}
 use Rattle.classify.specs.Classify.{Passed, counts, call, variadic, isIntegersOnly, returns, argument, variadicArgument}
 use Rattle.classify.specs.Spending.{returnChoice, argumentChoice, variadicArgumentChoice}
-
-abbrev pub descriptions : ℕ
-descriptions = description-count
 
 -- ---- calls
 
@@ -71,7 +68,7 @@ refusalBy source D c arg ws = orElse source (checked (termsOf D) (c .left) arg w
 
 -- BAD_ABI where no row has the number
 unfoldable pub rowRefusal : ℕ → ℕ
-rowRefusal abi = refuse (leb descriptions abi) bad-abi accepted
+rowRefusal abi = refuse (leb description-count abi) bad-abi accepted
 
 unfoldable pub callRefusal : Call → ℕ
 callRefusal c = callRefusalBy (rowRefusal (c .abi)) (described (c .abi)) c
@@ -101,14 +98,10 @@ done c = answered c accepted ways.the-variants.Ignore made.nothing 0
 abbrev pub acceptedAnswer : Call → Passed → Spent → Answer
 acceptedAnswer c p spent = answered (callWith (c .abi) (p .left)) accepted (wayOf (p .pass)) spent (length (passSlots (p .pass)))
 
--- the refusal, if there is one, or the answer; and the buffer as it was, or with what is written
+-- the refusal, if there is one, or the answer
 abbrev pub orAnswer : ℕ → Call → Answer → Answer
 orAnswer zero c rest = rest
 orAnswer (suc n) c rest = refused c (suc n)
-
-abbrev pub unlessRefused : ℕ → List ℕ → List ℕ → List ℕ
-unlessRefused zero new old = new
-unlessRefused (suc n) new old = old
 
 -- the refusal of an operation that its checks refuse so: NO_ROOM is judged by the slots that the value travels in
 abbrev pub wholeRefusal : ℕ → Passed → List ℕ → ℕ
@@ -168,7 +161,7 @@ inMemoryAnswerBy source D c shape ws = orAlign (refusalBy source D c (args.the-v
 
 -- a fresh call: all zeros where it is refused
 unfoldable pub freshAnswer : ℕ → Answer
-freshAnswer abi = cond (leb descriptions abi) (refused (unmarked 0 0 0) bad-abi) (done (callWith abi (call (described abi))))
+freshAnswer abi = cond (leb description-count abi) (refused (unmarked 0 0 0) bad-abi) (done (callWith abi (call (described abi))))
 
 unfoldable pub variadicAnswer : Call → Answer
 variadicAnswer c = variadicAnswerBy (rowRefusal (c .abi)) (described (c .abi)) c

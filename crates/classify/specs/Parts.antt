@@ -9,7 +9,7 @@ use Rattle.shape.specs.declared.Scalar.{Scalar}
 use Rattle.shape.specs.declared.Shape.{Shape}
 use Rattle.shape.specs.Numbers as numbers
 use Rattle.shape.specs.Words.{piecesOf}
-use Rattle.checks.specs.Check.{orElse}
+use Rattle.checks.specs.Check.{orElse, unlessRefused}
 use Rattle.slots.specs.Words.{written}
 use Rattle.describe.specs.declared.Dots.{Dots}
 use Rattle.describe.specs.declared.Rule.{Rule}
@@ -30,7 +30,7 @@ use Rattle.classify.specs.declared.Call.{Call}
 use Rattle.classify.specs.declared.Answer.{Answer}
 use Rattle.classify.specs.declared.Decided.{Decided}
 use Rattle.classify.specs.Spending.{Chosen, byRules, freely, aggregateBy, choice}
-use Rattle.classify.specs.Answers.{callWith, checked, rowRefusal, roomRefusal, answered, orAnswer, unlessRefused, Leaves}
+use Rattle.classify.specs.Answers.{callWith, checked, rowRefusal, roomRefusal, answered, orAnswer, Leaves}
 
 abbrev pub scalarArg : Scalar → args.Arg
 scalarArg s = args.the-variants.Scalar s

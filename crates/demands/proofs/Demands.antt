@@ -45,7 +45,7 @@ use Rattle.psabi.proofs.Answers as row-0
 use Rattle.psabi.proofs.Answers.{Says}
 use Rattle.aapcs64.specs.Domain as aapcs64
 use Rattle.aapcs64.specs.Aapcs64.{parameter, result}
-use Rattle.aapcs64.specs.Told.{mostNatural, stateOf, told, toldResult, composite}
+use Rattle.aapcs64.specs.Reading.{mostNatural, stateOf, reads, readsResult, composite}
 use Rattle.aapcs64.proofs.Answered as row-1
 use Rattle.ledger.proofs.Ledger.{ledger}
 use Rattle.ledger.proofs.Performed.{ledger-performed}
@@ -126,13 +126,13 @@ pub result-is-psabi : (c : Call) (shape : Shape) (words out : List ℕ) → c .a
     (psabiResult (freeAt c) (shape .size) (piecesOf words))
 result-is-psabi c shape words out e d h = row-0.result-says c shape words out e d h
 
--- description 1 equals AAPCS64 on its domain, for every natural alignment that the shape's and its pieces' alignments allow: `told` reads the
+-- description 1 equals AAPCS64 on its domain, for every natural alignment that the shape's and its pieces' alignments allow: `reads` reads the
 -- answer in the standard's words, x and v registers by number, and the counts left as NGRN and NSRN
 pub argument-is-aapcs64 : (c : Call) → c .abi ≡ 1 → (shape : Shape) (words out : List ℕ) → aapcs64.Domain shape (piecesOf words)
     → (natural : ℕ) → natural ≤ mostNatural shape (piecesOf words) → argumentAnswer c (Aggregate shape) words out .outcome .refusal ≡ accepted
     → row-1.Answers (argumentAnswer c (Aggregate shape) words out) out (argumentWritten c (Aggregate shape) words out)
     (λ (slots : List Slot).
-    told (c .left) (wayFrom (argumentAnswer c (Aggregate shape) words out .outcome .way)) slots (argumentAnswer c (Aggregate shape) words out .next .left)
+    reads (c .left) (wayFrom (argumentAnswer c (Aggregate shape) words out .outcome .way)) slots (argumentAnswer c (Aggregate shape) words out .next .left)
     ≡ some (parameter (stateOf (c .left)) (composite natural shape (piecesOf words))))
 argument-is-aapcs64 c e shape words out d natural n h = row-1.argument-answered c e shape words out d natural n h
 
@@ -140,7 +140,7 @@ pub result-is-aapcs64 : (c : Call) → c .abi ≡ 1 → (shape : Shape) (words o
     → (natural : ℕ) → natural ≤ mostNatural shape (piecesOf words) → returnsAnswer c (Aggregate shape) words out .outcome .refusal ≡ accepted
     → row-1.Answers (returnsAnswer c (Aggregate shape) words out) out (returnsWritten c (Aggregate shape) words out)
     (λ (slots : List Slot).
-    toldResult (described 1 .«return_pointer») (wayFrom (returnsAnswer c (Aggregate shape) words out .outcome .way)) slots (returnsAnswer c (Aggregate shape) words out .next .left)
+    readsResult (described 1 .«return_pointer») (wayFrom (returnsAnswer c (Aggregate shape) words out .outcome .way)) slots (returnsAnswer c (Aggregate shape) words out .next .left)
     ≡ some (result (stateOf (c .left)) (composite natural shape (piecesOf words))))
 result-is-aapcs64 c e shape words out d natural n h = row-1.returns-answered c e shape words out d natural n h
 

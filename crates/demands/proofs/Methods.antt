@@ -23,7 +23,7 @@ use Rattle.psabi.specs.Reading.{freeAt, results}
 use Rattle.psabi.proofs.Answers as row-0
 use Rattle.aapcs64.specs.Domain as aapcs64
 use Rattle.aapcs64.specs.Aapcs64.{parameter, result}
-use Rattle.aapcs64.specs.Told.{mostNatural, stateOf, told, toldResult, composite}
+use Rattle.aapcs64.specs.Reading.{mostNatural, stateOf, reads, readsResult, composite}
 use Rattle.aapcs64.proofs.Answered as row-1
 use Rattle.demands.specs.Methods.{Answers}
 
@@ -47,7 +47,7 @@ module _ (κs : Lfts 2) (c : Call) (shape : Shape) (words out : RefT (List ℕ))
         → Answers (call-argument.Post κs) (λ s. now (s .1 .1 .1 .0)) (c, (Aggregate shape, (words, (out, tt))))
         (λ (a : Answer) (after : List ℕ). a .outcome .refusal ≡ accepted
         → row-1.Answers a (now out) after
-        (λ (slots : List Slot). told (c .left) (wayFrom (a .outcome .way)) slots (a .next .left) ≡ some (parameter (stateOf (c .left)) (composite natural shape (piecesOf (now words))))))
+        (λ (slots : List Slot). reads (c .left) (wayFrom (a .outcome .way)) slots (a .next .left) ≡ some (parameter (stateOf (c .left)) (composite natural shape (piecesOf (now words))))))
     argument-method-is-aapcs64 e d a s p ok =
         rw (p .answers, p .writes) (row-1.argument-answered c e shape (now words) (now out) d natural n (rw (p .answers) at ok))
 
@@ -55,6 +55,6 @@ module _ (κs : Lfts 2) (c : Call) (shape : Shape) (words out : RefT (List ℕ))
         → Answers (call-returns.Post κs) (λ s. now (s .1 .1 .1 .0)) (c, (Aggregate shape, (words, (out, tt))))
         (λ (a : Answer) (after : List ℕ). a .outcome .refusal ≡ accepted
         → row-1.Answers a (now out) after
-        (λ (slots : List Slot). toldResult (described 1 .«return_pointer») (wayFrom (a .outcome .way)) slots (a .next .left) ≡ some (result (stateOf (c .left)) (composite natural shape (piecesOf (now words))))))
+        (λ (slots : List Slot). readsResult (described 1 .«return_pointer») (wayFrom (a .outcome .way)) slots (a .next .left) ≡ some (result (stateOf (c .left)) (composite natural shape (piecesOf (now words))))))
     result-method-is-aapcs64 e d a s p ok =
         rw (p .answers, p .writes) (row-1.returns-answered c e shape (now words) (now out) d natural n (rw (p .answers) at ok))

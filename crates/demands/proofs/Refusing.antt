@@ -13,7 +13,7 @@ use Rattle.shape.specs.declared.Scalar.{Scalar}
 use Rattle.shape.specs.declared.Shape.{Shape}
 use Rattle.shape.specs.Numbers.{quad, accepted, bad-abi, bad-call, bad-list, bad-kind, bad-size, bad-align, no-room, most-size, most-offset, most-align, most-pieces}
 use Rattle.shape.specs.Words.{piecesOf}
-use Rattle.abis.specs.Abis.{described}
+use Rattle.abis.specs.Abis.{described, description-count}
 use Rattle.checks.specs.Check.{refuse, orElse, scalarRefusal, pieceRefusal, piecesRefusal, listRefusal, shapeRefusal}
 use Rattle.slots.specs.Words.{slotSize}
 use Rattle.describe.specs.declared.Terms.{Terms}
@@ -24,7 +24,7 @@ use Rattle.classify.specs.declared.Call.{Call}
 use Rattle.classify.specs.declared.Answer.{Answer}
 use Rattle.classify.specs.Pass.{passSlots}
 use Rattle.classify.specs.Classify.{Passed}
-use Rattle.classify.specs.Answers.{descriptions, isBadLeft, leftRefusal, argRefusal, checked, callRefusalBy, refusalBy, rowRefusal, refusalOf, refused, done, orAnswer, answerTo, writtenTo, variadicAnswerBy, returnsAnswerBy, returnsWrittenBy, argumentAnswerBy, argumentWrittenBy, variadicArgumentAnswerBy, variadicArgumentWrittenBy, variadicAnswer, returnsAnswer, returnsWritten, argumentAnswer, argumentWritten, variadicArgumentAnswer, variadicArgumentWritten}
+use Rattle.classify.specs.Answers.{isBadLeft, leftRefusal, argRefusal, checked, callRefusalBy, refusalBy, rowRefusal, refusalOf, refused, done, orAnswer, answerTo, writtenTo, variadicAnswerBy, returnsAnswerBy, returnsWrittenBy, argumentAnswerBy, argumentWrittenBy, variadicArgumentAnswerBy, variadicArgumentWrittenBy, variadicAnswer, returnsAnswer, returnsWritten, argumentAnswer, argumentWritten, variadicArgumentAnswer, variadicArgumentWritten}
 use Rattle.classify.proofs.Accepted.{by-cases}
 use Rattle.demands.specs.Refusals.{Refused}
 
@@ -85,7 +85,7 @@ left-few T left = refuse-few (isBadLeft T left) bad-call accepted (omega arith) 
 
 row-few : (abi : ℕ) → rowRefusal abi ≤ 7
 unfolding rowRefusal
-row-few abi = refuse-few (leb descriptions abi) bad-abi accepted (omega arith) (omega arith)
+row-few abi = refuse-few (leb description-count abi) bad-abi accepted (omega arith) (omega arith)
 
 call-few : (source : ℕ) (D : Description) (c : Call) → source ≤ 7 → callRefusalBy source D c ≤ 7
 unfolding callRefusalBy

@@ -12,7 +12,7 @@ use Rattle.shape.specs.declared.Piece.{Piece}
 use Rattle.shape.specs.declared.Scalar.{Scalar}
 use Rattle.shape.specs.Numbers.{accepted, bad-list, no-room, most-pieces}
 use Rattle.shape.specs.Words.{piece, scalarsOf, scalarAt}
-use Rattle.checks.specs.Check.{scalarRefusal}
+use Rattle.checks.specs.Check.{scalarRefusal, unlessRefused}
 use Rattle.shape.proofs.Words.{scalars-step, scalars-end, length-scalars}
 use Rattle.checks.proofs.Check.{else-first}
 use Rattle.checks.proofs.Accepted.{refuse-none, else-none, Fits, fits}
@@ -20,7 +20,7 @@ use Rattle.slots.specs.Words.{putAt}
 use Rattle.slots.proofs.Words.{put-fits, put-short, put-split, put-none}
 use Rattle.layouts.specs.declared.Placed.{Placed}
 use Rattle.layouts.specs.Record.{roundUp}
-use Rattle.layouts.specs.Members.{scalarsRefusal, membersRefusal, placed, pieceWords, piecesWords, orPlaced, unlessRefused, piecesAnswer, piecesWritten}
+use Rattle.layouts.specs.Members.{scalarsRefusal, membersRefusal, placed, pieceWords, piecesWords, orPlaced, piecesAnswer, piecesWritten}
 
 -- ---- check_members
 

@@ -8,7 +8,7 @@ use Rattle.shape.specs.declared.Piece.{Piece}
 use Rattle.shape.specs.declared.Scalar.{Scalar}
 use Rattle.shape.specs.Numbers.{accepted, bad-list, no-room, most-pieces}
 use Rattle.shape.specs.Words.{piece, scalarsOf}
-use Rattle.checks.specs.Check.{refuse, orElse, scalarRefusal}
+use Rattle.checks.specs.Check.{refuse, orElse, unlessRefused, scalarRefusal}
 use Rattle.slots.specs.Words.{putAt}
 use Rattle.layouts.specs.declared.Placed.{Placed}
 use Rattle.layouts.specs.Record.{roundUp}
@@ -51,10 +51,6 @@ ifRoom false n = record { refusal = no-room; count = 0 }
 unfoldable pub piecesAnswer : List ℕ → List ℕ → Placed
 piecesAnswer ws out =
     orPlaced (membersRefusal ws) (ifRoom (leb (length (scalarsOf ws)) (length out / 4)) (length (scalarsOf ws)))
-
-abbrev pub unlessRefused : ℕ → List ℕ → List ℕ → List ℕ
-unlessRefused zero new old = new
-unlessRefused (suc n) new old = old
 
 -- the buffer: the pieces at its front where they are accepted and fit, and all later words as they were
 unfoldable pub piecesWritten : List ℕ → List ℕ → List ℕ

@@ -12,11 +12,11 @@ use lib.Dec.{T, ltb}
 use lib.ListN.{take, getElem?}
 use Rattle.shape.specs.Numbers.{accepted}
 use Rattle.describe.specs.Description.{Description}
-use Rattle.abis.specs.Abis.{described}
+use Rattle.abis.specs.Abis.{described, description-count}
 use Rattle.classify.specs.declared.Call.{Call}
 use Rattle.classify.specs.declared.Answer.{Answer}
 use Rattle.classify.specs.Classify.{call}
-use Rattle.classify.specs.Answers.{descriptions, callWith, rowRefusal, callRefusalBy, freshAnswer, variadicAnswer, returnsAnswer, argumentAnswer, variadicArgumentAnswer}
+use Rattle.classify.specs.Answers.{callWith, rowRefusal, callRefusalBy, freshAnswer, variadicAnswer, returnsAnswer, argumentAnswer, variadicArgumentAnswer}
 use Rattle.classify.proofs.Steps.{row-there}
 use Rattle.classify.proofs.Accepted.{sound, sound-accepted}
 use Rattle.ledger.specs.Ledger.{Operation, mark, return, argument, variadic-argument, answerBy, answerFor, answersBy, answersFrom, freshCall, history, callAfter, Bank, integers, floats, startOf, leftIn, runAt, InRun, InPassedOver, InGiven, Holder, passed-over-by, given-to, left, holds, Has, LedgerBy, Ledger}
@@ -143,10 +143,10 @@ ledger-by source D c good whole ops n = rw (prefix n source D c ops) (ledger-of-
 -- ---- a row
 
 -- every register is left on its fresh call, and it passes the checks
-module _ (d : ℕ) (known : d < descriptions) where
+module _ (d : ℕ) (known : d < description-count) where
   fresh-is : freshCall d ≡ callWith d (call (described d))
   unfolding freshAnswer
-  fresh-is = rw (lt-leb descriptions d known, freshCall)
+  fresh-is = rw (lt-leb description-count d known, freshCall)
 
   fresh-accepted : callRefusalBy (rowRefusal d) (described d) (freshCall d) ≡ accepted
   fresh-accepted =
@@ -178,7 +178,7 @@ answers-on-row d c e good (op ∷ ops) =
     rw (answer-on-row d c e op) (ap (λ (past : List Answer). answerBy (rowRefusal d) (described d) op c ∷ past)
     (answers-on-row d (answerBy (rowRefusal d) (described d) op c .next) (f .same-abi ∙ e) (f .acceptable) ops))
 
-pub ledger : (d : ℕ) → d < descriptions → (ops : List Operation) (n : ℕ) → Ledger d (take n (history d ops))
+pub ledger : (d : ℕ) → d < description-count → (ops : List Operation) (n : ℕ) → Ledger d (take n (history d ops))
 ledger d known ops n =
     rw (answers-on-row d (freshCall d) (fresh-row d known) (fresh-accepted d known) ops)
     (ledger-by (rowRefusal d) (described d) (freshCall d) (fresh-accepted d known) (fresh-left d known) ops n)

@@ -4,9 +4,10 @@ use Prim.Native.Nat.{ℕ, _<_}
 use mathlib.Core.Path.{_≡_, refl}
 use mathlib.Core.List.{List, [], _∷_}
 use lib.ListN.{take}
+use Rattle.abis.specs.Abis.{description-count}
 use Rattle.classify.specs.declared.Call.{Call}
 use Rattle.classify.specs.declared.Answer.{Answer}
-use Rattle.classify.specs.Answers.{descriptions, freshAnswer}
+use Rattle.classify.specs.Answers.{freshAnswer}
 use Rattle.ledger.specs.Ledger.{Operation, mark, return, argument, variadic-argument, answerFor, answersFrom, Ledger}
 use Rattle.ledger.specs.Performed.{Performed, Started, AllPerformed}
 use Rattle.ledger.proofs.Ledger.{ledger}
@@ -32,7 +33,7 @@ started-is d a p = p .1 .1
 
 -- ---- the theorem
 
-pub ledger-performed : (d : ℕ) → d < descriptions → (first : Answer) → Started d first → (ops : List Operation) (past : List Answer)
+pub ledger-performed : (d : ℕ) → d < description-count → (first : Answer) → Started d first → (ops : List Operation) (past : List Answer)
     → AllPerformed (first .next) ops past → (n : ℕ) → Ledger d (take n past)
 ledger-performed d known first s ops past p n =
     rw (all-performed-are (first .next) ops past p, started-is d first s) (ledger d known ops n)

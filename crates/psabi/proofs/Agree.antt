@@ -12,6 +12,7 @@ use lib.Seq.{ext-getD}
 use lib.ListN.{length, getD, replicate, getD-replicate, length-replicate, List·getD-map, length-map}
 use Rattle.shape.proofs.Bools.{both-true, both-false}
 use Rattle.shape.specs.declared.Piece.{Piece}
+use Rattle.shape.specs.Lists.{any}
 use Rattle.eightbytes.specs.Class as ours
 use Rattle.eightbytes.specs.Class.{None, kindClass, later}
 use Rattle.eightbytes.specs.Eightbytes.{mark}
@@ -19,7 +20,7 @@ use Rattle.eightbytes.specs.Reach.{firstOf}
 use Rattle.eightbytes.proofs.Marks.{mark-length}
 use Rattle.eightbytes.proofs.At.{mark-below, mark-past, mark-first, mark-later, markAll}
 use Rattle.psabi.specs.Psabi.{Class, INTEGER, SSE, SSEUP, X87, X87UP, COMPLEX-X87, NO-CLASS, MEMORY, lowOf, highOf, merge, liesIn, fieldClass, mergedIn, classesFrom}
-use Rattle.psabi.specs.Domain.{any, isX87Piece, x87In}
+use Rattle.psabi.specs.Domain.{isX87Piece, x87In}
 use Rattle.psabi.proofs.Clauses.{Usual, int1, int2, int4, int8, int16, single4, double8, x87-16, quad16, Each, done, more}
 
 -- the classifier's class for one of the psABI's

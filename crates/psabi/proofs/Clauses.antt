@@ -10,9 +10,10 @@ use lib.Dec.{eqb, leb}
 use Rattle.shape.proofs.Bools.{both-true}
 use Rattle.shape.specs.declared.Piece.{Piece}
 use Rattle.shape.specs.declared.Shape.{Shape}
+use Rattle.shape.specs.Lists.{every, any}
 use Rattle.shape.specs.Numbers.{integer, single, double, x87-extended, quad}
 use Rattle.psabi.specs.Psabi.{liesIn, eightbytesIn}
-use Rattle.psabi.specs.Domain.{every, any, howMany, atEach, isX87Piece, x87In, otherIn, isIntegerSize, isOfKind, Domain}
+use Rattle.psabi.specs.Domain.{howMany, atEach, isX87Piece, x87In, otherIn, isIntegerSize, isOfKind, Domain}
 
 -- ---- tests
 

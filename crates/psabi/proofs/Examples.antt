@@ -9,6 +9,7 @@ use lib.ListN.{getD, replicate, List·getD-map}
 use Rattle.shape.specs.declared.Arg.the-variants.{Aggregate}
 use Rattle.shape.specs.declared.Piece.{Piece}
 use Rattle.shape.specs.declared.Shape.{Shape}
+use Rattle.shape.specs.Lists.{every, any}
 use Rattle.shape.specs.Questions.{allOf, isAllOf}
 use Rattle.shape.specs.Words.{piece}
 use Rattle.slots.specs.Search.{floatsIn}
@@ -22,7 +23,7 @@ use Rattle.classify.specs.Classify as rust
 use Rattle.classify.specs.Classify.{counts, argument, returns}
 use Rattle.psabi.specs.Psabi as psabi
 use Rattle.psabi.specs.Psabi.{rdi, rsi, rdx, rcx, r8, r9, rax, xmm0, xmm1, xmm2, xmm3, xmm4, xmm5, xmm6, xmm7, st0, place, Travels, inRegisters, onStack, byAddress, psabiArgument, psabiResult}
-use Rattle.psabi.specs.Domain.{every, any, howMany, atEach, clauses, Domain}
+use Rattle.psabi.specs.Domain.{howMany, atEach, clauses, Domain}
 use Rattle.psabi.specs.Reading.{lastOf, standing, placesOf, readArgument, readResult}
 
 -- ---- a shape, the counts left, and the answer

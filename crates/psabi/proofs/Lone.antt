@@ -11,12 +11,13 @@ use lib.ListN.{length}
 use Rattle.shape.proofs.Bools.{both-true, both-false}
 use Rattle.shape.specs.declared.Piece.{Piece}
 use Rattle.shape.specs.declared.Shape.{Shape}
+use Rattle.shape.specs.Lists.{any}
 use Rattle.shape.specs.Words.{piece}
 use Rattle.shape.specs.Questions.{allOf, isAllOf}
 use Rattle.slots.specs.Search.{nothing}
 use Rattle.find.specs.Find.{foundIf, floatsAt, x87Stack}
 use Rattle.psabi.specs.Psabi.{liesIn}
-use Rattle.psabi.specs.Domain.{any, howMany, isX87Piece, x87In, otherIn, Domain}
+use Rattle.psabi.specs.Domain.{howMany, isX87Piece, x87In, otherIn, Domain}
 use Rattle.psabi.proofs.Clauses.{Usual, int1, int2, int4, int8, int16, single4, double8, x87-16, quad16, Regular, Each, done, more, above-0, regular, touched, apart, at-most-one}
 use Rattle.psabi.proofs.Agree.{usual-pos}
 

@@ -13,6 +13,7 @@ use borrow.Author.Tests.{eq-eqb}
 use lib.Dec.{eqb}
 use lib.ListN.{length, getD, set}
 use Rattle.shape.specs.declared.Piece.{Piece}
+use Rattle.shape.specs.Lists.{every, any}
 use Rattle.shape.specs.Questions.{allOf, isAllOf}
 use Rattle.shape.specs.Words.{piece}
 use Rattle.slots.specs.Search.{floatsIn}
@@ -26,7 +27,7 @@ use Rattle.classify.specs.Classify as rust
 use Rattle.classify.specs.Classify.{argument, returns}
 use Rattle.psabi.specs.Psabi as psabi
 use Rattle.psabi.specs.Psabi.{Free, rdi, rsi, rax, xmm0, xmm1, st0, place, Travels, inRegisters, onStack, byAddress, psabiArgument, psabiResult}
-use Rattle.psabi.specs.Domain.{every, any, howMany, atEach, clauses}
+use Rattle.psabi.specs.Domain.{howMany, atEach, clauses}
 use Rattle.psabi.specs.Reading.{lastOf, standing, placesOf}
 use Rattle.psabi.proofs.Examples.{shapeOf, rowArgument, rowResult, int, x87, every-clause, same-at}
 

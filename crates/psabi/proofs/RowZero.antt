@@ -14,6 +14,7 @@ use lib.ListN.{length, replicate, length-replicate}
 use Rattle.shape.specs.declared.Arg.the-variants.{Aggregate}
 use Rattle.shape.specs.declared.Piece.{Piece}
 use Rattle.shape.specs.declared.Shape.{Shape}
+use Rattle.shape.specs.Lists.{any}
 use Rattle.shape.specs.Words.{piece}
 use Rattle.shape.specs.Questions.{allOf, isAllOf}
 use Rattle.slots.specs.Search.{Search, found, nothing, floatsIn}
@@ -35,7 +36,7 @@ use Rattle.classify.specs.Pass.{pieces, reference, memory}
 use Rattle.classify.specs.Classify.{Passed, counts, passed, shortOf, slotsInRegisters, travel, lessBoth, orRest, tried, apply, argument, returns}
 use Rattle.psabi.specs.Psabi as psabi
 use Rattle.psabi.specs.Psabi.{Class, NO-CLASS, is, Travels, mergedIn, classesFrom, anyUnaligned, eightbytesIn, cleaned, psabiArgument, psabiResult}
-use Rattle.psabi.specs.Domain.{any, isX87Piece, Domain}
+use Rattle.psabi.specs.Domain.{isX87Piece, Domain}
 use Rattle.psabi.specs.Reading.{standing, placesOf, readArgument, readResult}
 use Rattle.psabi.proofs.Clauses.{Regular, Each, above-0, regular, touched}
 use Rattle.psabi.proofs.Agree.{rep, Ready, Plain, plain-at, classes-agree}

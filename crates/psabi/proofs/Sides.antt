@@ -12,11 +12,11 @@ use lib.Dec.{eqb, leb, ltb}
 use lib.ListN.{length}
 use Rattle.shape.proofs.Bools.{both-true, both-false}
 use Rattle.shape.specs.declared.Piece.{Piece}
+use Rattle.shape.specs.Lists.{any}
 use Rattle.shape.specs.Numbers.{integer, x87-extended, quad}
 use Rattle.eightbytes.specs.Reach.{lastOf, aligned, fits}
 use Rattle.eightbytes.proofs.At.{allFit}
 use Rattle.psabi.specs.Psabi.{Class, INTEGER, SSE, SSEUP, X87, X87UP, COMPLEX-X87, NO-CLASS, MEMORY, is, either, isX87, lowOf, highOf, merge, liesIn, fieldClass, mergedIn, classesFrom, anyUnaligned, allUp, isOneVector, anyMemory, loneX87Up, cleaned, eightbytesIn, classified}
-use Rattle.psabi.specs.Domain.{any}
 use Rattle.psabi.proofs.Clauses.{Usual, int1, int2, int4, int8, int16, single4, double8, x87-16, quad16, Regular, Each, done, more}
 use Rattle.psabi.proofs.Agree.{Ready, usual-pos, cond-in, classes-length}
 

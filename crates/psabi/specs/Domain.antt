@@ -6,18 +6,11 @@ use mathlib.Core.List.{List, [], _∷_}
 use lib.Dec.{eqb, leb, ltb}
 use Rattle.shape.specs.declared.Piece.{Piece}
 use Rattle.shape.specs.declared.Shape.{Shape}
+use Rattle.shape.specs.Lists.{every, any}
 use Rattle.shape.specs.Numbers.{integer, single, double, x87-extended, quad}
 use Rattle.psabi.specs.Psabi.{liesIn, eightbytesIn}
 
 -- ---- what the clauses are made of
-
-unfoldable pub every : (Piece → Bool) → List Piece → Bool
-every f [] = true
-every f (p ∷ ps) = f p && every f ps
-
-unfoldable pub any : (Piece → Bool) → List Piece → Bool
-any f [] = false
-any f (p ∷ ps) = f p || any f ps
 
 unfoldable pub howMany : (Piece → Bool) → List Piece → ℕ
 howMany f [] = 0

@@ -1,4 +1,5 @@
 pub mod Bools
+pub mod Lists
 pub mod Cases
 pub mod Words
 pub mod Questions

@@ -1,3 +1,4 @@
 pub mod Numbers
 pub mod Words
 pub mod Questions
+pub mod Lists

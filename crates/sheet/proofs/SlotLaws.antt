@@ -8,12 +8,13 @@ use lib.Dec.{leb}
 use lib.ListN.{length}
 use Rattle.shape.specs.Numbers.{accepted, bad-abi}
 use Rattle.slots.specs.Words.{slotSize, mostSlots}
+use Rattle.abis.specs.Abis.{description-count}
 use Rattle.spend.specs.declared.Spent.{Spent}
 use Rattle.classify.specs.declared.Call.{Call}
 use Rattle.classify.specs.declared.Answer.{Answer}
 use Rattle.classify.specs.Pass.{passSlots}
 use Rattle.classify.specs.Classify.{Passed}
-use Rattle.classify.specs.Answers.{descriptions, callRefusal, refusalOf, refused, done, orAnswer, answerTo, freshAnswer, variadicAnswerBy, returnsAnswerBy, argumentAnswerBy, variadicArgumentAnswerBy, variadicAnswer, returnsAnswer, argumentAnswer, variadicArgumentAnswer}
+use Rattle.classify.specs.Answers.{callRefusal, refusalOf, refused, done, orAnswer, answerTo, freshAnswer, variadicAnswerBy, returnsAnswerBy, argumentAnswerBy, variadicArgumentAnswerBy, variadicAnswer, returnsAnswer, argumentAnswer, variadicArgumentAnswer}
 use Rattle.classify.proofs.Accepted.{by-cases}
 use Rattle.classify.proofs.Eight.{eight}
 use Rattle.sheet_records.specs.declared.known.Operation as operations
@@ -43,7 +44,7 @@ few-marked (suc n) c next slots = few-refused c (suc n) slots
 
 few : (c : Call) (operation : operations.Operation) (ws slots : List ℕ) → Few (answerOf c operation ws slots) slots
 unfolding answerOf freshAnswer variadicAnswerBy returnsAnswerBy argumentAnswerBy variadicArgumentAnswerBy variadicAnswer returnsAnswer argumentAnswer variadicArgumentAnswer callRefusal refusalOf
-few c (operations.the-variants.Fresh abi) ws slots = few-fresh (leb descriptions abi) _ _ slots
+few c (operations.the-variants.Fresh abi) ws slots = few-fresh (leb description-count abi) _ _ slots
 few c operations.the-variants.Mark ws slots = few-marked (callRefusal c) c _ slots
 few c (operations.the-variants.Return arg) ws slots = few-answer (refusalOf c arg ws) c _ _ slots (λ e. eight c arg ws e .returned)
 few c (operations.the-variants.Argument arg) ws slots = few-answer (refusalOf c arg ws) c _ _ slots (λ e. eight c arg ws e .passed-on)

@@ -6,15 +6,14 @@ use mathlib.Core.Option.Option.{none, some}
 use Rattle.describe.specs.declared.Rule.{Rule}
 use Rattle.describe.specs.declared.Test.{Test}
 use Rattle.stack_align.specs.declared.Limit as limits
-use Rattle.stack_align.specs.InMemory as rust
-use Rattle.stack_align.specs.InMemory.{homogeneousLimit}
+use Rattle.stack_align.specs.InMemory.{orLimit, homogeneousLimit}
 
 abbrev pub limitOption : Option ℕ → limits.Limit
 limitOption none = limits.the-variants.Nothing
 limitOption (some n) = limits.the-variants.Of n
 
 abbrev pub limitBy : Test → limits.Limit
-limitBy test = limitOption (rust.orLimit test none)
+limitBy test = limitOption (orLimit test none)
 
 unfoldable pub listLimit : List Rule → limits.Limit
 listLimit rules = limitOption (homogeneousLimit rules)

@@ -10,7 +10,7 @@ ghost use mathlib.Core.Path.{_≡_};
 ghost use Rattle.shape.specs.Words.{piecesOf};
 ghost use Rattle.rows.specs.Row.{listed};
 ghost use Rattle.stack_align.specs.InMemory.{packedAlign, inMemoryBy};
-ghost use Rattle.stack_align.specs.Limits as told;
+ghost use Rattle.stack_align.specs.Limits.{limitBy, listLimit};
 
 // What a fixed argument that travels as Memory is aligned to in the argument area.
 pub fn in_memory(terms: Terms, arguments: Rules, shape: Shape, words: &[u64]) -> u64
@@ -48,7 +48,7 @@ enum Limit {
 
 // The limit of the first rule for homogeneous aggregates in a list.
 fn homogeneous_limit(list: Rules) -> Limit
-    ensures { λ r. ⌜ r ≡ told.listLimit (listed list) ⌝ }
+    ensures { λ r. ⌜ r ≡ listLimit (listed list) ⌝ }
 {
     let mut rules = list;
     while rules.tests != 0 {
@@ -65,7 +65,7 @@ fn homogeneous_limit(list: Rules) -> Limit
 }
 
 fn limit_of(test: Test) -> Limit
-    ensures { λ r. ⌜ r ≡ told.limitBy test ⌝ }
+    ensures { λ r. ⌜ r ≡ limitBy test ⌝ }
 {
     match test {
         Test::Anything => Limit::Nothing,

@@ -2,13 +2,13 @@
 use mathlib.Core.Path.{_≡_, refl}
 use borrow.Author.Needs.{needs}
 use Rattle.rows.specs.Row.{listed}
-use Rattle.stack_align.specs.Limits as told
+use Rattle.stack_align.specs.Limits.{listLimit}
 use Rattle.stack_align.proofs.Aligned.{limit-none, limit-falls, limit-next, limit-here}
 use Rattle.stack_align.proofs.homogeneous_limit.Statement.{statement}
 use Rattle.stack_align.proofs.homogeneous_limit.Tie as tie
 
 abbrev Inv-loop : tie.InvT-loop
-Inv-loop list rules = told.listLimit (listed list) ≡ told.listLimit (listed rules)
+Inv-loop list rules = listLimit (listed list) ≡ listLimit (listed rules)
 
 abbrev μ-loop : tie.MeasureT-loop
 μ-loop list rules = rules .tests

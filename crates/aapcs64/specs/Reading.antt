@@ -80,11 +80,11 @@ passingOf none after = none
 passingOf (some place) after = cond (marked after) none (some (passing place (stateOf after)))
 
 -- an argument's way and slots, between what was left before and after it
-unfoldable pub told : Left → Way → List Slot → Left → Option Passing
-told before way slots after = passingOf (placeOf way before slots after) after
+unfoldable pub reads : Left → Way → List Slot → Left → Option Passing
+reads before way slots after = passingOf (placeOf way before slots after) after
 
-abbrev pub toldPassed : Left → Passed → Option Passing
-toldPassed before p = told before (wayOf (p .pass)) (passSlots (p .pass)) (p .left)
+abbrev pub readsPassed : Left → Passed → Option Passing
+readsPassed before p = reads before (wayOf (p .pass)) (passSlots (p .pass)) (p .left)
 
 -- a result comes back in the first registers of each bank, or at an address that goes where the description says
 abbrev pub addressedBy : ReturnPointer → Option Result
@@ -104,8 +104,8 @@ returningOf none after = none
 returningOf (some result) after = cond (marked after) none (some (returning result (stateOf after)))
 
 -- a result's way and slots, with what is left after it
-unfoldable pub toldResult : ReturnPointer → Way → List Slot → Left → Option Returning
-toldResult pointer way slots after = returningOf (resultBy way pointer slots) after
+unfoldable pub readsResult : ReturnPointer → Way → List Slot → Left → Option Returning
+readsResult pointer way slots after = returningOf (resultBy way pointer slots) after
 
-abbrev pub toldReturned : ReturnPointer → Passed → Option Returning
-toldReturned pointer p = toldResult pointer (wayOf (p .pass)) (passSlots (p .pass)) (p .left)
+abbrev pub readsReturned : ReturnPointer → Passed → Option Returning
+readsReturned pointer p = readsResult pointer (wayOf (p .pass)) (passSlots (p .pass)) (p .left)
