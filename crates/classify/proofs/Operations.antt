@@ -15,6 +15,7 @@ use Rattle.shape.specs.Numbers.{accepted, bad-abi, integer}
 use Rattle.shape.specs.Questions.{isFloat}
 use Rattle.shape.specs.Words.{piecesOf}
 use Rattle.checks.specs.Check.{orElse, unlessRefused}
+use Rattle.slots.specs.declared.Slot.{Slot}
 use Rattle.slots.specs.Words.{slotSize, written}
 use Rattle.describe.specs.declared.Banks.{Banks}
 use Rattle.describe.specs.declared.Dots.{Dots}
@@ -181,20 +182,11 @@ module _ (cs : List ℕ) (ps : List Piece) where
       either returning _ _ (return-alone (T .scalars) (T .«return_pointer») left s)
       (either (dots .emptied) _ _ (empty _ _) (argument-alone (T .banks) (T .scalars) (rules.leftFor dots left) s))
 
-  finished-alone : (d : Decision) (out : List ℕ) → Alone d → parts.finishedScalarIn d out ≡ parts.finishedIn (parts.decided d cs) ps out
-  unfolding parts.finishedScalarIn parts.finishedIn
-  finished-alone d out e = rw (e .same)
-
 pub scalar-done : (T : Terms) (returning : Bool) (dots : Dots) (c : Call) (s : Scalar) (out : List ℕ) (r : Answer) (after : List ℕ) (d : Decision)
     → d ≡ rules.scalarBy T returning dots (c .left) s → parts.FinishesScalar c d out r after
     → parts.By T [] returning dots c (parts.scalarArg s) [] out r after
 unfolding piecesOf
-scalar-done T returning dots c s out r after d ed e =
-    rw (← ed)
-    (record {
-      answers = e .answers;
-      writes = e .writes ∙ finished-alone noClasses [] d out (rw ed (scalar-alone noClasses [] T returning dots (c .left) s));
-    })
+scalar-done T returning dots c s out r after d ed e = rw (ed, scalar-alone noClasses [] T returning dots (c .left) s .same) at e
 
 -- ---- on a row
 
@@ -245,6 +237,9 @@ module _ (source : ℕ) (D : Description) (c : Call) (arg : args.Arg) (ws out : 
   abbrev refusal : ℕ
   refusal = orElse source (checked (termsOf D) (c .left) arg ws)
 
+  abbrev slots : List Slot
+  slots = parts.slotsOf (parts.decidedBy k arg (piecesOf ws)) (piecesOf ws)
+
   answer-is : orAnswer refusal c (parts.finished c (k .decision) out) ≡ answerTo refusal c p (k .decision .spent) out
   unfolding refusalBy parts.finished answerTo
   answer-is = go refusal refl
@@ -253,39 +248,37 @@ module _ (source : ℕ) (D : Description) (c : Call) (arg : args.Arg) (ws out : 
       go zero e = let a = agrees e in rw (a .count, a .way, a .left-is)
       go (suc n) e = refl
 
-  words-are : unlessRefused refusal (parts.finishedIn (parts.decidedBy k arg (piecesOf ws)) (piecesOf ws) out) out ≡ writtenTo refusal p out
+  words-are : unlessRefused refusal (parts.finishedIn (k .decision) slots out) out ≡ writtenTo refusal p out
   unfolding refusalBy parts.finishedIn writtenTo
   words-are = go refusal refl
     where
-      go : (n : ℕ) → refusal ≡ n → unlessRefused n (parts.finishedIn (parts.decidedBy k arg (piecesOf ws)) (piecesOf ws) out) out ≡ writtenTo n p out
+      go : (n : ℕ) → refusal ≡ n → unlessRefused n (parts.finishedIn (k .decision) slots out) out ≡ writtenTo n p out
       go zero e = let a = agrees e in rw (a .count, a .slots)
       go (suc n) e = refl
 
-module _ (source : ℕ) (D : Description) (c : Call) (arg : args.Arg) (ws out : List ℕ) (r : Answer) (after : List ℕ) where
-  pub returns-by : Leaves (parts.performedBy source (termsOf D) (D .returns) true asFixed c arg ws out) (parts.performedByIn source (termsOf D) (D .returns) true asFixed c arg ws out) r after
-      → Leaves (returnsAnswerBy source D c arg ws out) (returnsWrittenBy source D c arg ws out) r after
-  unfolding returnsAnswerBy returnsWrittenBy refusalBy rules.returnChoice parts.performedBy parts.performedByIn
-  returns-by e =
-      let k = returns-agrees D (c .left) arg (piecesOf ws) in
-      record { answers = e .answers ∙ answer-is source D c arg ws out _ _ (λ _. k); writes = e .writes ∙ words-are source D c arg ws out _ _ (λ _. k) }
+  meets : (r : Answer) (after : List ℕ)
+      → Leaves (orAnswer refusal c (parts.finished c (k .decision) out)) (unlessRefused refusal (parts.finishedIn (k .decision) slots out) out) r after
+      → Leaves (answerTo refusal c p (k .decision .spent) out) (writtenTo refusal p out) r after
+  meets r after e = record { answers = e .answers ∙ answer-is; writes = e .writes ∙ words-are }
 
-  pub argument-by : Leaves (parts.performedBy source (termsOf D) (D .arguments) false asFixed c arg ws out) (parts.performedByIn source (termsOf D) (D .arguments) false asFixed c arg ws out) r after
-      → Leaves (argumentAnswerBy source D c arg ws out) (argumentWrittenBy source D c arg ws out) r after
+module _ (source : ℕ) (D : Description) (c : Call) (arg : args.Arg) (ws out : List ℕ) (r : Answer) (after : List ℕ) where
+  pub returns-by : parts.From source D true false c arg ws out r after → Leaves (returnsAnswerBy source D c arg ws out) (returnsWrittenBy source D c arg ws out) r after
+  unfolding returnsAnswerBy returnsWrittenBy refusalBy rules.returnChoice parts.performedBy parts.performedByIn
+  returns-by = meets source D c arg ws out _ _ (λ _. returns-agrees D (c .left) arg (piecesOf ws)) r after
+
+  pub argument-by : parts.From source D false false c arg ws out r after → Leaves (argumentAnswerBy source D c arg ws out) (argumentWrittenBy source D c arg ws out) r after
   unfolding argumentAnswerBy argumentWrittenBy refusalBy rules.argumentChoice parts.performedBy parts.performedByIn
-  argument-by e =
-      let k = argument-agrees D (c .left) arg (piecesOf ws) in
-      record { answers = e .answers ∙ answer-is source D c arg ws out _ _ (λ _. k); writes = e .writes ∙ words-are source D c arg ws out _ _ (λ _. k) }
+  argument-by = meets source D c arg ws out _ _ (λ _. argument-agrees D (c .left) arg (piecesOf ws)) r after
 
   agreed : refusalBy source D c arg ws ≡ accepted
       → Agrees (c .left) (rust.variadicArgument D (c .left) arg (piecesOf ws)) (rules.variadicArgumentChoice D (c .left) arg (piecesOf ws) .decision)
       (slotsFor (rules.variadicArgumentChoice D (c .left) arg (piecesOf ws)) arg (piecesOf ws))
   agreed z = variadic-argument-agrees D (c .left) arg (piecesOf ws) (λ e. unmarked D c (sound source D c (call-checked source D c arg ws z) .1) (rw e))
 
-  pub variadic-argument-by : Leaves (parts.performedBy source (termsOf D) (D .arguments) false (dotsOf (D .variadic)) c arg ws out) (parts.performedByIn source (termsOf D) (D .arguments) false (dotsOf (D .variadic)) c arg ws out) r after
+  pub variadic-argument-by : parts.From source D false true c arg ws out r after
       → Leaves (variadicArgumentAnswerBy source D c arg ws out) (variadicArgumentWrittenBy source D c arg ws out) r after
   unfolding variadicArgumentAnswerBy variadicArgumentWrittenBy refusalBy rules.variadicArgumentChoice parts.performedBy parts.performedByIn
-  variadic-argument-by e =
-      record { answers = e .answers ∙ answer-is source D c arg ws out _ _ agreed; writes = e .writes ∙ words-are source D c arg ws out _ _ agreed }
+  variadic-argument-by = meets source D c arg ws out _ _ agreed r after
 
 -- ---- the operations of a call on a row
 

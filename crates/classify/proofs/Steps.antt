@@ -9,11 +9,11 @@ use lib.ListN.{length}
 use Rattle.shape.specs.declared.Arg as args
 use Rattle.shape.specs.declared.Scalar.{Scalar}
 use Rattle.shape.specs.declared.Shape.{Shape}
-use Rattle.shape.specs.declared.Piece.{Piece}
 use Rattle.shape.specs.Numbers.{accepted, bad-abi, bad-call, no-room}
 use Rattle.shape.specs.Words.{piecesOf}
 use Rattle.checks.specs.Check.{scalarRefusal, shapeRefusal}
 use Rattle.checks.proofs.Check.{else-first}
+use Rattle.slots.specs.declared.Slot.{Slot}
 use Rattle.slots.specs.Words.{slotSize, written}
 use Rattle.describe.specs.declared.Dots.{Dots}
 use Rattle.describe.specs.declared.Terms.{Terms}
@@ -31,14 +31,12 @@ use Rattle.spend.specs.declared.Decision.{Decision}
 use Rattle.spend.specs.declared.Spent.{Spent}
 use Rattle.spend.specs.declared.Way.the-variants.{Ignore}
 use Rattle.spend.specs.Ways.{nothing, no-mark, withMark, wayNumber, leftAfter}
-use Rattle.slot_writing.specs.Sources.{sourceSlots, scalarSlots}
 use Rattle.stack_align.specs.InMemory.{inMemoryBy}
 use Rattle.classify.specs.declared.Call.{Call}
 use Rattle.classify.specs.declared.Answer.{Answer}
 use Rattle.classify.specs.declared.InMemory.{InMemory}
-use Rattle.classify.specs.declared.Decided.{Decided}
 use Rattle.classify.specs.Classify.{isIntegersOnly}
-use Rattle.classify.specs.Answers.{callWith, unmarked, leftRefusal, argRefusal, checked, callRefusalBy, refusalBy, rowRefusal, refused, done, orAnswer, freshAnswer, variadicAnswerBy, variadicAnswer, voidAnswerBy, voidAnswer, orAlign, inMemoryAnswerBy, inMemoryAnswer}
+use Rattle.classify.specs.Answers.{callWith, unmarked, leftRefusal, argRefusal, checked, callRefusalBy, refusalBy, rowRefusal, refused, done, orAnswer, Leaves, freshAnswer, variadicAnswerBy, variadicAnswer, voidAnswerBy, voidAnswer, orAlign, inMemoryAnswerBy, inMemoryAnswer}
 use Rattle.classify.specs.Parts as parts
 
 -- ---- a row
@@ -159,25 +157,14 @@ pub accepts : (c : Call) (d : Decision) (left : Left) → left ≡ leftAfter (c 
     → _≡_ {A = Answer} (record { next = callWith (c .abi) left; outcome = record { refusal = accepted; way = way; spent = spent; slots = d .count } }) (parts.acceptedBy c d)
 accepts c d left el way ew spent es = rw (el, ew, es)
 
-module _ (out : List ℕ) (room : ℕ) (er : room ≡ length out / slotSize) (c : Call) (r : Answer) where
-  module _ (d : Decision) where
-    pub scalar-short : room < d .count → r ≡ refused c no-room → parts.FinishesScalar c d out r out
-    unfolding parts.finished parts.finishedScalarIn
-    scalar-short h e = record { answers = rw (e, ← er, lt-ltb _ _ h); writes = rw (← er, lt-ltb _ _ h) }
+module _ (out : List ℕ) (room : ℕ) (er : room ≡ length out / slotSize) (c : Call) (d : Decision) (slots : List Slot) (r : Answer) where
+  pub slots-short : room < d .count → r ≡ refused c no-room → Leaves (parts.finished c d out) (parts.finishedIn d slots out) r out
+  unfolding parts.finished parts.finishedIn
+  slots-short h e = record { answers = rw (e, ← er, lt-ltb _ _ h); writes = rw (← er, lt-ltb _ _ h) }
 
-    pub scalar-fits : d .count ≤ room → r ≡ parts.acceptedBy c d → (after : List ℕ) → after ≡ written (scalarSlots (d .source)) out → parts.FinishesScalar c d out r after
-    unfolding parts.finished parts.finishedScalarIn
-    scalar-fits h e after ew = record { answers = rw (e, ← er, le-ltb _ _ h); writes = rw (ew, ← er, le-ltb _ _ h) }
-
-  module _ (d : Decided) (ps : List Piece) where
-    pub slots-short : room < d .decision .count → r ≡ refused c no-room → parts.Finishes c d ps out r out
-    unfolding parts.finished parts.finishedIn
-    slots-short h e = record { answers = rw (e, ← er, lt-ltb _ _ h); writes = rw (← er, lt-ltb _ _ h) }
-
-    pub slots-fit : d .decision .count ≤ room → r ≡ parts.acceptedBy c (d .decision) → (after : List ℕ) → after ≡ written (sourceSlots (d .decision .source) (d .classes) ps) out
-        → parts.Finishes c d ps out r after
-    unfolding parts.finished parts.finishedIn
-    slots-fit h e after ew = record { answers = rw (e, ← er, le-ltb _ _ h); writes = rw (ew, ← er, le-ltb _ _ h) }
+  pub slots-fit : d .count ≤ room → r ≡ parts.acceptedBy c d → (after : List ℕ) → after ≡ written slots out → Leaves (parts.finished c d out) (parts.finishedIn d slots out) r after
+  unfolding parts.finished parts.finishedIn
+  slots-fit h e after ew = record { answers = rw (e, ← er, le-ltb _ _ h); writes = rw (ew, ← er, le-ltb _ _ h) }
 
 -- ---- in_memory
 

@@ -10,6 +10,7 @@ use Rattle.shape.specs.declared.Shape.{Shape}
 use Rattle.shape.specs.Numbers as numbers
 use Rattle.shape.specs.Words.{piecesOf}
 use Rattle.checks.specs.Check.{orElse, unlessRefused}
+use Rattle.slots.specs.declared.Slot.{Slot}
 use Rattle.slots.specs.Words.{written}
 use Rattle.describe.specs.declared.Dots.{Dots}
 use Rattle.describe.specs.declared.Rule.{Rule}
@@ -68,17 +69,17 @@ acceptedBy c d = answered (callWith (c .abi) (leftAfter (c .left) (d .spent))) n
 unfoldable pub finished : Call → Decision → List ℕ → Answer
 finished c d out = orAnswer (roomRefusal (d .count) out) c (acceptedBy c d)
 
-unfoldable pub finishedIn : Decided → List Piece → List ℕ → List ℕ
-finishedIn d ps out = unlessRefused (roomRefusal (d .decision .count) out) (written (sourceSlots (d .decision .source) (d .classes) ps) out) out
+unfoldable pub finishedIn : Decision → List Slot → List ℕ → List ℕ
+finishedIn d slots out = unlessRefused (roomRefusal (d .count) out) (written slots out) out
 
-unfoldable pub finishedScalarIn : Decision → List ℕ → List ℕ
-finishedScalarIn d out = unlessRefused (roomRefusal (d .count) out) (written (scalarSlots (d .source)) out) out
+abbrev pub slotsOf : Decided → List Piece → List Slot
+slotsOf d ps = sourceSlots (d .decision .source) (d .classes) ps
 
 abbrev pub Finishes : Call → Decided → List Piece → List ℕ → Answer → List ℕ → Type 0
-Finishes c d ps out r after = Leaves (finished c (d .decision) out) (finishedIn d ps out) r after
+Finishes c d ps out r after = Leaves (finished c (d .decision) out) (finishedIn (d .decision) (slotsOf d ps) out) r after
 
 abbrev pub FinishesScalar : Call → Decision → List ℕ → Answer → List ℕ → Type 0
-FinishesScalar c d out r after = Leaves (finished c d out) (finishedScalarIn d out) r after
+FinishesScalar c d out r after = Leaves (finished c d out) (finishedIn d (scalarSlots (d .source)) out) r after
 
 -- ---- an operation by terms and a list: where nothing refuses it, and whole
 
@@ -94,9 +95,10 @@ performedBy source T rules returning dots c arg ws out =
 
 unfoldable pub performedByIn : ℕ → Terms → List Rule → Bool → Dots → Call → args.Arg → List ℕ → List ℕ → List ℕ
 performedByIn source T rules returning dots c arg ws out =
-    unlessRefused (orElse source (checked T (c .left) arg ws)) (finishedIn (decidedFor T rules returning dots c arg (piecesOf ws)) (piecesOf ws) out) out
+    let d = decidedFor T rules returning dots c arg (piecesOf ws) in
+    unlessRefused (orElse source (checked T (c .left) arg ws)) (finishedIn (d .decision) (slotsOf d (piecesOf ws)) out) out
 
--- ---- and on a row
+-- ---- by a description and what its source refuses, and on a row
 
 abbrev pub listFor : Bool → Brief → Rules
 listFor returning brief = cond returning (brief .returns) (brief .arguments)
@@ -110,14 +112,10 @@ dotsFor variadic-argument variadic = cond variadic-argument (dotsOf variadic) as
 abbrev pub markedBy : Variadic → Left → Left
 markedBy variadic left = cond (dotsOf variadic .mark) (withMark left) left
 
-abbrev pub performedOn : Description → Bool → Bool → Call → args.Arg → List ℕ → List ℕ → Answer
-performedOn D returning variadic-argument c arg ws out =
-    performedBy (rowRefusal (c .abi)) (termsOf D) (rulesFor returning D) returning (dotsFor variadic-argument (D .variadic)) c arg ws out
-
-abbrev pub performedInOn : Description → Bool → Bool → Call → args.Arg → List ℕ → List ℕ → List ℕ
-performedInOn D returning variadic-argument c arg ws out =
-    performedByIn (rowRefusal (c .abi)) (termsOf D) (rulesFor returning D) returning (dotsFor variadic-argument (D .variadic)) c arg ws out
+abbrev pub From : ℕ → Description → Bool → Bool → Call → args.Arg → List ℕ → List ℕ → Answer → List ℕ → Type 0
+From source D returning variadic-argument c arg ws out r after =
+    Leaves (performedBy source (termsOf D) (rulesFor returning D) returning (dotsFor variadic-argument (D .variadic)) c arg ws out)
+    (performedByIn source (termsOf D) (rulesFor returning D) returning (dotsFor variadic-argument (D .variadic)) c arg ws out) r after
 
 abbrev pub OnRow : Bool → Bool → Call → args.Arg → List ℕ → List ℕ → Answer → List ℕ → Type 0
-OnRow returning variadic-argument c arg ws out r after =
-    Leaves (performedOn (described (c .abi)) returning variadic-argument c arg ws out) (performedInOn (described (c .abi)) returning variadic-argument c arg ws out) r after
+OnRow returning variadic-argument c arg ws out r after = From (rowRefusal (c .abi)) (described (c .abi)) returning variadic-argument c arg ws out r after

@@ -1,6 +1,6 @@
 -- `finish_scalar` refuses what doesn't fit, and else writes and answers.
 use borrow.Author.Needs.{needs}
-use Rattle.classify.proofs.Steps.{scalar-short, scalar-fits}
+use Rattle.classify.proofs.Steps.{slots-short, slots-fit}
 use Rattle.classify.proofs.finish_scalar.Statement.{statement}
 use Rattle.classify.proofs.finish_scalar.Tie as tie
 
@@ -10,8 +10,8 @@ finish-scalar-spec =
     (tie.spec
     (λ c κs. search needs)
     (λ c κs. search needs)
-    (λ c. search (scalar-short))
+    (λ c. search (slots-short))
     (λ c κs. search needs)
     (λ c κs. search needs)
     (λ c. search needs)
-    (λ c. search (scalar-fits)))
+    (λ c. search (slots-fit)))
