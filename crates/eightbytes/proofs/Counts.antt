@@ -14,7 +14,8 @@ use Rattle.shape.specs.Questions.{isFloat}
 use Rattle.slots.specs.declared.Slot.{Slot}
 use Rattle.slots.specs.declared.Found.{Found}
 use Rattle.slots.specs.declared.Found.the-variants.{Slots, Nothing}
-use Rattle.slots.specs.Search.{oneIf, floatsIn, foundOf}
+use Rattle.shape.specs.Numbers.{oneIf}
+use Rattle.slots.specs.Search.{floatsIn, foundOf}
 use Rattle.eightbytes.specs.Class.{Class, None, Integer, Sse, SseUp, X87, Memory, code, classOf, same, mended}
 use Rattle.eightbytes.specs.Eightbytes.{spoiled, mend, settled, ownSlot, classSlot, upFirst, slotsFrom, slotsFound, codes, slotCount, Coded}
 use Rattle.eightbytes.proofs.Class.{class-code, sse-code, up-code, mended-low, mended-high}

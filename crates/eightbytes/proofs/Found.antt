@@ -15,7 +15,8 @@ use Rattle.shape.specs.declared.Shape.{Shape}
 use Rattle.slots.specs.declared.Slot.{Slot}
 use Rattle.slots.specs.declared.Found.{Found}
 use Rattle.slots.specs.declared.Found.the-variants.{Nothing}
-use Rattle.slots.specs.Search.{found, oneIf, foundOf}
+use Rattle.shape.specs.Numbers.{oneIf}
+use Rattle.slots.specs.Search.{found, foundOf}
 use Rattle.eightbytes.specs.Class.{Class, None, SseUp, code, classOf, same}
 use Rattle.eightbytes.specs.Eightbytes.{most-limit, eightbytesIn, mark, classesAfter, spoiled, mend, settled, andThen, classified, slotsFrom, slotsFound, eightbytes, codes, classesOf, codedSlots, slotCount}
 use Rattle.eightbytes.specs.Reach.{fits}

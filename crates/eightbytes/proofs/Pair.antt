@@ -8,7 +8,8 @@ use native.Mathlib.Omega.{arith}
 use lib.Dec.{eqb}
 use lib.ListN.{length-map, length, getD, take, drop, replicate, length-take, take-append-drop}
 use Rattle.slots.specs.declared.Found.the-variants.{Slots}
-use Rattle.slots.specs.Search.{oneIf, foundOf}
+use Rattle.shape.specs.Numbers.{oneIf}
+use Rattle.slots.specs.Search.{foundOf}
 use Rattle.eightbytes.specs.Class.{Class, None, SseUp, X87, Memory, code, classOf, same, mended}
 use Rattle.eightbytes.specs.Eightbytes.{spoiled, mend, settled, slotsFound, codes, slotCount, Coded}
 use Rattle.eightbytes.proofs.Class.{sse-code}

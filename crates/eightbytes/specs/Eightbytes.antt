@@ -8,11 +8,11 @@ use lib.Dec.{leb, ltb}
 use lib.ListN.{length, getD, set, take, replicate}
 use Rattle.shape.specs.declared.Piece.{Piece}
 use Rattle.shape.specs.declared.Shape.{Shape}
-use Rattle.shape.specs.Numbers.{single, double, quad}
+use Rattle.shape.specs.Numbers.{single, double, quad, oneIf}
 use Rattle.slots.specs.declared.Slot.{Slot}
 use Rattle.slots.specs.Words.{integerSlot, floatSlot}
 use Rattle.slots.specs.Cut.{ceilDiv}
-use Rattle.slots.specs.Search.{Search, found, nothing, oneIf}
+use Rattle.slots.specs.Search.{Search, found, nothing}
 use Rattle.eightbytes.specs.Class.{Class, None, Sse, SseUp, X87, Memory, code, classOf, same, kindClass, later, merge, mended}
 use Rattle.eightbytes.specs.Reach.{firstOf, lastOf, fits}
 

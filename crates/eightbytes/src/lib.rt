@@ -9,7 +9,7 @@ ghost use mathlib.Core.Option.Option.{none};
 ghost use Prim.Native.Nat.{ℕ, _-_, _<_, _≤_};
 ghost use lib.ListN.{take, drop, replicate};
 ghost use Rattle.shape.specs.Words.{piecesOf};
-ghost use Rattle.slots.specs.Search.{foundOf, oneIf};
+ghost use Rattle.slots.specs.Search.{foundOf};
 ghost use Rattle.eightbytes.specs.Class.{code, classOf, merge as merge·};
 ghost use Rattle.eightbytes.specs.Eightbytes.{eightbytesIn, mark as mark·, settled, slotsFound, codes, classesOf, Coded};
 ghost use Rattle.eightbytes.specs.Reach.{lastOf};
@@ -146,7 +146,7 @@ fn settle(classes: [u8; 8], size: u64, n: usize) -> Classified
         return settle_all(classes, n);
     }
     let count = n as u64;
-    let floats = one_if(first == SSE) + one_if(second == SSE);
+    let floats = shape::one_if(first == SSE) + shape::one_if(second == SSE);
     Classified {
         found: Found::Slots { count, floats },
         classes,
@@ -171,8 +171,8 @@ fn settle_all(classes: [u8; 8], n: usize) -> Classified
             return nothing();
         }
         cs[i] = class;
-        count += one_if(class != SSE_UP);
-        floats += one_if(class == SSE);
+        count += shape::one_if(class != SSE_UP);
+        floats += shape::one_if(class == SSE);
         below = class;
         i += 1;
     }
@@ -180,10 +180,4 @@ fn settle_all(classes: [u8; 8], n: usize) -> Classified
         found: Found::Slots { count, floats },
         classes: cs,
     }
-}
-
-fn one_if(b: bool) -> u64
-    ensures { λ r. ⌜ (r ≡ oneIf b) × (r ≤ 1) ⌝ }
-{
-    if b { 1 } else { 0 }
 }

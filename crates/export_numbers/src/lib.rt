@@ -1,7 +1,6 @@
 // Calls and shapes from the numbers that the exported entries take (REFERENCE 13.1). What they answer is what the methods of a call answer. The
 // entries stand in crates of their own, and nothing is exported from here.
 ghost use mathlib.Core.Path.{_≡_};
-ghost use Rattle.rows.specs.Codes.{flag as flag·};
 ghost use Rattle.export_numbers.specs.Numbers.{callFrom, shapeFrom};
 use classify::Call;
 use shape::Shape;
@@ -38,11 +37,4 @@ pub fn shape_from(size: u64, align: u64, complex: u64, floating: u64) -> Shape
         complex: complex != 0,
         floating: floating != 0,
     }
-}
-
-// A yes as 1, a no as 0.
-pub fn flag_number(flag: bool) -> u64
-    ensures { λ r. ⌜ r ≡ flag· flag ⌝ }
-{
-    if flag { 1 } else { 0 }
 }

@@ -8,13 +8,13 @@ use native.Mathlib.Omega.{arith}
 use borrow.Author.Tests.{le-leb, lt-leb, leb-true, leb-false}
 use lib.Dec.{leb}
 use lib.ListN.{length, getD}
-use Rattle.shape.specs.Numbers.{accepted, bad-abi}
+use Rattle.shape.specs.Numbers.{accepted, bad-abi, oneIf}
 use Rattle.describe.specs.declared.Banks.{Banks}
 use Rattle.describe.specs.declared.Scalars.{Scalars}
 use Rattle.describe.specs.declared.Others.{Others}
 use Rattle.describe.specs.declared.Rule.{Rule}
 use Rattle.describe.specs.Description.{othersOf}
-use Rattle.rows.specs.Codes.{flag, testCode, testNumber, travelCode, shortCode, returnPointerCode, variadicCode, stackArgsCode, narrowCode, bitIntsCode, cleanupCode}
+use Rattle.rows.specs.Codes.{testCode, testNumber, travelCode, shortCode, returnPointerCode, variadicCode, stackArgsCode, narrowCode, bitIntsCode, cleanupCode}
 use Rattle.rows.specs.Row.{encode, wayByte, othersFrom}
 use Rattle.rows.proofs.Numbers.{travel-fits}
 use Rattle.rows.proofs.Inverse.{There, returns-there, arguments-there}
@@ -39,14 +39,14 @@ module _ (abi : ℕ) (brief : Brief) (eb : brief ≡ briefOf (described abi)) (r
   eO : O ≡ othersOf (described abi)
   eO = rw (eo, er) (row-others abi)
 
-  pub fields : (shared : ℕ) → shared ≡ flag (B .shared)
-      → (whole : ℕ) → whole ≡ flag (S .«wide_integer_is_all_or_nothing»)
-      → (even : ℕ) → even ≡ flag (S .«wide_integer_starts_even»)
-      → (drains : ℕ) → drains ≡ flag (S .«wide_integer_drains»)
-      → (by : ℕ) → by ≡ flag (S .«wide_is_by_reference»)
-      → (stored : ℕ) → stored ≡ flag (S .«wide_integer_in_memory»)
-      → (decimal : ℕ) → decimal ≡ flag (S .«decimal_in_integers»)
-      → (quad : ℕ) → quad ≡ flag (S .«quad_returns_by_reference»)
+  pub fields : (shared : ℕ) → shared ≡ oneIf (B .shared)
+      → (whole : ℕ) → whole ≡ oneIf (S .«wide_integer_is_all_or_nothing»)
+      → (even : ℕ) → even ≡ oneIf (S .«wide_integer_starts_even»)
+      → (drains : ℕ) → drains ≡ oneIf (S .«wide_integer_drains»)
+      → (by : ℕ) → by ≡ oneIf (S .«wide_is_by_reference»)
+      → (stored : ℕ) → stored ≡ oneIf (S .«wide_integer_in_memory»)
+      → (decimal : ℕ) → decimal ≡ oneIf (S .«decimal_in_integers»)
+      → (quad : ℕ) → quad ≡ oneIf (S .«quad_returns_by_reference»)
       → (pointer : ℕ) → pointer ≡ returnPointerCode (brief .terms .«return_pointer»)
       → (variadic : ℕ) → variadic ≡ variadicCode (brief .terms .variadic)
       → (stack : ℕ) → stack ≡ stackArgsCode (brief .terms .«stack_args»)

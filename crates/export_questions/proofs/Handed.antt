@@ -4,7 +4,7 @@ use mathlib.Core.Path.{_≡_}
 use mathlib.Core.List.{List}
 use Rattle.shape.specs.declared.Shape.{Shape}
 use Rattle.layouts.specs.declared.Recorded.{Recorded}
-use Rattle.rows.specs.Codes.{flag}
+use Rattle.shape.specs.Numbers.{oneIf}
 use Rattle.classify.specs.declared.Call.{Call}
 use Rattle.classify.specs.declared.InMemory.{InMemory}
 use Rattle.export_questions.specs.declared.members.Record.{Record}
@@ -14,7 +14,7 @@ pub in-memory-aligned : (k k′ : Call) → k ≡ k′ → (s s′ : Shape) → 
     → a ≡ f k s words → alignTold a ≡ alignTold (f k′ s′ words)
 in-memory-aligned k k′ ek s s′ es words f a ea = rw (ea, ek, es)
 
-module _ (a a′ : Recorded) (ea : a ≡ a′) (complex : ℕ) (ec : complex ≡ flag (a .shape .complex)) (floating : ℕ) (ef : floating ≡ flag (a .shape .floating)) where
+module _ (a a′ : Recorded) (ea : a ≡ a′) (complex : ℕ) (ec : complex ≡ oneIf (a .shape .complex)) (floating : ℕ) (ef : floating ≡ oneIf (a .shape .floating)) where
   pub recorded : _≡_ {A = Record}
       (record {
         refusal = a .refusal;

@@ -1,5 +1,5 @@
 -- What the entries that ask answer, as numbers (REFERENCE 13.2 to 13.5).
-use Rattle.rows.specs.Codes.{flag}
+use Rattle.shape.specs.Numbers.{oneIf}
 use Rattle.text.specs.declared.Written.{Written}
 use Rattle.layouts.specs.declared.Placed.{Placed}
 use Rattle.layouts.specs.declared.Recorded.{Recorded}
@@ -20,7 +20,7 @@ abbrev pub lengthTold : Written → Told
 lengthTold a = told (a .refusal) (a .length)
 
 abbrev pub yesTold : Asked → Told
-yesTold a = told (a .refusal) (flag (a .answer))
+yesTold a = told (a .refusal) (oneIf (a .answer))
 
 abbrev pub formatTold : AskedFormat → Told
 formatTold a = told (a .refusal) (a .format)
@@ -31,6 +31,6 @@ recordNumbers a =
       refusal = a .refusal;
       size = a .shape .size;
       align = a .shape .align;
-      complex = flag (a .shape .complex);
-      floating = flag (a .shape .floating);
+      complex = oneIf (a .shape .complex);
+      floating = oneIf (a .shape .floating);
     }

@@ -4,10 +4,10 @@ use mathlib.Core.Bool.{cond}
 use mathlib.Core.List.{List, map}
 use lib.Dec.{leb}
 use lib.ListN.{getD}
-use Rattle.shape.specs.Numbers.{accepted, bad-abi}
+use Rattle.shape.specs.Numbers.{accepted, bad-abi, oneIf}
 use Rattle.describe.specs.declared.Rule.{Rule}
 use Rattle.describe.specs.Description as described
-use Rattle.rows.specs.Codes.{flag, testCode, testNumber, travelCode, shortCode, returnPointerCode, variadicCode, stackArgsCode, narrowCode, bitIntsCode, cleanupCode}
+use Rattle.rows.specs.Codes.{testCode, testNumber, travelCode, shortCode, returnPointerCode, variadicCode, stackArgsCode, narrowCode, bitIntsCode, cleanupCode}
 use Rattle.abis.specs.Abis as abis
 use Rattle.export_questions.specs.declared.descriptions.Description.{Description}
 use Rattle.export_questions.specs.declared.descriptions.RuleNumbers.{RuleNumbers}
@@ -18,18 +18,18 @@ fieldsOf D =
       refusal = accepted;
       integer = D .banks .integer;
       float = D .banks .float;
-      shared = flag (D .banks .shared);
+      shared = oneIf (D .banks .shared);
       «integer_width» = D .banks .«integer_width»;
       «float_width» = D .banks .«float_width»;
       «in_memory» = D .scalars .«in_memory»;
-      «wide_integer_is_all_or_nothing» = flag (D .scalars .«wide_integer_is_all_or_nothing»);
-      «wide_integer_starts_even» = flag (D .scalars .«wide_integer_starts_even»);
-      «wide_integer_drains» = flag (D .scalars .«wide_integer_drains»);
-      «wide_is_by_reference» = flag (D .scalars .«wide_is_by_reference»);
+      «wide_integer_is_all_or_nothing» = oneIf (D .scalars .«wide_integer_is_all_or_nothing»);
+      «wide_integer_starts_even» = oneIf (D .scalars .«wide_integer_starts_even»);
+      «wide_integer_drains» = oneIf (D .scalars .«wide_integer_drains»);
+      «wide_is_by_reference» = oneIf (D .scalars .«wide_is_by_reference»);
       «wide_integer_returns_in» = D .scalars .«wide_integer_returns_in»;
-      «wide_integer_in_memory» = flag (D .scalars .«wide_integer_in_memory»);
-      «decimal_in_integers» = flag (D .scalars .«decimal_in_integers»);
-      «quad_returns_by_reference» = flag (D .scalars .«quad_returns_by_reference»);
+      «wide_integer_in_memory» = oneIf (D .scalars .«wide_integer_in_memory»);
+      «decimal_in_integers» = oneIf (D .scalars .«decimal_in_integers»);
+      «quad_returns_by_reference» = oneIf (D .scalars .«quad_returns_by_reference»);
       «return_pointer» = returnPointerCode (D .«return_pointer»);
       variadic = variadicCode (D .variadic);
       «stack_args» = stackArgsCode (D .«stack_args»);

@@ -14,7 +14,6 @@ use describe::ReturnPointer;
 use describe::StackArgs;
 use describe::Variadic;
 use export_numbers::Told;
-use export_numbers::flag_number;
 use rows::WIDTH;
 
 // A refusal, or the fields of a description: banks, scalar rules, and the fields beside them.
@@ -132,7 +131,7 @@ fn yes_or_no(asked: abis::Asked) -> Told
 {
     Told {
         refusal: asked.refusal,
-        value: flag_number(asked.answer),
+        value: shape::one_if(asked.answer),
     }
 }
 
@@ -154,18 +153,18 @@ fn fields_of(abi: u64) -> Description
         refusal: shape::ACCEPTED,
         integer: banks.integer,
         float: banks.float,
-        shared: flag_number(banks.shared),
+        shared: shape::one_if(banks.shared),
         integer_width: banks.integer_width,
         float_width: banks.float_width,
         in_memory: scalars.in_memory,
-        wide_integer_is_all_or_nothing: flag_number(scalars.wide_integer_is_all_or_nothing),
-        wide_integer_starts_even: flag_number(scalars.wide_integer_starts_even),
-        wide_integer_drains: flag_number(scalars.wide_integer_drains),
-        wide_is_by_reference: flag_number(scalars.wide_is_by_reference),
+        wide_integer_is_all_or_nothing: shape::one_if(scalars.wide_integer_is_all_or_nothing),
+        wide_integer_starts_even: shape::one_if(scalars.wide_integer_starts_even),
+        wide_integer_drains: shape::one_if(scalars.wide_integer_drains),
+        wide_is_by_reference: shape::one_if(scalars.wide_is_by_reference),
         wide_integer_returns_in: scalars.wide_integer_returns_in,
-        wide_integer_in_memory: flag_number(scalars.wide_integer_in_memory),
-        decimal_in_integers: flag_number(scalars.decimal_in_integers),
-        quad_returns_by_reference: flag_number(scalars.quad_returns_by_reference),
+        wide_integer_in_memory: shape::one_if(scalars.wide_integer_in_memory),
+        decimal_in_integers: shape::one_if(scalars.decimal_in_integers),
+        quad_returns_by_reference: shape::one_if(scalars.quad_returns_by_reference),
         return_pointer: return_pointer_number(pointer),
         variadic: variadic_number(variadic),
         stack_args: stack_args_number(stack),

@@ -1,13 +1,12 @@
 // Which description a target and a convention follow, in numbers: the codes of REFERENCE 6, and `targets::NONE` for none.
 ghost use mathlib.Core.Path.{_≡_};
 ghost use lib.ListN.{length};
-ghost use Rattle.rows.specs.Codes.{flag};
+ghost use Rattle.shape.specs.Numbers.{oneIf};
 ghost use Rattle.targets.specs.Answers.{targetAnswer, conventionAnswer, popsAnswer};
 ghost use Rattle.attributes.specs.Answers.{askedAnswer, attributeAnswer, attributeWritten};
 ghost use Rattle.export_numbers.specs.Numbers.{isSet};
 ghost use Rattle.export_questions.specs.Answers.{lengthTold};
 use export_numbers::Told;
-use export_numbers::flag_number;
 
 // The description that a target follows, or none.
 #[no_mangle]
@@ -53,7 +52,7 @@ pub extern "C" fn barkpaddle_attribute(convention: u64, name: &mut [u8]) -> Told
 // Whether the callee of a convention takes its arguments off the stack.
 #[no_mangle]
 pub extern "C" fn barkpaddle_callee_pops(convention: u64) -> u64
-    ensures { λ r. ⌜ r ≡ flag (popsAnswer convention) ⌝ }
+    ensures { λ r. ⌜ r ≡ oneIf (popsAnswer convention) ⌝ }
 {
-    flag_number(targets::callee_pops(convention))
+    shape::one_if(targets::callee_pops(convention))
 }

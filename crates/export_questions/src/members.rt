@@ -4,7 +4,6 @@ ghost use Rattle.layouts.specs.Members.{piecesAnswer, piecesWritten};
 ghost use Rattle.layouts.specs.Record.{recordAnswer};
 ghost use Rattle.export_questions.specs.Answers.{countTold, recordNumbers};
 use export_numbers::Told;
-use export_numbers::flag_number;
 
 // A refusal, or the shape of a record.
 #[repr(C)]
@@ -39,7 +38,7 @@ pub extern "C" fn barkpaddle_record(words: &[u64]) -> Record
         refusal: answer.refusal,
         size: shape.size,
         align: shape.align,
-        complex: flag_number(shape.complex),
-        floating: flag_number(shape.floating),
+        complex: shape::one_if(shape.complex),
+        floating: shape::one_if(shape.floating),
     }
 }

@@ -10,13 +10,13 @@ use lib.ListN.{length}
 use Rattle.shape.proofs.Bools.{both-true, second-fails}
 use Rattle.shape.specs.declared.Piece.{Piece}
 use Rattle.shape.specs.declared.Shape.{Shape}
-use Rattle.shape.specs.Numbers.{integer, single, double, x87-extended}
+use Rattle.shape.specs.Numbers.{integer, single, double, x87-extended, oneIf}
 use Rattle.shape.specs.Words.{piecesOf, pieceAt}
 use Rattle.shape.specs.Questions.{isFloat, isAllOf}
 use Rattle.shape.proofs.Words.{pieces-step, pieces-end, length-pieces}
 use Rattle.slots.specs.declared.Found.{Found}
 use Rattle.slots.specs.declared.Found.the-variants.{Slots, Nothing}
-use Rattle.slots.specs.Search.{oneIf, floatsIn, foundOf}
+use Rattle.slots.specs.Search.{floatsIn, foundOf}
 use Rattle.find.specs.Find.{foundIf, pieceSlot, fitsOne, floatPair, x87Stack, loneFloat, floatingMode, complexFloat}
 use Rattle.find.proofs.Each.{float-kind, length-at, floats-at, slot-kind}
 pub use Rattle.find.proofs.AllAlike.{Fields, fields}
@@ -34,10 +34,6 @@ a-float : (f g : Bool) → (oneIf f + oneIf g ≡ 0 → ⊥) → f || g ≡ true
 a-float true g e = refl
 a-float false true e = refl
 a-float false false e = absurd (e refl)
-
-pub one-small : (f : Bool) (n : ℕ) → n ≡ oneIf f → n ≤ 1
-one-small true n e = omega arith
-one-small false n e = omega arith
 
 -- words that hold one piece, and two
 one-piece : (ws : List ℕ) → length ws / 4 ≡ 1 → piecesOf ws ≡ pieceAt ws 0 ∷ []

@@ -6,7 +6,7 @@ use slots::Found;
 ghost use mathlib.Core.Path.{_≡_};
 ghost use mathlib.Core.List.{[], _∷_};
 ghost use Rattle.shape.specs.Words.{piecesOf};
-ghost use Rattle.slots.specs.Search.{foundOf, oneIf};
+ghost use Rattle.slots.specs.Search.{foundOf};
 ghost use Rattle.find.specs.Find as find;
 
 // The bytes of a complex of two Singles.
@@ -44,7 +44,7 @@ fn one_member(only: Piece, integer_width: u64, float_width: u64) -> Found
 fn two_members(first: Piece, second: Piece, integer_width: u64, float_width: u64) -> Found
     ensures { λ r. ⌜ r ≡ foundOf (find.floatPair «integer_width» «float_width» (first ∷ second ∷ [])) ⌝ }
 {
-    let floats = one_if(first.is_float()) + one_if(second.is_float());
+    let floats = shape::one_if(first.is_float()) + shape::one_if(second.is_float());
     if floats == 0 {
         return Found::Nothing;
     }
@@ -64,12 +64,6 @@ fn fits_one(p: Piece, integer_width: u64, float_width: u64) -> bool
         return p.size <= integer_width;
     }
     p.size <= float_width
-}
-
-fn one_if(b: bool) -> u64
-    ensures { λ r. ⌜ r ≡ oneIf b ⌝ }
-{
-    if b { 1 } else { 0 }
 }
 
 // One x87 value, or the two of a complex.

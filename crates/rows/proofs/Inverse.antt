@@ -13,7 +13,8 @@ use Rattle.describe.specs.declared.Banks.{Banks}
 use Rattle.describe.specs.declared.Scalars.{Scalars}
 use Rattle.describe.specs.declared.Rule.{Rule}
 use Rattle.describe.specs.Description.{Description, past, termsOf, othersOf}
-use Rattle.rows.specs.Codes.{flag, testCode, testNumber, travelCode, shortCode, returnPointerCode, variadicCode, stackArgsCode, narrowCode, bitIntsCode, cleanupCode, testFrom, travelFrom, shortFrom}
+use Rattle.shape.specs.Numbers.{oneIf}
+use Rattle.rows.specs.Codes.{testCode, testNumber, travelCode, shortCode, returnPointerCode, variadicCode, stackArgsCode, narrowCode, bitIntsCode, cleanupCode, testFrom, travelFrom, shortFrom}
 use Rattle.rows.specs.Row.{encode, decode, held, heldTest, heldTests, heldRules, heldBanks, heldFormats, wayByte, ruleFrom, ruleOf, returnRule, argumentRule, rulesFrom, banksFrom, scalarsFrom, termsFrom, othersFrom, bit, flagsByte, formatsByte, callsByte}
 use Rattle.rows.proofs.Numbers.{flag-back, flag-fits, test-back, test-stands, travel-back, travel-fits, short-back, return-pointer-back, return-pointer-fits, variadic-back, stack-args-back, stack-args-fits, narrow-back, narrow-fits, bit-ints-back, bit-ints-fits, cleanup-back}
 
@@ -56,14 +57,14 @@ record FlagsBack (banks : Banks) (scalars : Scalars) : Type 0 where
 
 flags-back : (banks : Banks) (scalars : Scalars) → FlagsBack banks scalars
 flags-back banks scalars =
-    let a = flag (banks .shared) in
-    let b = flag (scalars .«wide_integer_is_all_or_nothing») in
-    let c = flag (scalars .«wide_integer_starts_even») in
-    let d = flag (scalars .«wide_integer_drains») in
-    let e = flag (scalars .«wide_is_by_reference») in
-    let f = flag (scalars .«wide_integer_in_memory») in
-    let g = flag (scalars .«decimal_in_integers») in
-    let h = flag (scalars .«quad_returns_by_reference») in
+    let a = oneIf (banks .shared) in
+    let b = oneIf (scalars .«wide_integer_is_all_or_nothing») in
+    let c = oneIf (scalars .«wide_integer_starts_even») in
+    let d = oneIf (scalars .«wide_integer_drains») in
+    let e = oneIf (scalars .«wide_is_by_reference») in
+    let f = oneIf (scalars .«wide_integer_in_memory») in
+    let g = oneIf (scalars .«decimal_in_integers») in
+    let h = oneIf (scalars .«quad_returns_by_reference») in
     let ha = flag-fits (banks .shared) in
     let hb = flag-fits (scalars .«wide_integer_is_all_or_nothing») in
     let hc = flag-fits (scalars .«wide_integer_starts_even») in

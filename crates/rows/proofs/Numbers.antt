@@ -24,11 +24,12 @@ use Rattle.describe.specs.declared.BitInts.{BitInts}
 use Rattle.describe.specs.declared.BitInts.the-variants.{SpareBits, Untaught}
 use Rattle.describe.specs.declared.Cleanup.{Cleanup}
 use Rattle.describe.specs.declared.Cleanup.the-variants.{Caller, Callee}
-use Rattle.rows.specs.Codes.{flag, testCode, sizeCode, testNumber, travelCode, shortCode, returnPointerCode, variadicCode, stackArgsCode, narrowCode, bitIntsCode, cleanupCode, sizeFrom, testFrom, travelFrom, shortFrom, returnPointerFrom, variadicFrom, stackArgsFrom, narrowFrom, bitIntsFrom, cleanupFrom}
+use Rattle.shape.specs.Numbers.{oneIf}
+use Rattle.rows.specs.Codes.{testCode, sizeCode, testNumber, travelCode, shortCode, returnPointerCode, variadicCode, stackArgsCode, narrowCode, bitIntsCode, cleanupCode, sizeFrom, testFrom, travelFrom, shortFrom, returnPointerFrom, variadicFrom, stackArgsFrom, narrowFrom, bitIntsFrom, cleanupFrom}
 use Rattle.describe.specs.Questions.{registerSize}
 use Rattle.rows.specs.Row.{heldTest}
 
-pub flag-back : (b : Bool) → eqb (flag b) 1 ≡ b
+pub flag-back : (b : Bool) → eqb (oneIf b) 1 ≡ b
 flag-back true = refl
 flag-back false = refl
 
@@ -206,7 +207,7 @@ test-stands ComplexFloat = refl
 test-stands (Eightbytes limit) = refl
 
 -- each number has room in its byte
-pub flag-fits : (b : Bool) → flag b < 2
+pub flag-fits : (b : Bool) → oneIf b < 2
 flag-fits true = lit< tt
 flag-fits false = lit< tt
 

@@ -23,10 +23,6 @@ use Rattle.describe.specs.declared.BitInts.the-variants.{SpareBits, Untaught}
 use Rattle.describe.specs.declared.Cleanup.{Cleanup}
 use Rattle.describe.specs.declared.Cleanup.the-variants.{Caller, Callee}
 
-abbrev pub flag : Bool → ℕ
-flag false = 0
-flag true = 1
-
 -- A test has a number from 1, since 0 says that a list has ended, and a number of its own.
 abbrev pub testCode : Test → ℕ
 testCode Anything = 1

@@ -13,21 +13,22 @@ use Rattle.rows.specs.declared.Rules.{Rules}
 use Rattle.describe.specs.declared.Test.{Test}
 use Rattle.describe.specs.declared.Test.the-variants.{Anything, Empty, SizeOneOf, SizeAtMost, Homogeneous, FloatPair, X87Stack, LoneFloat, FloatingMode, ComplexFloat, Eightbytes}
 use Rattle.describe.specs.Description.{Description, past}
-use Rattle.rows.specs.Codes.{flag, testCode, testNumber, travelCode, shortCode, returnPointerCode, variadicCode, stackArgsCode, narrowCode, bitIntsCode, cleanupCode, testFrom, travelFrom, shortFrom, returnPointerFrom, variadicFrom, stackArgsFrom, narrowFrom, bitIntsFrom, cleanupFrom}
+use Rattle.shape.specs.Numbers.{oneIf}
+use Rattle.rows.specs.Codes.{testCode, testNumber, travelCode, shortCode, returnPointerCode, variadicCode, stackArgsCode, narrowCode, bitIntsCode, cleanupCode, testFrom, travelFrom, shortFrom, returnPointerFrom, variadicFrom, stackArgsFrom, narrowFrom, bitIntsFrom, cleanupFrom}
 use Rattle.describe.specs.Questions.{registerSize}
 
 -- The bytes, by their places.
 
 abbrev pub flagsByte : Banks → Scalars → ℕ
 flagsByte banks scalars =
-    flag (banks .shared)
-    + 2 * flag (scalars .«wide_integer_is_all_or_nothing»)
-    + 4 * flag (scalars .«wide_integer_starts_even»)
-    + 8 * flag (scalars .«wide_integer_drains»)
-    + 16 * flag (scalars .«wide_is_by_reference»)
-    + 32 * flag (scalars .«wide_integer_in_memory»)
-    + 64 * flag (scalars .«decimal_in_integers»)
-    + 128 * flag (scalars .«quad_returns_by_reference»)
+    oneIf (banks .shared)
+    + 2 * oneIf (scalars .«wide_integer_is_all_or_nothing»)
+    + 4 * oneIf (scalars .«wide_integer_starts_even»)
+    + 8 * oneIf (scalars .«wide_integer_drains»)
+    + 16 * oneIf (scalars .«wide_is_by_reference»)
+    + 32 * oneIf (scalars .«wide_integer_in_memory»)
+    + 64 * oneIf (scalars .«decimal_in_integers»)
+    + 128 * oneIf (scalars .«quad_returns_by_reference»)
 
 abbrev pub formatsByte : Scalars → ℕ
 formatsByte scalars = scalars .«in_memory» + 8 * scalars .«wide_integer_returns_in»

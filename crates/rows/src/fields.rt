@@ -74,11 +74,11 @@ fn banks_of(row: [u8; WIDTH]) -> Banks
     ensures { λ r. ⌜ r ≡ banksFrom row ⌝ }
 {
     Banks {
-        integer: wide(row[INTEGER]),
-        float: wide(row[FLOAT]),
+        integer: shape::wide(row[INTEGER]),
+        float: shape::wide(row[FLOAT]),
         shared: row[FLAGS] / SHARED % 2 == 1,
-        integer_width: wide(row[INTEGER_WIDTH]),
-        float_width: wide(row[FLOAT_WIDTH]),
+        integer_width: shape::wide(row[INTEGER_WIDTH]),
+        float_width: shape::wide(row[FLOAT_WIDTH]),
     }
 }
 
@@ -88,12 +88,12 @@ fn scalars_of(row: [u8; WIDTH]) -> Scalars
     let flags = row[FLAGS];
     let formats = row[FORMATS];
     Scalars {
-        in_memory: wide(formats % 8),
+        in_memory: shape::wide(formats % 8),
         wide_integer_is_all_or_nothing: flags / WIDE_INTEGER_IS_ALL_OR_NOTHING % 2 == 1,
         wide_integer_starts_even: flags / WIDE_INTEGER_STARTS_EVEN % 2 == 1,
         wide_integer_drains: flags / WIDE_INTEGER_DRAINS % 2 == 1,
         wide_is_by_reference: flags / WIDE_IS_BY_REFERENCE % 2 == 1,
-        wide_integer_returns_in: wide(formats / 8),
+        wide_integer_returns_in: shape::wide(formats / 8),
         wide_integer_in_memory: flags / WIDE_INTEGER_IN_MEMORY % 2 == 1,
         decimal_in_integers: flags / DECIMAL_IN_INTEGERS % 2 == 1,
         quad_returns_by_reference: flags / QUAD_RETURNS_BY_REFERENCE % 2 == 1,
@@ -157,10 +157,4 @@ fn cleanup_from(code: u8) -> Cleanup
         0 => Cleanup::Caller,
         _ => Cleanup::Callee,
     }
-}
-
-fn wide(byte: u8) -> u64
-    ensures { λ r. ⌜ r ≡ byte ⌝ }
-{
-    byte as u64
 }

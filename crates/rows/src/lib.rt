@@ -123,14 +123,14 @@ fn test_at(row: [u8; WIDTH], at: usize) -> u64
 fn pair(code: u8, number: u8) -> u64
     ensures { λ r. ⌜ (r ≡ pairOf code number) × (r < 65536) ⌝ }
 {
-    wide(code) + 256 * wide(number)
+    shape::wide(code) + 256 * shape::wide(number)
 }
 
 // The ways of a list's four rules, likewise.
 fn ways_of(a: u8, b: u8, c: u8, d: u8) -> u64
     ensures { λ r. ⌜ r ≡ waysOf a b c d ⌝ }
 {
-    wide(a) + 256 * (wide(b) + 256 * (wide(c) + 256 * wide(d)))
+    shape::wide(a) + 256 * (shape::wide(b) + 256 * (shape::wide(c) + 256 * shape::wide(d)))
 }
 
 // The rule at place `i` of the list whose first byte stands at `first`.
@@ -169,14 +169,14 @@ fn test_from(code: u8, number: u8) -> Test
             size_from(number / 16 % 4),
             size_from(number / 64),
         ),
-        SIZE_AT_MOST => Test::SizeAtMost(wide(number)),
-        HOMOGENEOUS => Test::Homogeneous(wide(number)),
+        SIZE_AT_MOST => Test::SizeAtMost(shape::wide(number)),
+        HOMOGENEOUS => Test::Homogeneous(shape::wide(number)),
         FLOAT_PAIR => Test::FloatPair,
         X87_STACK => Test::X87Stack,
         LONE_FLOAT => Test::LoneFloat,
         FLOATING_MODE => Test::FloatingMode,
         COMPLEX_FLOAT => Test::ComplexFloat,
-        _ => Test::Eightbytes(wide(number)),
+        _ => Test::Eightbytes(shape::wide(number)),
     }
 }
 
@@ -215,10 +215,4 @@ fn short_from(code: u8) -> Short
         2 => Short::MemoryAndDrain,
         _ => Short::TryNextRule,
     }
-}
-
-fn wide(byte: u8) -> u64
-    ensures { λ r. ⌜ r ≡ byte ⌝ }
-{
-    byte as u64
 }

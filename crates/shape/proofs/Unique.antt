@@ -12,6 +12,9 @@ use Rattle.shape.proofs.Piece.is_float.Reads as piece-is-float
 use Rattle.shape.proofs.Piece.end.Reads as piece-end
 use Rattle.shape.proofs.least.Reads as least
 use Rattle.shape.proofs.most.Reads as most
+use Rattle.shape.proofs.minus.Reads as minus
+use Rattle.shape.proofs.one_if.Reads as one-if
+use Rattle.shape.proofs.wide.Reads as wide
 
 is-all-of-decides : (κs : Lfts 1) → OneAnswer (is-all-of.Post κs)
 is-all-of-decides κs a r q s t p p′ = p ∙ sym p′
@@ -42,3 +45,12 @@ least-decides κs a r q s t p p′ = p ∙ sym p′
 
 most-decides : (κs : Lfts 0) → OneAnswer (most.Post κs)
 most-decides κs a r q s t p p′ = p ∙ sym p′
+
+minus-decides : (κs : Lfts 0) → OneAnswer (minus.Post κs)
+minus-decides κs a r q s t p p′ = p ∙ sym p′
+
+one-if-decides : (κs : Lfts 0) → OneAnswer (one-if.Post κs)
+one-if-decides κs a r q s t p p′ = p .0 ∙ sym (p′ .0)
+
+wide-decides : (κs : Lfts 0) → OneAnswer (wide.Post κs)
+wide-decides κs a r q s t p p′ = p .0 ∙ sym (p′ .0)

@@ -1,5 +1,6 @@
 -- The numbers of docs/REFERENCE.md, 1 to 3, by their names: kinds, refusals, and the largest values that are accepted.
 use Prim.Native.Nat.{ℕ}
+use mathlib.Core.Bool.{Bool, true, false}
 
 -- kinds: an integer, or a float in one of four formats
 abbrev pub integer : ℕ
@@ -59,3 +60,8 @@ most-pieces = 1024
 -- the largest number of 64 bits
 abbrev pub most-word : ℕ
 most-word = 18446744073709551615
+
+-- a yes as 1, a no as 0
+abbrev pub oneIf : Bool → ℕ
+oneIf true = 1
+oneIf false = 0

@@ -1,7 +1,8 @@
 // What a classifier is asked about: kinds, scalars, pieces and shapes, and the refusals. Pieces come in as words, four to a piece: kind, size,
 // alignment, offset. Whether it may be asked, the crate checks says. The rules are those of docs/REFERENCE.md, 1, 2 and 4.1.
 ghost use mathlib.Core.Path.{_≡_};
-ghost use Prim.Native.Nat.{min, max};
+ghost use Prim.Native.Nat.{_-_, _<_, _≤_, min, max};
+ghost use Rattle.shape.specs.Numbers.{oneIf};
 ghost use Rattle.shape.specs.Words.{piecesOf, pieceAt, scalarAt};
 ghost use Rattle.shape.specs.Questions.{integerOf, floatOf, isFloat, endOf, isAllOf};
 
@@ -199,4 +200,25 @@ pub fn most(a: u64, b: u64) -> u64
     ensures { λ r. ⌜ r ≡ max a b ⌝ }
 {
     if a < b { b } else { a }
+}
+
+// What is left of `a` without `b`: 0 where `b` is more.
+pub fn minus(a: u64, b: u64) -> u64
+    ensures { λ r. ⌜ r ≡ a - b ⌝ }
+{
+    if a < b { 0 } else { a - b }
+}
+
+// A yes as 1, a no as 0.
+pub fn one_if(b: bool) -> u64
+    ensures { λ r. ⌜ (r ≡ oneIf b) × (r ≤ 1) ⌝ }
+{
+    if b { 1 } else { 0 }
+}
+
+// A byte as a word.
+pub fn wide(byte: u8) -> u64
+    ensures { λ r. ⌜ (r ≡ byte) × (r < 256) ⌝ }
+{
+    byte as u64
 }

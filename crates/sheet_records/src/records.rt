@@ -49,11 +49,5 @@ fn quarter(bytes: &[u8], at: usize) -> u64
     requires { ⌜ at + 2 ≤ length (now bytes) ⌝ }
     ensures { λ r. ⌜ (r ≡ quarterAt (now (bytes .entry)) at) × (r < 65536) ⌝ }
 {
-    wide(bytes[at]) + wide(bytes[at + 1]) * 256
-}
-
-fn wide(b: u8) -> u64
-    ensures { λ r. ⌜ (r ≡ b) × (r < 256) ⌝ }
-{
-    b as u64
+    shape::wide(bytes[at]) + shape::wide(bytes[at + 1]) * 256
 }

@@ -11,7 +11,7 @@ use lib.Dec.{eqb}
 use lib.ListN.{length-map, length, getD, take, length-append}
 use lib.Seq.{take-all}
 use Rattle.slots.specs.declared.Slot.{Slot}
-use Rattle.slots.specs.Search.{oneIf}
+use Rattle.shape.specs.Numbers.{oneIf}
 use Rattle.slots.specs.Words.{integerSlot, floatSlot, slotWords, slotSize, wordsOf, putAt, written}
 use Rattle.slots.proofs.Words.{put-split, put-none, words-append, length-words, written-short}
 use Rattle.eightbytes.specs.Class.{classOf}

@@ -4,7 +4,6 @@ ghost use mathlib.Core.List.{map};
 ghost use Prim.Native.Nat.{_+_, _≤_, min};
 ghost use lib.Dec.{leb};
 ghost use lib.ListN.{length, take, drop};
-ghost use Rattle.slots.specs.Search.{oneIf};
 ghost use Rattle.slots.specs.Words.{wordsOf, putAt, written};
 ghost use Rattle.eightbytes.specs.Class.{classOf};
 ghost use Rattle.eightbytes.specs.Eightbytes.{eightbytesIn, upFirst, ownSlot, classSlot, formatOf, slotCount, codedSlots};
@@ -83,16 +82,10 @@ fn count_slots(classes: [u8; 8], n: usize) -> usize
     let mut count = 0;
     let mut i = 0;
     while i < n {
-        count += one_if(classes[i] != SSE_UP);
+        count += shape::one_if(classes[i] != SSE_UP) as usize;
         i += 1;
     }
     count
-}
-
-fn one_if(b: bool) -> usize
-    ensures { λ r. ⌜ (r ≡ oneIf b) × (r ≤ 1) ⌝ }
-{
-    if b { 1 } else { 0 }
 }
 
 // Whether the eightbyte at an index is one of the first n, and an upper half.

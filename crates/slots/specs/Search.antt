@@ -1,8 +1,8 @@
 -- A search inside a shape (REFERENCE 7): the slots that it finds, or nothing.
 use Prim.Native.Nat.{ℕ, _+_}
 use mathlib.Core.List.{List, [], _∷_}
-use mathlib.Core.Bool.{Bool, true, false}
 use lib.ListN.{length}
+use Rattle.shape.specs.Numbers.{oneIf}
 use Rattle.shape.specs.Questions.{isFloat}
 use Rattle.slots.specs.declared.Slot.{Slot}
 use Rattle.slots.specs.declared.Found.{Found}
@@ -11,11 +11,6 @@ use Rattle.slots.specs.declared.Found.the-variants.{Slots, Nothing}
 pub data Search : Type 0 where
   found : List Slot → Search
   nothing : Search
-
--- 1 for a float, 0 for an integer
-abbrev pub oneIf : Bool → ℕ
-oneIf true = 1
-oneIf false = 0
 
 -- how many of some slots are floats
 unfoldable pub floatsIn : List Slot → ℕ

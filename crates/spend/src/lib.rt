@@ -199,7 +199,7 @@ fn when_short(short: Short, left: Left, found: Wanted, integer: u64, float: u64)
 fn integer_cost(shared: bool, count: u64, floats: u64) -> u64
     ensures { λ r. ⌜ r ≡ integerCost shared count floats ⌝ }
 {
-    if shared { count } else { minus(count, floats) }
+    if shared { count } else { shape::minus(count, floats) }
 }
 
 fn float_cost(shared: bool, floats: u64) -> u64
@@ -311,17 +311,11 @@ pub fn left_after(left: Left, spent: Spent) -> Left
     ensures { λ r. ⌜ r ≡ leftAfter left spent ⌝ }
 {
     Left {
-        integer: minus(
-            minus(left.integer, spent.integers_passed),
+        integer: shape::minus(
+            shape::minus(left.integer, spent.integers_passed),
             spent.integers_given,
         ),
-        float: minus(minus(left.float, spent.floats_passed), spent.floats_given),
+        float: shape::minus(shape::minus(left.float, spent.floats_passed), spent.floats_given),
         integers_only: left.integers_only,
     }
-}
-
-fn minus(a: u64, b: u64) -> u64
-    ensures { λ r. ⌜ r ≡ a - b ⌝ }
-{
-    if a < b { 0 } else { a - b }
 }

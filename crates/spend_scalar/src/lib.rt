@@ -80,8 +80,8 @@ fn integer_argument(start: u64, scalars: Scalars, left: u64, want: u64) -> Decis
     }
     // 9: wide, with an even start or a drain
     if (want > 1) & (scalars.wide_integer_starts_even | scalars.wide_integer_drains) {
-        let skipped = skip(scalars.wide_integer_starts_even, minus(start, left), left);
-        if want <= minus(left, skipped) {
+        let skipped = skip(scalars.wide_integer_starts_even, shape::minus(start, left), left);
+        if want <= shape::minus(left, skipped) {
             return direct(skipped, want);
         }
         if scalars.wide_integer_drains {
@@ -143,10 +143,4 @@ fn floats(given: u64) -> Decision
             floats_given: given,
         },
     }
-}
-
-fn minus(a: u64, b: u64) -> u64
-    ensures { λ r. ⌜ r ≡ a - b ⌝ }
-{
-    if a < b { 0 } else { a - b }
 }

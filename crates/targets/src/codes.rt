@@ -1,6 +1,5 @@
 // The codes of architectures, systems and conventions, and what each stands for (REFERENCE 6.1).
 ghost use mathlib.Core.Path.{_≡_};
-ghost use Prim.Native.Nat.{_-_};
 ghost use Rattle.targets.specs.Codes.{isTarget, isConvention, architectureOf, systemOf, conventionOf, isWindows, isElf};
 
 // The answer where there is nothing to answer: no description, no convention, no attribute (REFERENCE 1.5).
@@ -115,15 +114,8 @@ pub fn convention_of(code: u64) -> Convention
         FASTCALL => Convention::Fastcall,
         NO_CALLEE_SAVED => Convention::NoCalleeSaved,
         PRESERVE_NONE => Convention::PreserveNone,
-        _ => Convention::Regparm(minus(code, REGPARM)),
+        _ => Convention::Regparm(shape::minus(code, REGPARM)),
     }
-}
-
-// What is left of `a` without `b`, 0 where `b` is more: no known code is.
-fn minus(a: u64, b: u64) -> u64
-    ensures { λ r. ⌜ r ≡ a - b ⌝ }
-{
-    if a < b { 0 } else { a - b }
 }
 
 pub fn is_windows(system: System) -> bool

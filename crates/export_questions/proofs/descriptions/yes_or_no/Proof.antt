@@ -10,4 +10,4 @@ yes-or-no-spec =
     tie.close
     (tie.spec
     (λ c κs. search needs)
-    (λ c. ap (told _) (c .flag-number .ensures)))
+    (λ c. ap (told _) (c .one-if .ensures .0)))

@@ -1,7 +1,7 @@
 -- `barkpaddle_callee_pops` says what `callee_pops` answers as a number.
 use mathlib.Core.Path.{_∙_, ap}
 use borrow.Author.Needs.{needs}
-use Rattle.rows.specs.Codes.{flag}
+use Rattle.shape.specs.Numbers.{oneIf}
 use Rattle.export_questions.proofs.lookups.barkpaddle_callee_pops.Statement.{statement}
 use Rattle.export_questions.proofs.lookups.barkpaddle_callee_pops.Tie as tie
 
@@ -11,4 +11,4 @@ barkpaddle-callee-pops-spec =
     (tie.spec
     (λ c κs. search needs)
     (λ c κs. search needs)
-    (λ c. c .flag-number .ensures ∙ ap flag (c .before .callee-pops .ensures)))
+    (λ c. c .one-if .ensures .0 ∙ ap oneIf (c .before .callee-pops .ensures)))

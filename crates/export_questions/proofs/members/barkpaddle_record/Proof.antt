@@ -11,4 +11,4 @@ barkpaddle-record-spec =
     (λ c κs. search needs)
     (λ c κs. search needs)
     (λ c κs. search needs)
-    (λ c. recorded _ _ (c .before .before .before .«record» .ensures) _ (c .before .flag-number .ensures) _ (c .flag-number2 .ensures)))
+    (λ c. recorded _ _ (c .before .before .before .«record» .ensures) _ (c .before .one-if .ensures .0) _ (c .one-if2 .ensures .0)))

@@ -1,16 +1,9 @@
 -- `two_members` finds two pieces: one at least a float, and each fits a register.
-use Prim.Native.Nat.{_≤_}
-use Rattle.find.proofs.Tests.{one-small, members-integers, members-wide, members-found}
+use Rattle.find.proofs.Tests.{members-integers, members-wide, members-found}
 use borrow.Author.Needs.{needs}
 use native.Mathlib.Omega.{arith}
 use Rattle.find.proofs.inside.two_members.Statement.{statement}
 use Rattle.find.proofs.inside.two_members.Tie as tie
-
-add-floats : tie.Need-add-floats
-add-floats c =
-    let a : c .before .before .one-if .result ≤ 1 = search (one-small) in
-    let b : c .one-if2 .result ≤ 1 = search (one-small) in
-    omega arith
 
 pub two-members-spec : {M : Type 1} → statement M
 two-members-spec =
@@ -20,7 +13,7 @@ two-members-spec =
     (λ c κs. search needs)
     (λ c κs. search needs)
     (λ c κs. search needs)
-    add-floats
+    (λ c. omega arith)
     (λ c. search (members-integers))
     (λ c κs. search needs)
     (λ c κs. search needs)

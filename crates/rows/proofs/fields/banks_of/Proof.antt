@@ -18,4 +18,4 @@ banks-of-spec =
     (λ c κs. search needs)
     (λ c. search needs)
     (λ c κs. search needs)
-    (λ c. simp (c .before .before .before .wide .ensures, c .before .before .wide2 .ensures, c .before .wide3 .ensures, c .wide4 .ensures)))
+    (λ c. simp (c .before .before .before .wide .ensures .0, c .before .before .wide2 .ensures .0, c .before .wide3 .ensures .0, c .wide4 .ensures .0)))

@@ -13,4 +13,4 @@ scalars-of-spec =
     (λ c. search needs)
     (λ c κs. search needs)
     (λ c κs. search needs)
-    (λ c. simp (c .before .wide .ensures, c .wide2 .ensures)))
+    (λ c. simp (c .before .wide .ensures .0, c .wide2 .ensures .0)))
