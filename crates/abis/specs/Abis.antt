@@ -4,6 +4,7 @@ use Prim.Native.Nat.{ℕ}
 use mathlib.Core.Bool.{Bool, true, false}
 use mathlib.Core.List.{List, [], _∷_}
 use lib.ListN.{getD}
+use Rattle.shape.specs.Numbers.{integer, x87-extended, quad}
 use Rattle.describe.specs.declared.Rule.{Rule}
 use Rattle.describe.specs.declared.Test.the-variants.{Anything, Empty, SizeOneOf, SizeAtMost, Homogeneous, FloatPair, X87Stack, LoneFloat, FloatingMode, ComplexFloat, Eightbytes}
 use Rattle.describe.specs.declared.Travel.the-variants.{Ignore, AsFound, AsIntegers, AsOneInteger, ByReference, InMemory, InMemoryAndSpend}
@@ -22,15 +23,9 @@ use Rattle.describe.specs.declared.Cleanup.the-variants.{Caller, Callee}
 use Rattle.describe.specs.Description.{Description, rule, ruleShort}
 use Rattle.text.specs.Text.{bytes}
 
--- Formats as a piece's kind has them; 0 is none.
+-- A format is the kind of a piece that has it; no format is the one kind that is no float's.
 abbrev none : ℕ
-none = 0
-
-abbrev x87Extended : ℕ
-x87Extended = 3
-
-abbrev quad : ℕ
-quad = 4
+none = integer
 
 -- SysV AMD64: x86-64 but for Windows. An eightbyte goes in one register, so one integer in it takes the float beside it along. The limit
 -- is two eightbytes: of more, only a value whose every later eightbyte is an upper half goes in registers, and that is a vector alone.
@@ -42,7 +37,7 @@ sysv-amd64 =
       banks = record { integer = 6; float = 8; shared = false; «integer_width» = 8; «float_width» = 16 };
       scalars = record {
         -- No register takes an x87 value as an argument.
-        «in_memory» = x87Extended;
+        «in_memory» = x87-extended;
         -- Half a value would take a register that a later argument could use whole.
         «wide_integer_is_all_or_nothing» = true;
         «wide_integer_starts_even» = false;

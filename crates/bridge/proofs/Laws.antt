@@ -3,6 +3,7 @@ use mathlib.Core.Path.{_≡_}
 use mathlib.Core.List.{List}
 use borrow.Author.Tests.{eq-eqb, ne-eqb}
 use Prim.Native.Nat.{ℕ}
+use Rattle.shape.specs.Numbers.{form-void, form-scalar, form-aggregate}
 use Rattle.shape.specs.declared.Arg as args
 use Rattle.shape.specs.declared.Arg.the-variants.{Void, Scalar, Aggregate}
 use Rattle.shape.specs.declared.Shape.{Shape}
@@ -11,26 +12,26 @@ use Rattle.classify.specs.declared.Answer.{Answer}
 use Rattle.classify.specs.Answers.{Leaves}
 use Rattle.export_numbers.specs.Numbers.{shapeFrom}
 use Rattle.bridge.specs.declared.What.{What}
-use Rattle.bridge.specs.Lent.{argOf}
+use Rattle.bridge.specs.Lent.{no-kind, argOf}
 
 module _ (w : What) where
-  pub of-void : w .form ≡ 0 → Void ≡ argOf w
+  pub of-void : w .form ≡ form-void → Void ≡ argOf w
   unfolding argOf
-  of-void h = rw (eq-eqb (w .form) 0 h)
+  of-void h = rw (eq-eqb (w .form) form-void h)
 
-  module _ (h0 : (w .form ≡ 0) → ⊥) where
-    pub of-scalar : w .form ≡ 1 → Scalar (record { kind = w .kind; size = w .size; align = w .align }) ≡ argOf w
+  module _ (h0 : (w .form ≡ form-void) → ⊥) where
+    pub of-scalar : w .form ≡ form-scalar → Scalar (record { kind = w .kind; size = w .size; align = w .align }) ≡ argOf w
     unfolding argOf
-    of-scalar h = rw (ne-eqb (w .form) 0 h0, eq-eqb (w .form) 1 h)
+    of-scalar h = rw (ne-eqb (w .form) form-void h0, eq-eqb (w .form) form-scalar h)
 
-    module _ (h1 : (w .form ≡ 1) → ⊥) where
-      pub of-aggregate : w .form ≡ 2 → (s : Shape) → s ≡ shapeFrom (w .size) (w .align) (w .complex) (w .floating) → Aggregate s ≡ argOf w
+    module _ (h1 : (w .form ≡ form-scalar) → ⊥) where
+      pub of-aggregate : w .form ≡ form-aggregate → (s : Shape) → s ≡ shapeFrom (w .size) (w .align) (w .complex) (w .floating) → Aggregate s ≡ argOf w
       unfolding argOf
-      of-aggregate h s es = rw (es, ne-eqb (w .form) 0 h0, ne-eqb (w .form) 1 h1, eq-eqb (w .form) 2 h)
+      of-aggregate h s es = rw (es, ne-eqb (w .form) form-void h0, ne-eqb (w .form) form-scalar h1, eq-eqb (w .form) form-aggregate h)
 
-      pub of-unknown : ((w .form ≡ 2) → ⊥) → Scalar (record { kind = 5; size = 0; align = 0 }) ≡ argOf w
+      pub of-unknown : ((w .form ≡ form-aggregate) → ⊥) → Scalar (record { kind = no-kind; size = 0; align = 0 }) ≡ argOf w
       unfolding argOf
-      of-unknown h = rw (ne-eqb (w .form) 0 h0, ne-eqb (w .form) 1 h1, ne-eqb (w .form) 2 h)
+      of-unknown h = rw (ne-eqb (w .form) form-void h0, ne-eqb (w .form) form-scalar h1, ne-eqb (w .form) form-aggregate h)
 
 -- An operation on a call and what is asked, from what the method behind it leaves.
 module _ (answer : Call → args.Arg → List ℕ → List ℕ → Answer) (written : Call → args.Arg → List ℕ → List ℕ → List ℕ) where

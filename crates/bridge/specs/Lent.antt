@@ -4,6 +4,7 @@ use mathlib.Core.Path.{_≡_}
 use mathlib.Core.List.{List}
 use mathlib.Core.Bool.{cond}
 use lib.Dec.{eqb}
+use Rattle.shape.specs.Numbers.{form-void, form-scalar, form-aggregate}
 use Rattle.shape.specs.declared.Arg.{Arg}
 use Rattle.classify.specs.declared.Call.{Call}
 use Rattle.classify.specs.declared.Outcome.{Outcome}
@@ -12,16 +13,6 @@ use Rattle.classify.specs.Answers.{returnsAnswer, returnsWritten, argumentAnswe
 use Rattle.export_numbers.specs.Numbers as numbers
 use Rattle.bridge.specs.declared.What.{What}
 
--- forms: void, a scalar, an aggregate
-abbrev pub formVoid : ℕ
-formVoid = 0
-
-abbrev pub formScalar : ℕ
-formScalar = 1
-
-abbrev pub formAggregate : ℕ
-formAggregate = 2
-
 -- a kind that no scalar has: the first number above the kinds
 abbrev pub no-kind : ℕ
 no-kind = 5
@@ -29,9 +20,9 @@ no-kind = 5
 -- the argument that a question stands for; a form that isn't known stands for a scalar of no kind
 unfoldable pub argOf : What → Arg
 argOf w =
-    cond (eqb (w .form) formVoid) numbers.voidArg
-    (cond (eqb (w .form) formScalar) (numbers.scalarFrom (w .kind) (w .size) (w .align))
-    (cond (eqb (w .form) formAggregate) (numbers.aggregateFrom (w .size) (w .align) (w .complex) (w .floating))
+    cond (eqb (w .form) form-void) numbers.voidArg
+    (cond (eqb (w .form) form-scalar) (numbers.scalarFrom (w .kind) (w .size) (w .align))
+    (cond (eqb (w .form) form-aggregate) (numbers.aggregateFrom (w .size) (w .align) (w .complex) (w .floating))
     (numbers.scalarFrom no-kind 0 0)))
 
 -- ---- what an operation over a lent call leaves: its outcome, the call behind the reference, and the words of the buffer

@@ -21,12 +21,6 @@ pub struct What {
     pub floating: u64,
 }
 
-pub const VOID: u64 = 0;
-
-pub const SCALAR: u64 = 1;
-
-pub const AGGREGATE: u64 = 2;
-
 // A kind that no scalar has.
 const NO_KIND: u64 = 5;
 
@@ -117,17 +111,17 @@ fn variadic_argument_of(call: Call, what: What, words: &[u64], slots: &mut [u64]
 fn arg_of(what: What) -> Arg
     ensures { λ r. ⌜ r ≡ argOf what ⌝ }
 {
-    if what.form == VOID {
+    if what.form == shape::FORM_VOID {
         return Arg::Void;
     }
-    if what.form == SCALAR {
+    if what.form == shape::FORM_SCALAR {
         return Arg::Scalar(Scalar {
             kind: what.kind,
             size: what.size,
             align: what.align,
         });
     }
-    if what.form == AGGREGATE {
+    if what.form == shape::FORM_AGGREGATE {
         return Arg::Aggregate(export_numbers::shape_from(
             what.size,
             what.align,

@@ -167,13 +167,13 @@ fn what_of(drawn: Drawn) -> What {
 
 fn form_of(k: u64) -> u64 {
     if k == 0 {
-        return 0;
+        return shape::FORM_VOID;
     }
     if k < 5 {
-        return 1;
+        return shape::FORM_SCALAR;
     }
     if k < 15 {
-        return 2;
+        return shape::FORM_AGGREGATE;
     }
     k
 }
@@ -187,7 +187,7 @@ fn kind_of(k: u64) -> u64 {
 }
 
 fn size_of(form: u64, b: u64, c: u64) -> u64 {
-    if form == 1 {
+    if form == shape::FORM_SCALAR {
         return scalar_size((b >> 10) % 64);
     }
     if (c >> 6) % 32 == 0 {
@@ -305,17 +305,17 @@ fn pass(op: u64, call: Call, arg: Arg, words: &[u64], slots: &mut [u64]) -> Answ
 }
 
 fn arg_of(what: What) -> Arg {
-    if what.form == 0 {
+    if what.form == shape::FORM_VOID {
         return Arg::Void;
     }
-    if what.form == 1 {
+    if what.form == shape::FORM_SCALAR {
         return Arg::Scalar(Scalar {
             kind: what.kind,
             size: what.size,
             align: what.align,
         });
     }
-    if what.form == 2 {
+    if what.form == shape::FORM_AGGREGATE {
         return Arg::Aggregate(Shape {
             size: what.size,
             align: what.align,

@@ -8,7 +8,7 @@ use Rattle.shape.specs.declared.Piece.{Piece}
 use Rattle.shape.specs.declared.Scalar.{Scalar}
 use Rattle.shape.specs.declared.Shape.{Shape}
 use Rattle.shape.specs.Numbers.{quad, accepted, bad-list, bad-kind, bad-size, bad-align, most-size, most-offset, most-align, most-pieces}
-use Rattle.shape.specs.Words.{piecesOf}
+use Rattle.shape.specs.Words.{pieceSize, piecesOf}
 
 -- a refusal where the test holds, else what comes after it
 abbrev pub refuse : Bool → ℕ → ℕ → ℕ
@@ -47,7 +47,7 @@ piecesRefusal (p ∷ ps) = orElse (pieceRefusal p) (piecesRefusal ps)
 -- the words don't make whole pieces, or too many
 unfoldable pub listRefusal : List ℕ → ℕ
 listRefusal ws =
-    refuse (ltb 0 (length ws % 4)) bad-list (refuse (ltb most-pieces (length (piecesOf ws))) bad-list accepted)
+    refuse (ltb 0 (length ws % pieceSize)) bad-list (refuse (ltb most-pieces (length (piecesOf ws))) bad-list accepted)
 
 -- the list, the shape's size, its alignment, then its pieces
 unfoldable pub shapeRefusal : Shape → List ℕ → ℕ

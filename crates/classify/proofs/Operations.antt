@@ -28,7 +28,6 @@ use Rattle.describe.specs.declared.ReturnPointer.the-variants.{FirstArgument, F
 use Rattle.describe.specs.declared.Variadic.{Variadic}
 use Rattle.describe.specs.declared.Variadic.the-variants.{SameAsFixed, AlwaysMemory, BothBanks, IntegersOnly, UnnamedIntegers}
 use Rattle.describe.specs.Description.{Description, termsOf, Ends}
-use Rattle.describe.specs.Dots.{dotsOf, asFixed}
 use Rattle.rows.specs.Row.{listed}
 use Rattle.describe.specs.Questions.{isByReference, returnsByReference}
 use Rattle.abis.specs.declared.Brief.{Brief}

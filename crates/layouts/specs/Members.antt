@@ -7,7 +7,7 @@ use lib.ListN.{length}
 use Rattle.shape.specs.declared.Piece.{Piece}
 use Rattle.shape.specs.declared.Scalar.{Scalar}
 use Rattle.shape.specs.Numbers.{accepted, bad-list, no-room, most-pieces}
-use Rattle.shape.specs.Words.{piece, scalarsOf}
+use Rattle.shape.specs.Words.{piece, scalarsOf, pieceSize, scalarSize}
 use Rattle.checks.specs.Check.{refuse, orElse, unlessRefused, scalarRefusal}
 use Rattle.slots.specs.Words.{putAt}
 use Rattle.layouts.specs.declared.Placed.{Placed}
@@ -21,7 +21,7 @@ scalarsRefusal (s ∷ ss) = orElse (scalarRefusal s) (scalarsRefusal ss)
 -- the words don't make whole scalars, or too many; then the scalars
 unfoldable pub membersRefusal : List ℕ → ℕ
 membersRefusal ws =
-    refuse (ltb 0 (length ws % 3)) bad-list
+    refuse (ltb 0 (length ws % scalarSize)) bad-list
     (refuse (ltb most-pieces (length (scalarsOf ws))) bad-list (scalarsRefusal (scalarsOf ws)))
 
 -- each member at the next offset, from `end` on, that it fits: a multiple of its alignment, where 0 counts as 1, since 0 has no next multiple. A
@@ -50,7 +50,7 @@ ifRoom false n = record { refusal = no-room; count = 0 }
 -- the answer: NO_ROOM after all scalars are checked
 unfoldable pub piecesAnswer : List ℕ → List ℕ → Placed
 piecesAnswer ws out =
-    orPlaced (membersRefusal ws) (ifRoom (leb (length (scalarsOf ws)) (length out / 4)) (length (scalarsOf ws)))
+    orPlaced (membersRefusal ws) (ifRoom (leb (length (scalarsOf ws)) (length out / pieceSize)) (length (scalarsOf ws)))
 
 -- the buffer: the pieces at its front where they are accepted and fit, and all later words as they were
 unfoldable pub piecesWritten : List ℕ → List ℕ → List ℕ

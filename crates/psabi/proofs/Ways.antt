@@ -9,6 +9,7 @@ use borrow.Author.Tests.{le-leb, lt-leb}
 use lib.Dec.{eqb, leb}
 use lib.Seq.{drop-cons, drop-length}
 use lib.ListN.{length, drop, getD}
+use Rattle.shape.specs.Numbers.{quad}
 use Rattle.shape.proofs.Bools.{second-fails}
 use Rattle.slots.specs.declared.Slot.{Slot}
 use Rattle.slots.specs.Words.{slot, floatSlot}
@@ -168,11 +169,11 @@ v-v i (suc (suc m)) k l c d h =
       d .not-quad,
     )
 
-wide : (i f : ℕ) → f ≤ 8 → Agree i f (floatSlot 4 0 ∷ []) (SSE ∷ SSEUP ∷ [])
+wide : (i f : ℕ) → f ≤ 8 → Agree i f (floatSlot quad 0 ∷ []) (SSE ∷ SSEUP ∷ [])
 unfolding passing placesOf floatsIn
-wide i zero h = rw (short-vector (floatSlot 4 0 ∷ []) i 0 0 1 refl refl (omega arith), none-left floats)
+wide i zero h = rw (short-vector (floatSlot quad 0 ∷ []) i 0 0 1 refl refl (omega arith), none-left floats)
 wide i (suc m) h =
-    rw (fits (floatSlot 4 0 ∷ []) i (suc m) 0 1 refl refl (omega arith) (omega arith) i m (omega arith) (omega arith), next floats m (omega arith))
+    rw (fits (floatSlot quad 0 ∷ []) i (suc m) 0 1 refl refl (omega arith) (omega arith) i m (omega arith) (omega arith), next floats m (omega arith))
 
 -- ---- results
 

@@ -1,7 +1,7 @@
 -- The shapes for which row 0 is the psABI (REFERENCE 12), clause by clause. Each clause is a test that computes.
 use Prim.Native.Nat.{ℕ, zero, suc, _+_, _%_}
 use mathlib.Core.Path.{_≡_}
-use mathlib.Core.Bool.{Bool, true, false, cond, not, _&&_, _||_}
+use mathlib.Core.Bool.{Bool, true, cond, not, _&&_, _||_}
 use mathlib.Core.List.{List, [], _∷_}
 use lib.Dec.{eqb, leb, ltb}
 use Rattle.shape.specs.declared.Piece.{Piece}

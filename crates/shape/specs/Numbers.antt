@@ -1,4 +1,4 @@
--- The numbers of docs/REFERENCE.md, 1 to 3, by their names: kinds, refusals, and the largest values that are accepted.
+-- The numbers of docs/REFERENCE.md, 1 to 3, by their names: kinds, forms, refusals, and the largest values that are accepted.
 use Prim.Native.Nat.{ℕ}
 use mathlib.Core.Bool.{Bool, true, false}
 
@@ -17,6 +17,16 @@ x87-extended = 3
 
 abbrev pub quad : ℕ
 quad = 4
+
+-- forms of what a call is asked about
+abbrev pub form-void : ℕ
+form-void = 0
+
+abbrev pub form-scalar : ℕ
+form-scalar = 1
+
+abbrev pub form-aggregate : ℕ
+form-aggregate = 2
 
 -- refusals; 0 is none
 abbrev pub accepted : ℕ

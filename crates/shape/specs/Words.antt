@@ -6,6 +6,13 @@ use lib.ListN.{drop}
 use Rattle.shape.specs.declared.Piece.{Piece}
 use Rattle.shape.specs.declared.Scalar.{Scalar}
 
+-- words of a piece and of a scalar
+abbrev pub pieceSize : ℕ
+pieceSize = 4
+
+abbrev pub scalarSize : ℕ
+scalarSize = 3
+
 abbrev pub piece : ℕ → ℕ → ℕ → ℕ → Piece
 piece k s a o = record { kind = k; size = s; align = a; offset = o }
 

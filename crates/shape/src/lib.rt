@@ -17,6 +17,13 @@ pub const X87_EXTENDED: u64 = 3;
 
 pub const QUAD: u64 = 4;
 
+// Forms of what a call is asked about, where it comes as numbers: in a record of a sheet, and over a bridge.
+pub const FORM_VOID: u64 = 0;
+
+pub const FORM_SCALAR: u64 = 1;
+
+pub const FORM_AGGREGATE: u64 = 2;
+
 // Refusals: 0 is none.
 pub const ACCEPTED: u64 = 0;
 

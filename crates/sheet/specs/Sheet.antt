@@ -6,6 +6,7 @@ use mathlib.Core.Bool.{Bool, _||_, cond}
 use lib.Dec.{leb, eqb}
 use lib.ListN.{length, take, drop, replicate}
 use Rattle.shape.specs.Numbers.{most-pieces}
+use Rattle.shape.specs.Words.{pieceSize}
 use Rattle.slots.specs.Words.{mostWords, putAt}
 use Rattle.text.specs.Text.{bytes}
 use Rattle.sheet_records.specs.declared.known.Reader.{Reader}
@@ -13,7 +14,7 @@ use Rattle.sheet_records.specs.declared.known.Operation as operations
 use Rattle.sheet_records.specs.declared.Event as events
 use Rattle.sheet_records.specs.declared.Reading.{Reading}
 use Rattle.sheet_records.specs.Records.{recordSize}
-use Rattle.sheet_records.specs.Reading.{pieceSize, readAnswer, readPieces}
+use Rattle.sheet_records.specs.Reading.{readAnswer, readPieces}
 use Rattle.sheet_records.specs.Known.{actOf, stoppedReader}
 use Rattle.sheet_lines.specs.Printing.{line, newline, longest}
 use Rattle.sheet_perform.specs.declared.State.{State}

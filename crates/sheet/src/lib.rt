@@ -12,6 +12,7 @@ ghost use Prim.Native.Nat.{_+_, _≤_};
 ghost use mathlib.Core.Bool.{_&&_};
 ghost use lib.Dec.{leb};
 ghost use lib.ListN.{length};
+ghost use Rattle.sheet_records.specs.Records.{recordSize};
 ghost use Rattle.sheet_lines.specs.Text.{Put};
 ghost use Rattle.sheet_lines.specs.Printing.{longest};
 ghost use Rattle.sheet.specs.Sheet.{stopText, CarriedOut, Stepped, Taken, Finished};
@@ -141,7 +142,7 @@ fn put_stop(out: &mut [u8], at: usize) -> usize
 
 // Whether a whole record is left and the longest line has room.
 fn goes_on(left: usize, length: usize, at: usize) -> bool
-    ensures { λ r. ⌜ r ≡ leb 48 left && leb (at + longest) length ⌝ }
+    ensures { λ r. ⌜ r ≡ leb recordSize left && leb (at + longest) length ⌝ }
 {
     (RECORD <= left) & has_room(length, at)
 }

@@ -8,6 +8,8 @@ use borrow.Author.Tests.{lt-leb, le-leb, lt-ltb, le-ltb, eq-eqb, ne-eqb, leb-tru
 use lib.Dec.{leb, ltb}
 use lib.ListN.{length, set}
 use lib.Seq.{sets-eq}
+use Rattle.shape.specs.Numbers.{form-void, form-scalar, form-aggregate, most-pieces}
+use Rattle.shape.specs.Words.{pieceSize}
 use Rattle.shape.specs.declared.Arg as args
 use Rattle.slots.specs.Words.{putAt}
 use Rattle.slots.proofs.Words.{put-fits}
@@ -18,7 +20,7 @@ use Rattle.sheet_records.specs.declared.records.Record.{Record}
 use Rattle.sheet_records.specs.declared.Event as events
 use Rattle.sheet_records.specs.declared.Reading.{Reading}
 use Rattle.sheet_records.specs.Records.{recordSize, recordOf}
-use Rattle.sheet_records.specs.Reading.{came, waiting, stop, ready, operationOf, pieceSize, pieceWords, pieceRead, oneRead, pieceAnswer, piecePut, flagged, scalarOf, aggregateAnswer, valueAnswer, headAnswer, wholeAnswer, readAnswer, readPieces}
+use Rattle.sheet_records.specs.Reading.{came, waiting, stop, ready, operationOf, pieceWords, pieceRead, oneRead, pieceAnswer, piecePut, flagged, scalarOf, aggregateAnswer, valueAnswer, headAnswer, wholeAnswer, readAnswer, readPieces}
 use Rattle.sheet_records.specs.Known.{dueOf, nothingDue, stoppedReader}
 
 -- an operation without pieces
@@ -97,23 +99,23 @@ module _ (s : Reader) (r : Record) where
     unfolding aggregateAnswer
     aggregate-due h n en ex = rw (ex, en, ne-eqb _ _ h)
 
-    pub value-void : r .second ≡ 0 → (o : operations.Operation) → o ≡ operationOf (r .first) args.the-variants.Void
+    pub value-void : r .second ≡ form-void → (o : operations.Operation) → o ≡ operationOf (r .first) args.the-variants.Void
         → x ≡ ready s o → x ≡ valueAnswer s r
     unfolding valueAnswer
     value-void h o eo ex = rw (ex, eo, eq-eqb _ _ h)
 
-    module _ (h : r .second ≡ 0 → ⊥) where
-      pub value-scalar : r .second ≡ 1 → (o : operations.Operation) → o ≡ operationOf (r .first) (scalarOf r)
+    module _ (h : r .second ≡ form-void → ⊥) where
+      pub value-scalar : r .second ≡ form-scalar → (o : operations.Operation) → o ≡ operationOf (r .first) (scalarOf r)
           → x ≡ ready s o → x ≡ valueAnswer s r
       unfolding valueAnswer
       value-scalar k o eo ex = rw (ex, eo, ne-eqb _ _ h, eq-eqb _ _ k)
 
-      module _ (k : r .second ≡ 1 → ⊥) where
-        pub value-unknown : (ltb 2 (r .second) || ltb 3 (r .fifth)) || ltb 1024 (r .sixth) ≡ true → x ≡ stop s → x ≡ valueAnswer s r
+      module _ (k : r .second ≡ form-scalar → ⊥) where
+        pub value-unknown : (ltb form-aggregate (r .second) || ltb 3 (r .fifth)) || ltb most-pieces (r .sixth) ≡ true → x ≡ stop s → x ≡ valueAnswer s r
         unfolding valueAnswer
         value-unknown u ex = rw (ex, ne-eqb _ _ h, ne-eqb _ _ k, u)
 
-        pub value-aggregate : (ltb 2 (r .second) || ltb 3 (r .fifth)) || ltb 1024 (r .sixth) ≡ false
+        pub value-aggregate : (ltb form-aggregate (r .second) || ltb 3 (r .fifth)) || ltb most-pieces (r .sixth) ≡ false
             → x ≡ aggregateAnswer s r → x ≡ valueAnswer s r
         unfolding valueAnswer
         value-aggregate u ex = rw (ex, ne-eqb _ _ h, ne-eqb _ _ k, u)

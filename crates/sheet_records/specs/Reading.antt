@@ -4,6 +4,8 @@ use mathlib.Core.List.{List, [], _∷_}
 use mathlib.Core.Bool.{_||_, not, cond}
 use lib.Dec.{leb, ltb, eqb}
 use lib.ListN.{length}
+use Rattle.shape.specs.Numbers.{form-void, form-scalar, form-aggregate, most-pieces}
+use Rattle.shape.specs.Words.{pieceSize}
 use Rattle.shape.specs.declared.Arg as args
 use Rattle.shape.specs.declared.Shape.{Shape}
 use Rattle.slots.specs.Words.{putAt}
@@ -41,10 +43,6 @@ operationOf first arg =
 
 -- ---- a piece
 
--- words of a piece
-abbrev pub pieceSize : ℕ
-pieceSize = 4
-
 abbrev pub pieceWords : Record → List ℕ
 pieceWords r = r .second ∷ r .third ∷ r .fourth ∷ r .fifth ∷ []
 
@@ -81,12 +79,12 @@ aggregateAnswer s r =
 abbrev pub scalarOf : Record → args.Arg
 scalarOf r = args.the-variants.Scalar (record { kind = r .third; size = r .fourth; align = r .fifth })
 
--- 0 void, 1 a scalar, 2 an aggregate; another second word, a flag above 3 and more than 1,024 pieces stop
+-- void, a scalar or an aggregate; another second word, a flag above 3 and more pieces than the most stop
 unfoldable pub valueAnswer : Reader → Record → Reading
 valueAnswer s r =
-    cond (eqb (r .second) 0) (ready s (operationOf (r .first) args.the-variants.Void))
-    (cond (eqb (r .second) 1) (ready s (operationOf (r .first) (scalarOf r)))
-    (cond ((ltb 2 (r .second) || ltb 3 (r .fifth)) || ltb 1024 (r .sixth)) (stop s) (aggregateAnswer s r)))
+    cond (eqb (r .second) form-void) (ready s (operationOf (r .first) args.the-variants.Void))
+    (cond (eqb (r .second) form-scalar) (ready s (operationOf (r .first) (scalarOf r)))
+    (cond ((ltb form-aggregate (r .second) || ltb 3 (r .fifth)) || ltb most-pieces (r .sixth)) (stop s) (aggregateAnswer s r)))
 
 -- 0 a fresh call, 1 the mark; a stray piece and an unknown first word stop, and so does any other operation where no call is open
 unfoldable pub headAnswer : Reader → Record → Reading

@@ -22,6 +22,7 @@ ghost use lib.ListN.{length};
 ghost use Rattle.sheet_records.specs.Known.{dueOf};
 ghost use Rattle.sheet_records.specs.Reading as spec;
 ghost use Rattle.slots.specs.Words.{putAt};
+ghost use Rattle.shape.specs.Words.{pieceSize};
 
 // First words, as far as they are told apart.
 const FRESH: u64 = 0;
@@ -36,16 +37,8 @@ const VARIADIC_ARGUMENT: u64 = 4;
 
 const PIECE: u64 = 5;
 
-// Second words of an operation on a value, the largest flags, and the most pieces.
-const VOID: u64 = 0;
-
-const SCALAR: u64 = 1;
-
-const AGGREGATE: u64 = 2;
-
+// The largest flags of an aggregate.
 const MOST_FLAGS: u64 = 3;
-
-const MOST_PIECES: u64 = 1024;
 
 // Nothing that could be performed yet, an operation, or the end of all reading.
 pub enum Event {
@@ -139,10 +132,10 @@ fn read_head(reader: Reader, record: Record) -> Reading
 fn read_value(reader: Reader, record: Record) -> Reading
     ensures { λ r. ⌜ r ≡ spec.valueAnswer reader «record» ⌝ }
 {
-    if record.second == VOID {
+    if record.second == shape::FORM_VOID {
         return ready(reader, operation_of(record.first, Arg::Void));
     }
-    if record.second == SCALAR {
+    if record.second == shape::FORM_SCALAR {
         return ready(
             reader,
             operation_of(
@@ -155,7 +148,7 @@ fn read_value(reader: Reader, record: Record) -> Reading
             ),
         );
     }
-    if (record.second > AGGREGATE) | (record.fifth > MOST_FLAGS) | (record.sixth > MOST_PIECES) {
+    if (record.second > shape::FORM_AGGREGATE) | (record.fifth > MOST_FLAGS) | (record.sixth > checks::MOST_PIECES as u64) {
         return no_more(reader);
     }
     read_aggregate(reader, record)
@@ -232,7 +225,7 @@ fn waiting(reader: Reader, due: Due) -> Reader
 
 // Writes the words of a piece from a place of the buffer on, where they fit; whether they do.
 fn put_piece(pieces: &mut [u64], at: usize, record: Record) -> bool
-    ensures { λ r. ⌜ (r ≡ leb (at + spec.pieceSize) (length (now (pieces .entry)))) × (now (pieces .exit) ≡ putAt (now (pieces .entry)) at (spec.pieceWords «record»)) ⌝ }
+    ensures { λ r. ⌜ (r ≡ leb (at + pieceSize) (length (now (pieces .entry)))) × (now (pieces .exit) ≡ putAt (now (pieces .entry)) at (spec.pieceWords «record»)) ⌝ }
 {
     let n = pieces.len();
     if n < shape::PIECE {

@@ -2,7 +2,7 @@
 ghost use mathlib.Core.Path.{_≡_};
 ghost use Prim.Native.Nat.{_+_, _≤_, _<_};
 ghost use lib.ListN.{length};
-ghost use Rattle.sheet_records.specs.Records.{recordOf, wordAt, halfAt, quarterAt};
+ghost use Rattle.sheet_records.specs.Records.{recordSize, recordOf, wordAt, halfAt, quarterAt};
 
 // Bytes of a record.
 pub const RECORD: usize = 48;
@@ -17,7 +17,7 @@ pub struct Record {
 }
 
 pub(crate) fn record_of(bytes: &[u8]) -> Record
-    requires { ⌜ 48 ≤ length (now bytes) ⌝ }
+    requires { ⌜ recordSize ≤ length (now bytes) ⌝ }
     ensures { λ r. ⌜ r ≡ recordOf (now (bytes .entry)) ⌝ }
 {
     Record {

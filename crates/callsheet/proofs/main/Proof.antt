@@ -3,10 +3,10 @@ use Prim.Native.Nat.{ℕ, _*_}
 use mathlib.Core.Path.{sym}
 use lib.ListN.{length-replicate}
 use Rattle.shape.specs.Numbers.{most-pieces}
+use Rattle.shape.specs.Words.{pieceSize}
 use Rattle.slots.specs.Words.{mostWords}
 use Rattle.sheet_lines.specs.Printing.{longest}
 use Rattle.sheet_records.specs.Records.{recordSize}
-use Rattle.sheet_records.specs.Reading.{pieceSize}
 use borrow.Author.Needs.{needs}
 use Rattle.callsheet.proofs.main.Statement.{statement}
 use Rattle.callsheet.proofs.main.Tie as tie
