@@ -6,21 +6,19 @@ use mathlib.Core.Bool.{false}
 use native.Mathlib.Omega.{arith}
 use borrow.Author.Tests.{lt-ltb, le-ltb, ltb-false, le-leb, lt-leb}
 use lib.Dec.{ltb}
-use lib.ListN.{length, drop, set}
-use lib.Seq.{sets-eq}
+use lib.ListN.{length, drop}
 use Rattle.shape.specs.declared.Piece.{Piece}
 use Rattle.shape.specs.declared.Scalar.{Scalar}
 use Rattle.shape.specs.Numbers.{accepted, bad-list, no-room, most-pieces}
-use Rattle.shape.specs.Words.{piece, scalarsOf, scalarAt}
+use Rattle.shape.specs.Words.{piece, scalarsOf, scalarAt, putAt, pieceWords}
 use Rattle.checks.specs.Check.{scalarRefusal, unlessRefused}
 use Rattle.shape.proofs.Words.{scalars-step, scalars-end, length-scalars}
 use Rattle.checks.proofs.Check.{else-first}
 use Rattle.checks.proofs.Accepted.{refuse-none, else-none, Fits, fits}
-use Rattle.slots.specs.Words.{putAt}
-use Rattle.slots.proofs.Words.{put-fits, put-short, put-split, put-none}
+use Rattle.shape.proofs.Put.{put-short, put-split, put-none}
 use Rattle.layouts.specs.declared.Placed.{Placed}
 use Rattle.layouts.specs.Record.{roundUp}
-use Rattle.layouts.specs.Members.{scalarsRefusal, membersRefusal, placed, pieceWords, piecesWords, orPlaced, piecesAnswer, piecesWritten}
+use Rattle.layouts.specs.Members.{scalarsRefusal, membersRefusal, placed, piecesWords, orPlaced, piecesAnswer, piecesWritten}
 
 -- ---- check_members
 
@@ -51,16 +49,6 @@ module _ (total : ℕ) (ws : List ℕ) (at : ℕ) (inv : total ≡ scalarsRefusa
     pub refused-later : r ≡ accepted → total ≡ scalarsRefusal (scalarsOf (drop (at + 3) ws))
     unfolding scalarsRefusal
     refused-later f = rw (inv, scalars-step ws at (omega arith), ← es, ← er, f)
-
--- ---- put_piece
-
-pub stores : (ws : List ℕ) (at k s a o : ℕ) → at + 4 ≤ length ws
-    → set (set (set (set ws at k) (at + 1) s) (at + 2) a) (at + 3) o ≡ putAt ws at (k ∷ s ∷ a ∷ o ∷ [])
-stores ws at k s a o h =
-    let e1 : at + 1 ≡ suc at = omega arith in
-    let e2 : at + 2 ≡ suc (suc at) = omega arith in
-    let e3 : at + 3 ≡ suc (suc (suc at)) = omega arith in
-    rw (e1, e2, e3) (sets-eq (k ∷ s ∷ a ∷ o ∷ []) ws at h ∙ sym (put-fits ws at (k ∷ s ∷ a ∷ o ∷ []) h))
 
 -- ---- pieces
 

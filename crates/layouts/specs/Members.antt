@@ -7,9 +7,8 @@ use lib.ListN.{length}
 use Rattle.shape.specs.declared.Piece.{Piece}
 use Rattle.shape.specs.declared.Scalar.{Scalar}
 use Rattle.shape.specs.Numbers.{accepted, bad-list, no-room, most-pieces}
-use Rattle.shape.specs.Words.{piece, scalarsOf, pieceSize, scalarSize}
+use Rattle.shape.specs.Words.{piece, scalarsOf, pieceSize, scalarSize, putAt, pieceWords}
 use Rattle.checks.specs.Check.{refuse, orElse, unlessRefused, scalarRefusal}
-use Rattle.slots.specs.Words.{putAt}
 use Rattle.layouts.specs.declared.Placed.{Placed}
 use Rattle.layouts.specs.Record.{roundUp}
 
@@ -31,9 +30,6 @@ placed end [] = []
 placed end (s ∷ ss) =
     piece (s .kind) (s .size) (s .align) (roundUp end (max (s .align) 1))
     ∷ placed (roundUp end (max (s .align) 1) + s .size) ss
-
-abbrev pub pieceWords : Piece → List ℕ
-pieceWords p = p .kind ∷ p .size ∷ p .align ∷ p .offset ∷ []
 
 unfoldable pub piecesWords : List Piece → List ℕ
 piecesWords [] = []

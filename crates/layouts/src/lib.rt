@@ -7,8 +7,7 @@ ghost use mathlib.Core.Bool.{false};
 ghost use Prim.Native.Nat.{_+_, _≤_, _<_};
 ghost use Rattle.shape.specs.Numbers.{accepted, most-word};
 ghost use Rattle.shape.specs.Words.{piecesOf};
-ghost use Rattle.slots.specs.Words.{putAt};
-ghost use Rattle.layouts.specs.Members.{pieceWords, membersRefusal, piecesAnswer, piecesWritten};
+ghost use Rattle.layouts.specs.Members.{membersRefusal, piecesAnswer, piecesWritten};
 ghost use Rattle.layouts.specs.Record.{roundUp, largestAlign, furthestEnd, recorded, recordAnswer};
 
 // How many pieces were written, or the refusal.
@@ -37,7 +36,7 @@ pub fn pieces(members: &[u64], out: &mut [u64]) -> Placed
     while members.len() - at >= shape::SCALAR {
         let s = shape::scalar_at(members, at);
         let offset = round_up(end, shape::most(s.align, 1));
-        put_piece(
+        shape::put_piece(
             out,
             to,
             Piece {
@@ -179,21 +178,4 @@ fn check_members(members: &[u64]) -> u64
         at += shape::SCALAR;
     }
     shape::ACCEPTED
-}
-
-// Writes a piece from a place of the buffer on, where it fits.
-fn put_piece(out: &mut [u64], at: usize, p: Piece)
-    ensures { λ _. ⌜ now (out .exit) ≡ putAt (now (out .entry)) at (pieceWords p) ⌝ }
-{
-    let n = out.len();
-    if n < shape::PIECE {
-        return;
-    }
-    if at > n - shape::PIECE {
-        return;
-    }
-    out[at] = p.kind;
-    out[at + 1] = p.size;
-    out[at + 2] = p.align;
-    out[at + 3] = p.offset;
 }

@@ -3,10 +3,10 @@ use mathlib.Core.Path.{_≡_, refl}
 use mathlib.Core.List.{map}
 use Rattle.checks.specs.Check.{scalarRefusal, pieceRefusal, piecesRefusal, listRefusal, shapeRefusal}
 use Rattle.shape.specs.Questions.{allOf, isAllOf}
-use Rattle.shape.specs.Words.{piecesOf}
+use Rattle.shape.specs.Words.{piecesOf, putAt}
 use Rattle.slots.specs.Cut.{upTo, cut}
 use Rattle.slots.specs.Search.{floatsIn}
-use Rattle.slots.specs.Words.{wordsOf, putAt, written}
+use Rattle.slots.specs.Words.{wordsOf, written}
 use Rattle.abis.specs.Abis as abis
 use Rattle.abis.specs.Abis.{described}
 use Rattle.find.specs.Find.{foundIf, floatsAt, allSame, isHomogeneous, homogeneous, pieceSlot, fitsOne, floatPair, x87Stack, loneFloat}

@@ -2,6 +2,7 @@ pub mod Bools
 pub mod Lists
 pub mod Cases
 pub mod Words
+pub mod Put
 pub mod Questions
 pub mod OneAnswer
 mod Unique

@@ -1,9 +1,11 @@
--- No second answer meets the promise of a public function.
+-- No second answer, and no other words in a lent buffer, meet the promise of a public function.
 use mathlib.Core.Path.{sym, _∙_}
 use contract.Lifetimes.{Lfts}
-use Rattle.shape.proofs.OneAnswer.{OneAnswer}
+use denote.Ref.{now}
+use Rattle.shape.proofs.OneAnswer.{OneAnswer, OneExit}
 use Rattle.shape.proofs.is_all_of.Reads as is-all-of
 use Rattle.shape.proofs.piece_at.Reads as piece-at
+use Rattle.shape.proofs.put_piece.Reads as put-piece
 use Rattle.shape.proofs.scalar_at.Reads as scalar-at
 use Rattle.shape.proofs.Scalar.integer.Reads as scalar-integer
 use Rattle.shape.proofs.Scalar.float.Reads as scalar-float
@@ -21,6 +23,12 @@ is-all-of-decides κs a r q s t p p′ = p ∙ sym p′
 
 piece-at-decides : (κs : Lfts 1) → OneAnswer (piece-at.Post κs)
 piece-at-decides κs a r q s t p p′ = p ∙ sym p′
+
+put-piece-decides : (κs : Lfts 1) → OneAnswer (put-piece.Post κs)
+put-piece-decides κs a r q s t p p′ = p .0 ∙ sym (p′ .0)
+
+put-piece-words : (κs : Lfts 1) → OneExit (put-piece.Post κs) (λ s. now (s .0))
+put-piece-words κs a r q s t p p′ = p .1 ∙ sym (p′ .1)
 
 scalar-at-decides : (κs : Lfts 1) → OneAnswer (scalar-at.Post κs)
 scalar-at-decides κs a r q s t p p′ = p ∙ sym p′

@@ -1,8 +1,10 @@
 -- Pieces and scalars as they stand in words (REFERENCE 1.2): a piece is kind, size, alignment, offset; a scalar is the first three.
--- Words after the last whole record are no record.
-use Prim.Native.Nat.{ℕ}
-use mathlib.Core.List.{List, [], _∷_}
-use lib.ListN.{drop}
+-- Words after the last whole record are no record. And words put at a place of a buffer.
+use Prim.Native.Nat.{ℕ, _+_}
+use mathlib.Core.List.{List, [], _∷_, _++_}
+use mathlib.Core.Bool.{Bool, true, false}
+use lib.Dec.{leb}
+use lib.ListN.{length, take, drop}
 use Rattle.shape.specs.declared.Piece.{Piece}
 use Rattle.shape.specs.declared.Scalar.{Scalar}
 
@@ -49,3 +51,16 @@ firstScalar (s ∷ ss) = s
 -- the scalar that starts at a place of the words
 unfoldable pub scalarAt : List ℕ → ℕ → Scalar
 scalarAt ws at = firstScalar (scalarsOf (drop at ws))
+
+-- ---- written
+
+abbrev pub pickWords : Bool → List ℕ → List ℕ → List ℕ
+pickWords true a b = a
+pickWords false a b = b
+
+-- `vs` in the place of the words from `at` on, where they fit; no word changes where they don't
+unfoldable pub putAt : List ℕ → ℕ → List ℕ → List ℕ
+putAt ws at vs = pickWords (leb (at + length vs) (length ws)) (take at ws ++ vs ++ drop (at + length vs) ws) ws
+
+abbrev pub pieceWords : Piece → List ℕ
+pieceWords p = p .kind ∷ p .size ∷ p .align ∷ p .offset ∷ []

@@ -1,9 +1,11 @@
 // What a classifier is asked about: kinds, scalars, pieces and shapes, and the refusals. Pieces come in as words, four to a piece: kind, size,
 // alignment, offset. Whether it may be asked, the crate checks says. The rules are those of docs/REFERENCE.md, 1, 2 and 4.1.
 ghost use mathlib.Core.Path.{_≡_};
-ghost use Prim.Native.Nat.{_-_, _<_, _≤_, min, max};
+ghost use Prim.Native.Nat.{_-_, _<_, _≤_, min, max, _+_};
 ghost use Rattle.shape.specs.Numbers.{oneIf};
-ghost use Rattle.shape.specs.Words.{piecesOf, pieceAt, scalarAt};
+ghost use Rattle.shape.specs.Words.{piecesOf, pieceAt, scalarAt, putAt, pieceSize, pieceWords};
+ghost use lib.Dec.{leb};
+ghost use lib.ListN.{length};
 ghost use Rattle.shape.specs.Questions.{integerOf, floatOf, isFloat, endOf, isAllOf};
 
 // Kinds: an integer, or a float in one of four formats.
@@ -169,6 +171,24 @@ pub fn piece_at(words: &[u64], at: usize) -> Piece
         align: words[at + 2],
         offset: words[at + 3],
     }
+}
+
+// Writes a piece from a place of the buffer on, where it fits; whether it does.
+pub fn put_piece(out: &mut [u64], at: usize, piece: Piece) -> bool
+    ensures { λ r. ⌜ (r ≡ leb (at + pieceSize) (length (now (out .entry)))) × (now (out .exit) ≡ putAt (now (out .entry)) at (pieceWords piece)) ⌝ }
+{
+    let n = out.len();
+    if n < PIECE {
+        return false;
+    }
+    if at > n - PIECE {
+        return false;
+    }
+    out[at] = piece.kind;
+    out[at + 1] = piece.size;
+    out[at + 2] = piece.align;
+    out[at + 3] = piece.offset;
+    true
 }
 
 // The scalar that starts at a place of the words: all zeros where no whole scalar is left there.

@@ -9,8 +9,8 @@ use borrow.Author.Tests.{leb-true}
 use lib.Dec.{leb}
 use lib.ListN.{length, take, drop, length-append, length-drop}
 use lib.Seq.{drop-drop, drop-at, take-append-le, drop-append-le, take-append-seam}
-use Rattle.slots.specs.Words.{putAt}
-use Rattle.slots.proofs.Words.{put-fits}
+use Rattle.shape.specs.Words.{putAt}
+use Rattle.shape.proofs.Put.{put-fits}
 use Rattle.sheet_records.specs.Records.{recordSize}
 use Rattle.sheet_lines.specs.Printing.{longest}
 use Rattle.sheet.specs.Sheet.{Between, text, afterRecord, texts, afterAll, recordsIn, whole, taken}

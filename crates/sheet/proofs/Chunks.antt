@@ -9,7 +9,7 @@ use borrow.Author.Tests.{le-leb}
 use lib.Dec.{leb}
 use lib.ListN.{length, take, drop, length-append, take-append-drop}
 use lib.Seq.{length-take-le, drop-at}
-use Rattle.slots.specs.Words.{putAt}
+use Rattle.shape.specs.Words.{putAt}
 use Rattle.sheet_records.specs.Records.{recordSize}
 use Rattle.sheet_lines.specs.Printing.{longest}
 use Rattle.sheet.specs.declared.Step.{Step}

@@ -7,8 +7,8 @@ use native.Mathlib.Omega.{arith}
 use borrow.Author.Tests.{le-leb, leb-true, not-true, not-false}
 use lib.Dec.{leb, eqb}
 use lib.ListN.{length}
-use Rattle.slots.specs.Words.{putAt}
-use Rattle.slots.proofs.Words.{put-none, put-fits}
+use Rattle.shape.specs.Words.{putAt}
+use Rattle.shape.proofs.Put.{put-none, put-fits}
 use Rattle.text.specs.Text.{appendEnd, appended}
 use Rattle.sheet_records.specs.declared.known.Reader.{Reader}
 use Rattle.sheet_records.specs.declared.known.Operation as operations

@@ -6,8 +6,8 @@ use mathlib.Core.Bool.{Bool, _||_, cond}
 use lib.Dec.{leb, eqb}
 use lib.ListN.{length, take, drop, replicate}
 use Rattle.shape.specs.Numbers.{most-pieces}
-use Rattle.shape.specs.Words.{pieceSize}
-use Rattle.slots.specs.Words.{mostWords, putAt}
+use Rattle.shape.specs.Words.{pieceSize, putAt}
+use Rattle.slots.specs.Words.{mostWords}
 use Rattle.text.specs.Text.{bytes}
 use Rattle.sheet_records.specs.declared.known.Reader.{Reader}
 use Rattle.sheet_records.specs.declared.known.Operation as operations

@@ -7,16 +7,10 @@ use native.Mathlib.Omega.{arith}
 use native.Mathlib.Numerals.{add-one}
 use borrow.Author.Tests.{lt-ltb, le-ltb}
 use lib.Dec.{ltb}
-use lib.ListN.{length, take, set, getD, length-append, length-drop}
-use lib.Seq.{length-take-le, take-length, paste, paste-suc, sets-eq}
-use Rattle.slots.specs.Words.{putAt}
-use Rattle.slots.proofs.Words.{put-fits, put-split, put-none}
+use lib.ListN.{length, set, getD, length-append}
+use lib.Seq.{take-length, paste, paste-suc}
+use Rattle.shape.proofs.Put.{put-fits, put-stores, length-put, put-split, put-none}
 use Rattle.sheet_lines.specs.Text.{Put, digitOf, decimalIn}
-
-pub length-put : (o : List ℕ) (at : ℕ) (text : List ℕ) → at + length text ≤ length o → length (putAt o at text) ≡ length o
-length-put o at text h =
-    let front : length (take at o) ≡ at = length-take-le at o (omega arith) in
-    ap length (put-fits o at text h) ∙ simp (length-append, length-drop) (omega arith)
 
 -- a text and then another from where it ends
 pub put-then : {o : List ℕ} {at : ℕ} {a : List ℕ} {r : ℕ} {p : List ℕ} {b : List ℕ} {t : ℕ} {q : List ℕ}
@@ -37,7 +31,7 @@ put-nothing o at h = record { ends = omega arith; put = sym (put-none o at h); f
 
 -- the store of a byte
 pub put-one : (o : List ℕ) (at b : ℕ) → at + 1 ≤ length o → Put o at (b ∷ []) (at + 1) (set o at b)
-put-one o at b h = record { ends = refl; put = sets-eq (b ∷ []) o at h ∙ sym (put-fits o at (b ∷ []) h); fits = h }
+put-one o at b h = record { ends = refl; put = put-stores o at (b ∷ []) h; fits = h }
 
 -- the loop of `put_text`: a copy byte by byte
 module _ (o : List ℕ) (at : ℕ) (text : List ℕ) (room : at + length text ≤ length o) where

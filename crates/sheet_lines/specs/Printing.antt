@@ -6,7 +6,8 @@ use mathlib.Core.List.{List, [], _∷_, _++_}
 use mathlib.Core.Bool.{Bool, _&&_, cond}
 use lib.Dec.{leb, eqb}
 use lib.ListN.{length, take}
-use Rattle.slots.specs.Words.{slotSize, mostSlots, mostWords, putAt}
+use Rattle.shape.specs.Words.{putAt}
+use Rattle.slots.specs.Words.{slotSize, mostSlots, mostWords}
 use Rattle.text.specs.Text.{bytes}
 use Rattle.spend.specs.declared.Way as ways
 use Rattle.spend.specs.Ways.{wayFrom}

@@ -5,7 +5,7 @@ use mathlib.Core.List.{List, [], _∷_, _++_}
 use mathlib.Core.Bool.{cond}
 use lib.Dec.{ltb}
 use lib.ListN.{length}
-use Rattle.slots.specs.Words.{putAt}
+use Rattle.shape.specs.Words.{putAt}
 
 -- `text` stands from `at` on, where it fits, and ends at `to`; all other bytes are as they were
 pub record Put (before : List ℕ) (at : ℕ) (text : List ℕ) (to : ℕ) (after : List ℕ) : Type 0 where

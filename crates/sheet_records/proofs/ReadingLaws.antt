@@ -1,18 +1,15 @@
 -- What comes of a record, test by test in the order of the code.
-use Prim.Native.Nat.{ℕ, suc, _+_, _^_, _<_, _≤_}
-use mathlib.Core.Path.{_≡_, sym, _∙_}
-use mathlib.Core.List.{List, [], _∷_}
+use Prim.Native.Nat.{ℕ, _+_, _^_, _<_, _≤_}
+use mathlib.Core.Path.{_≡_}
+use mathlib.Core.List.{List}
 use mathlib.Core.Bool.{Bool, true, false, _||_, not}
 use native.Mathlib.Omega.{arith}
-use borrow.Author.Tests.{lt-leb, le-leb, lt-ltb, le-ltb, eq-eqb, ne-eqb, leb-true, not-false}
+use borrow.Author.Tests.{lt-ltb, le-ltb, eq-eqb, ne-eqb, leb-true, not-false}
 use lib.Dec.{leb, ltb}
-use lib.ListN.{length, set}
-use lib.Seq.{sets-eq}
+use lib.ListN.{length}
 use Rattle.shape.specs.Numbers.{form-void, form-scalar, form-aggregate, most-pieces}
-use Rattle.shape.specs.Words.{pieceSize}
+use Rattle.shape.specs.Words.{pieceSize, putAt, pieceWords}
 use Rattle.shape.specs.declared.Arg as args
-use Rattle.slots.specs.Words.{putAt}
-use Rattle.slots.proofs.Words.{put-fits}
 use Rattle.sheet_records.specs.declared.known.Due.{Due}
 use Rattle.sheet_records.specs.declared.known.Reader.{Reader}
 use Rattle.sheet_records.specs.declared.known.Operation as operations
@@ -20,7 +17,7 @@ use Rattle.sheet_records.specs.declared.records.Record.{Record}
 use Rattle.sheet_records.specs.declared.Event as events
 use Rattle.sheet_records.specs.declared.Reading.{Reading}
 use Rattle.sheet_records.specs.Records.{recordSize, recordOf}
-use Rattle.sheet_records.specs.Reading.{came, waiting, stop, ready, operationOf, pieceWords, pieceRead, oneRead, pieceAnswer, piecePut, flagged, scalarOf, aggregateAnswer, valueAnswer, headAnswer, wholeAnswer, readAnswer, readPieces}
+use Rattle.sheet_records.specs.Reading.{came, waiting, stop, ready, operationOf, pieceRead, oneRead, pieceAnswer, piecePut, flagged, scalarOf, aggregateAnswer, valueAnswer, headAnswer, wholeAnswer, readAnswer, readPieces, pieceOf}
 use Rattle.sheet_records.specs.Known.{dueOf, nothingDue, stoppedReader}
 
 -- an operation without pieces
@@ -82,7 +79,7 @@ module _ (s : Reader) (r : Record) where
     unfolding piecePut
     missing-kept h = rw (ne-eqb _ _ h)
 
-    pub piece-put : (qs : List ℕ) → qs ≡ putAt ps (s .due .words) (pieceWords r) → r .first ≡ 5 → qs ≡ piecePut s r ps
+    pub piece-put : (qs : List ℕ) → qs ≡ putAt ps (s .due .words) (pieceWords (pieceOf r)) → r .first ≡ 5 → qs ≡ piecePut s r ps
     unfolding piecePut
     piece-put qs eq h = rw (eq, eq-eqb _ _ h)
 
@@ -177,18 +174,3 @@ module _ (s : Reader) (bs ps : List ℕ) where
       pub first-kept : s .due .pieces ≤ 0 → ps ≡ readPieces s bs ps
       unfolding readPieces
       first-kept d = rw (h, le-ltb _ _ k, le-ltb _ _ d)
-
--- whether a piece fits, and its stores
-pub no-room-there : (at n : ℕ) → n < at + pieceSize → false ≡ leb (at + pieceSize) n
-no-room-there at n h = sym (lt-leb _ _ h)
-
-pub room-there : (at n : ℕ) → at + pieceSize ≤ n → true ≡ leb (at + pieceSize) n
-room-there at n h = sym (le-leb _ _ h)
-
-pub piece-stores : (ps : List ℕ) (at a b c d : ℕ) → at + pieceSize ≤ length ps
-    → set (set (set (set ps at a) (at + 1) b) (at + 2) c) (at + 3) d ≡ putAt ps at (a ∷ b ∷ c ∷ d ∷ [])
-piece-stores ps at a b c d h =
-    let e1 : at + 1 ≡ suc at = omega arith in
-    let e2 : at + 2 ≡ suc (suc at) = omega arith in
-    let e3 : at + 3 ≡ suc (suc (suc at)) = omega arith in
-    rw (e1, e2, e3) (sets-eq (a ∷ b ∷ c ∷ d ∷ []) ps at h ∙ sym (put-fits ps at (a ∷ b ∷ c ∷ d ∷ []) h))

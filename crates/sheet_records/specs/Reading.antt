@@ -1,14 +1,14 @@
 -- Records to operations (REFERENCE 11): what comes of a record, and what stops a sheet.
 use Prim.Native.Nat.{ℕ, _+_, _-_, _/_, _%_}
-use mathlib.Core.List.{List, [], _∷_}
+use mathlib.Core.List.{List}
 use mathlib.Core.Bool.{_||_, not, cond}
 use lib.Dec.{leb, ltb, eqb}
 use lib.ListN.{length}
 use Rattle.shape.specs.Numbers.{form-void, form-scalar, form-aggregate, most-pieces}
-use Rattle.shape.specs.Words.{pieceSize}
+use Rattle.shape.specs.Words.{pieceSize, piece, putAt, pieceWords}
 use Rattle.shape.specs.declared.Arg as args
+use Rattle.shape.specs.declared.Piece.{Piece}
 use Rattle.shape.specs.declared.Shape.{Shape}
-use Rattle.slots.specs.Words.{putAt}
 use Rattle.sheet_records.specs.declared.known.Due.{Due}
 use Rattle.sheet_records.specs.declared.known.Reader.{Reader}
 use Rattle.sheet_records.specs.declared.known.Operation as operations
@@ -43,8 +43,8 @@ operationOf first arg =
 
 -- ---- a piece
 
-abbrev pub pieceWords : Record → List ℕ
-pieceWords r = r .second ∷ r .third ∷ r .fourth ∷ r .fifth ∷ []
+abbrev pub pieceOf : Record → Piece
+pieceOf r = piece (r .second) (r .third) (r .fourth) (r .fifth)
 
 -- one piece fewer is due; with the last one the operation is ready
 unfoldable pub pieceRead : Reader → Due → Reading
@@ -62,7 +62,7 @@ pieceAnswer s r room =
     (cond (not (leb (s .due .words + pieceSize) room)) (stop s) (pieceRead s (oneRead (s .due))))
 
 unfoldable pub piecePut : Reader → Record → List ℕ → List ℕ
-piecePut s r ps = cond (not (eqb (r .first) 5)) ps (putAt ps (s .due .words) (pieceWords r))
+piecePut s r ps = cond (not (eqb (r .first) 5)) ps (putAt ps (s .due .words) (pieceWords (pieceOf r)))
 
 -- ---- a record where no piece is due
 

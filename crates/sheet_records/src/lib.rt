@@ -13,16 +13,14 @@ pub use records::RECORD;
 use records::Record;
 use records::record_of;
 use shape::Arg;
+use shape::Piece;
 use shape::Scalar;
 use shape::Shape;
 ghost use mathlib.Core.Path.{_≡_};
-ghost use Prim.Native.Nat.{_+_, _-_, _<_};
-ghost use lib.Dec.{leb};
+ghost use Prim.Native.Nat.{_-_, _<_};
 ghost use lib.ListN.{length};
 ghost use Rattle.sheet_records.specs.Known.{dueOf};
 ghost use Rattle.sheet_records.specs.Reading as spec;
-ghost use Rattle.slots.specs.Words.{putAt};
-ghost use Rattle.shape.specs.Words.{pieceSize};
 
 // First words, as far as they are told apart.
 const FRESH: u64 = 0;
@@ -81,7 +79,13 @@ fn read_piece(reader: Reader, record: Record, pieces: &mut [u64]) -> Reading
     if record.first != PIECE {
         return no_more(reader);
     }
-    if !put_piece(pieces, at, record) {
+    let piece = Piece {
+        kind: record.second,
+        size: record.third,
+        align: record.fourth,
+        offset: record.fifth,
+    };
+    if !shape::put_piece(pieces, at, piece) {
         return no_more(reader);
     }
     piece_read(reader, at + shape::PIECE)
@@ -221,22 +225,4 @@ fn waiting(reader: Reader, due: Due) -> Reader
         stopped: reader.stopped,
         due,
     }
-}
-
-// Writes the words of a piece from a place of the buffer on, where they fit; whether they do.
-fn put_piece(pieces: &mut [u64], at: usize, record: Record) -> bool
-    ensures { λ r. ⌜ (r ≡ leb (at + pieceSize) (length (now (pieces .entry)))) × (now (pieces .exit) ≡ putAt (now (pieces .entry)) at (spec.pieceWords «record»)) ⌝ }
-{
-    let n = pieces.len();
-    if n < shape::PIECE {
-        return false;
-    }
-    if at > n - shape::PIECE {
-        return false;
-    }
-    pieces[at] = record.second;
-    pieces[at + 1] = record.third;
-    pieces[at + 2] = record.fourth;
-    pieces[at + 3] = record.fifth;
-    true
 }

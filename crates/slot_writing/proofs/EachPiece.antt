@@ -5,11 +5,12 @@ use mathlib.Core.List.{List, _∷_}
 use native.Mathlib.Omega.{arith}
 use lib.ListN.{length, drop}
 use Rattle.shape.specs.declared.Piece.{Piece}
-use Rattle.shape.specs.Words.{piecesOf, pieceAt}
+use Rattle.shape.specs.Words.{piecesOf, pieceAt, putAt}
 use Rattle.shape.proofs.Words.{pieces-step, pieces-end, length-pieces}
 use Rattle.slots.specs.declared.Slot.{Slot}
-use Rattle.slots.specs.Words.{slotSize, slotWords, wordsOf, putAt, written}
-use Rattle.slots.proofs.Words.{put-split, put-none, length-words, written-short}
+use Rattle.slots.specs.Words.{slotSize, slotWords, wordsOf, written}
+use Rattle.shape.proofs.Put.{put-split, put-none}
+use Rattle.slots.proofs.Words.{length-words, written-short}
 use Rattle.find.specs.Find.{pieceSlot, eachPiece}
 use Rattle.find.proofs.Each.{length-each}
 

@@ -8,8 +8,9 @@ use native.Mathlib.Nat.{sub-zero, zero-add}
 use borrow.Author.Tests.{le-leb, leb-true, leb-false, not-true, not-false}
 use lib.Dec.{eqb, leb}
 use lib.ListN.{length, getD, take, length-take}
-use Rattle.slots.specs.Words.{slotSize, wordsOf, putAt, written}
-use Rattle.slots.proofs.Words.{put-none}
+use Rattle.shape.specs.Words.{putAt}
+use Rattle.slots.specs.Words.{slotSize, wordsOf, written}
+use Rattle.shape.proofs.Put.{put-none}
 use Rattle.eightbytes.specs.Class.{classOf}
 use Rattle.eightbytes.specs.Eightbytes.{classSlot, codedSlots, slotCount}
 use Rattle.eightbytes.proofs.Rest.{rest-end}

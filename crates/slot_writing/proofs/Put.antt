@@ -12,8 +12,10 @@ use lib.ListN.{length-map, length, getD, take, length-append}
 use lib.Seq.{take-all}
 use Rattle.slots.specs.declared.Slot.{Slot}
 use Rattle.shape.specs.Numbers.{oneIf}
-use Rattle.slots.specs.Words.{integerSlot, floatSlot, slotWords, slotSize, wordsOf, putAt, written}
-use Rattle.slots.proofs.Words.{put-split, put-none, words-append, length-words, written-short}
+use Rattle.slots.specs.Words.{integerSlot, floatSlot, slotWords, slotSize, wordsOf, written}
+use Rattle.shape.specs.Words.{putAt}
+use Rattle.slots.proofs.Words.{words-append, length-words, written-short}
+use Rattle.shape.proofs.Put.{put-split, put-none}
 use Rattle.eightbytes.specs.Class.{classOf}
 use Rattle.eightbytes.specs.Eightbytes.{eightbytesIn, formatOf, ownSlot, classSlot, upFirst, slotsFrom, codedSlots, slotCount}
 use Rattle.eightbytes.proofs.Class.{sse-code, up-code}

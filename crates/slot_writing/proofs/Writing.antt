@@ -4,9 +4,10 @@ use mathlib.Core.Path.{_≡_, sym}
 use mathlib.Core.List.{List, []}
 use native.Mathlib.Omega.{arith}
 use Rattle.shape.specs.declared.Piece.{Piece}
-use Rattle.slots.specs.Words.{slot, slotWords, putAt, wordsOf, written}
+use Rattle.shape.specs.Words.{putAt}
+use Rattle.slots.specs.Words.{slot, slotWords, wordsOf, written}
 use Rattle.slots.specs.Cut.{cut}
-use Rattle.slots.proofs.Words.{put-none}
+use Rattle.shape.proofs.Put.{put-none}
 use Rattle.find.specs.Find.{eachPiece}
 use Rattle.eightbytes.specs.Eightbytes as eight
 use Rattle.slots.specs.declared.Source as sources

@@ -7,7 +7,8 @@ use native.Mathlib.Numerals.{add-one}
 use native.Mathlib.Nat.{add-div-right, div-eq-of-lt, le-div-iff-mul-le, suc-mul}
 use lib.ListN.{length, length-append}
 use Rattle.slots.specs.declared.Slot.{Slot}
-use Rattle.slots.specs.Words.{integerSlot, slotWords, slotSize, wordsOf, putAt, written}
+use Rattle.shape.specs.Words.{putAt}
+use Rattle.slots.specs.Words.{integerSlot, slotWords, slotSize, wordsOf, written}
 use Rattle.slots.specs.Cut.{upTo, ceilDiv, partOf, cut}
 use Rattle.slots.proofs.Words.{over, put-next, length-words, words-append, written-fits, written-short}
 

@@ -1,11 +1,12 @@
 -- Slots as they stand in words, and what a buffer holds once they are written (REFERENCE 1.3). Only `slotWords`, `slotAt` and `slotSize` say
 -- how many words a slot has.
-use Prim.Native.Nat.{ℕ, zero, suc, _+_, _*_}
+use Prim.Native.Nat.{ℕ, zero, suc, _*_}
 use mathlib.Core.List.{List, [], _∷_, _++_}
-use mathlib.Core.Bool.{Bool, true, false, cond}
+use mathlib.Core.Bool.{cond}
 use lib.Dec.{leb}
-use lib.ListN.{length, take, drop, getD}
+use lib.ListN.{length, drop, getD}
 use Rattle.shape.specs.Numbers.{integer}
+use Rattle.shape.specs.Words.{putAt}
 use Rattle.slots.specs.declared.Slot.{Slot}
 
 abbrev pub slot : ℕ → ℕ → ℕ → Slot
@@ -34,14 +35,6 @@ slotWords s = s .kind ∷ s .offset ∷ s .size ∷ []
 unfoldable pub wordsOf : List Slot → List ℕ
 wordsOf [] = []
 wordsOf (s ∷ ss) = slotWords s ++ wordsOf ss
-
-abbrev pub pickWords : Bool → List ℕ → List ℕ → List ℕ
-pickWords true a b = a
-pickWords false a b = b
-
--- `vs` in the place of the words from `at` on, where they fit; no word changes where they don't
-unfoldable pub putAt : List ℕ → ℕ → List ℕ → List ℕ
-putAt ws at vs = pickWords (leb (at + length vs) (length ws)) (take at ws ++ vs ++ drop (at + length vs) ws) ws
 
 -- slots at the front of a buffer, where they all fit; all later words keep their values
 unfoldable pub written : List Slot → List ℕ → List ℕ

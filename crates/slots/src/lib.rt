@@ -4,7 +4,8 @@ ghost use mathlib.Core.Path.{_≡_};
 ghost use Prim.Native.Nat.{_/_};
 ghost use lib.ListN.{length};
 ghost use Rattle.shape.specs.Questions.{isFloat};
-ghost use Rattle.slots.specs.Words.{slotSize, slotWords, putAt, written};
+ghost use Rattle.shape.specs.Words.{putAt};
+ghost use Rattle.slots.specs.Words.{slotSize, slotWords, written};
 ghost use Rattle.slots.specs.Cut.{cut};
 
 // Words of a slot.

@@ -3,10 +3,9 @@ use Prim.Native.Nat.{_≤_, _-_, _+_, _*_, _/_}
 use mathlib.Core.Path.{_≡_, refl}
 use lib.ListN.{length, drop}
 use Rattle.shape.specs.Numbers.{accepted, most-pieces}
-use Rattle.shape.specs.Words.{scalarsOf}
+use Rattle.shape.specs.Words.{scalarsOf, putAt}
 use Rattle.shape.proofs.Words.{length-scalars}
 use Rattle.checks.proofs.Accepted.{Fits}
-use Rattle.slots.specs.Words.{putAt}
 use Rattle.layouts.specs.Members.{scalarsRefusal, placed, piecesWords, piecesWritten}
 use Rattle.layouts.proofs.Making.{round-bound}
 use Rattle.layouts.proofs.Members.{pieces-refused, pieces-same, pieces-short, pieces-kept, pieces-count, pieces-start, pieces-few, pieces-ok, here-fits, later-ok, next-room, next-words, pieces-end}
@@ -62,7 +61,7 @@ loop-again c =
       omega (arith, bounded r),
       later-ok _ _ (i .0) (i .4) t _ (s .scalar-at .ensures),
       omega (arith, next-room _ _ (i .0) (i .4) t _ (s .scalar-at .ensures) (s .before .before .loop .to) (s .before .before .loop .out) (i .5)),
-      next-words _ _ (i .0) (i .4) t _ (s .scalar-at .ensures) _ _ _ _ (i .6) (i .5) _ (r .before .most .ensures) _ (r .round-up .ensures) _ (p .put-piece .ensures),
+      next-words _ _ (i .0) (i .4) t _ (s .scalar-at .ensures) _ _ _ _ (i .6) (i .5) _ (r .before .most .ensures) _ (r .round-up .ensures) _ (p .put-piece .ensures .1),
     )
 
 returns-3 : tie.Need-returns-3 Inv-loop μ-loop

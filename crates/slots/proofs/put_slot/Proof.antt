@@ -1,6 +1,6 @@
 -- `put_slot` writes the words of a slot where they fit, and no other word.
 use lib.ListN.{length-set}
-use Rattle.slots.proofs.Words.{put-short, stores}
+use Rattle.shape.proofs.Put.{put-short, put-stores}
 use borrow.Author.Needs.{needs}
 use native.Mathlib.Omega.{arith}
 use Rattle.slots.proofs.put_slot.Statement.{statement}
@@ -21,4 +21,4 @@ put-slot-spec =
     (λ c. search needs)
     (λ c. simp length-set (omega arith))
     (λ c. search needs)
-    (λ c. stores _ _ _ _ _ (omega arith)))
+    (λ c. put-stores _ _ _ (omega arith)))

@@ -2,7 +2,8 @@
 use Prim.Native.Nat.{_+_, _-_, _≤_}
 use mathlib.Core.Path.{_≡_, refl}
 use lib.ListN.{length}
-use Rattle.slots.specs.Words.{wordsOf, putAt, written}
+use Rattle.shape.specs.Words.{putAt}
+use Rattle.slots.specs.Words.{wordsOf, written}
 use Rattle.eightbytes.specs.Eightbytes.{codedSlots}
 use Rattle.slot_writing.proofs.Put.{left, put-short, put-start, room-start, room-turn, put-turn, put-end}
 use borrow.Author.Needs.{needs}

@@ -2,8 +2,8 @@
 use Prim.Native.Nat.{_+_, _-_, _*_, _≤_}
 use mathlib.Core.Path.{_≡_, refl}
 use lib.ListN.{length, drop}
-use Rattle.shape.specs.Words.{piecesOf}
-use Rattle.slots.specs.Words.{slotSize, wordsOf, putAt, written}
+use Rattle.shape.specs.Words.{piecesOf, putAt}
+use Rattle.slots.specs.Words.{slotSize, wordsOf, written}
 use Rattle.find.specs.Find.{eachPiece}
 use Rattle.slot_writing.proofs.EachPiece.{each-short, each-room, each-start, each-end, each-left, each-next}
 use borrow.Author.Needs.{needs}
