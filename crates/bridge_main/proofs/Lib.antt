@@ -1,2 +1,2 @@
-pub mod Cell
+pub mod Steps
 pub mod Lending

@@ -17,5 +17,5 @@ unfolding code.routine tablesOf
 returns-spec 𝓤 H 𝓜 𝓖 𝓡 =
     entered 𝓤 H (tripleOf 𝓤 H (𝓖 .A) here.signature (here.spec 𝓤 H (𝓖 .A) (𝓜 .mem) (𝓡 .run)))
     (tables 𝓤 H 𝓜 𝓡 code.env .C) (tables 𝓤 H 𝓜 𝓡 code.env .Λ) #here code.function (code.unfolded 𝓤 H 𝓜 𝓡)
-    (Lending.meets #form returnsAnswer returnsWritten 𝓤 H (𝓖 .A) (givenOf 𝓤 H 𝓜 𝓖) (tablesOf 𝓤 H 𝓜 (tables 𝓤 H 𝓜 𝓡 code.env))
-    (cited 𝓤 H (Lending.Form #form returnsAnswer returnsWritten 𝓤 H (𝓖 .A)) 𝓜 𝓡 code.env #form form-def.routine code.calls-bridge·barkpaddle-bridge-returns (form-thm.met 𝓤 H 𝓜 𝓖 𝓡)))
+    (Lending.meets returnsAnswer returnsWritten 𝓤 H (𝓖 .A) (givenOf 𝓤 H 𝓜 𝓖) #form (tablesOf 𝓤 H 𝓜 (tables 𝓤 H 𝓜 𝓡 code.env))
+    (cited 𝓤 H (Lending.Form returnsAnswer returnsWritten 𝓤 H (𝓖 .A)) 𝓜 𝓡 code.env #form form-def.routine code.calls-bridge·barkpaddle-bridge-returns (form-thm.met 𝓤 H 𝓜 𝓖 𝓡)))
