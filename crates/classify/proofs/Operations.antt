@@ -187,48 +187,6 @@ pub scalar-done : (T : Terms) (returning : Bool) (dots : Dots) (c : Call) (s : S
 unfolding piecesOf
 scalar-done T returning dots c s out r after d ed e = rw (ed, scalar-alone noClasses [] T returning dots (c .left) s .same) at e
 
--- ---- on a row
-
-kept : (k : ℕ) (new out : List ℕ) → (k ≡ accepted → ⊥) → out ≡ unlessRefused k new out
-kept zero new out h = absurd (h refl)
-kept (suc k) new out h = refl
-
-module _ (returning variadic-argument : Bool) (c : Call) (arg : args.Arg) (ws out : List ℕ) (r : Answer) where
-  pub row-missing-refused : description-count ≤ c .abi → r ≡ refused c bad-abi → parts.OnRow returning variadic-argument c arg ws out r out
-  unfolding parts.performedBy parts.performedByIn
-  row-missing-refused h er = record { answers = rw (er, row-missing (c .abi) h); writes = rw (row-missing (c .abi) h) }
-
-  module _ (h : c .abi < description-count) (b : Brief) (eb : b ≡ briefOf (described (c .abi))) (n : ℕ) (en : n ≡ checked (b .terms) (c .left) arg ws) where
-    checks : n ≡ checked (termsOf (described (c .abi))) (c .left) arg ws
-    checks = rw eb at en
-
-    pub row-refused : (n ≡ accepted → ⊥) → r ≡ refused c n → parts.OnRow returning variadic-argument c arg ws out r out
-    unfolding parts.performedBy parts.performedByIn
-    row-refused z er = record { answers = rw (er, row-there (c .abi) h, ← checks) (or-refused n c _ z); writes = rw (row-there (c .abi) h, ← checks) (kept n _ out z) }
-
-    module _ (z : n ≡ accepted) (b′ : Brief) (eb′ : b′ ≡ briefOf (described (c .abi)))
-        (dots : Dots) (ed : dots ≡ parts.dotsFor variadic-argument (b′ .terms .variadic)) (after : List ℕ) where
-      by-row : (list : List Rule) → list ≡ parts.rulesFor returning (described (c .abi)) → parts.By (b′ .terms) list returning dots c arg ws out r after
-          → parts.OnRow returning variadic-argument c arg ws out r after
-      unfolding parts.performedBy parts.performedByIn
-      by-row list el e =
-          let ed′ : dots ≡ parts.dotsFor variadic-argument (described (c .abi) .variadic) = rw eb′ at ed in
-          let e′ : parts.By (termsOf (described (c .abi))) list returning dots c arg ws out r after = rw eb′ at e in
-          rw (row-there (c .abi) h, ← checks, z, ← ed′, ← el) e′
-
-      pub row-aggregate : (list : Rules) → list ≡ parts.listFor returning b′ → parts.By (b′ .terms) (listed list) returning dots c arg ws out r after
-          → parts.OnRow returning variadic-argument c arg ws out r after
-      row-aggregate list el e = by-row (listed list) (list-is (c .abi) b′ eb′ returning list el) e
-
--- a scalar's rules are no list's, and its terms are those that the checks looked at
-pub row-scalar : (returning variadic-argument : Bool) (c : Call) (s : Scalar) (out : List ℕ) (r : Answer) → c .abi < description-count
-    → (b : Brief) → b ≡ briefOf (described (c .abi)) → (n : ℕ) → n ≡ checked (b .terms) (c .left) (parts.scalarArg s) [] → n ≡ accepted
-    → (dots : Dots) → dots ≡ parts.dotsFor variadic-argument (b .terms .variadic) → (after : List ℕ)
-    → parts.By (b .terms) [] returning dots c (parts.scalarArg s) [] out r after
-    → parts.OnRow returning variadic-argument c (parts.scalarArg s) [] out r after
-row-scalar returning variadic-argument c s out r h b eb n en z dots ed after e =
-    by-row returning variadic-argument c (parts.scalarArg s) [] out r h b eb n en z b eb dots ed after (parts.rulesFor returning (described (c .abi))) refl e
-
 -- ---- what decides a value comes to what is promised, where the rules agree with the Rust
 
 module _ (source : ℕ) (D : Description) (c : Call) (arg : args.Arg) (ws out : List ℕ) (p : Passed) (k : rules.Chosen)
@@ -282,17 +240,66 @@ module _ (source : ℕ) (D : Description) (c : Call) (arg : args.Arg) (ws out : 
 -- ---- the operations of a call on a row
 
 module _ (c : Call) (arg : args.Arg) (ws out : List ℕ) (r : Answer) (after : List ℕ) where
-  pub returns-row : parts.OnRow true false c arg ws out r after → Returns c arg ws out r after
+  returns-row : parts.OnRow true false c arg ws out r after → Returns c arg ws out r after
   unfolding returnsAnswer returnsWritten
   returns-row e = returns-by (rowRefusal (c .abi)) (described (c .abi)) c arg ws out r after e
 
-  pub argument-row : parts.OnRow false false c arg ws out r after → Passes c arg ws out r after
+  argument-row : parts.OnRow false false c arg ws out r after → Passes c arg ws out r after
   unfolding argumentAnswer argumentWritten
   argument-row e = argument-by (rowRefusal (c .abi)) (described (c .abi)) c arg ws out r after e
 
-  pub variadic-argument-row : parts.OnRow false true c arg ws out r after → PassesVariadic c arg ws out r after
+  variadic-argument-row : parts.OnRow false true c arg ws out r after → PassesVariadic c arg ws out r after
   unfolding variadicArgumentAnswer variadicArgumentWritten
   variadic-argument-row e = variadic-argument-by (rowRefusal (c .abi)) (described (c .abi)) c arg ws out r after e
+
+  performs : (returning variadic-argument : Bool) → parts.OnRow returning variadic-argument c arg ws out r after
+      → parts.Performs returning variadic-argument c arg ws out r after
+  performs true false = returns-row
+  performs true true = λ e. e
+  performs false false = argument-row
+  performs false true = variadic-argument-row
+
+kept : (k : ℕ) (new out : List ℕ) → (k ≡ accepted → ⊥) → out ≡ unlessRefused k new out
+kept zero new out h = absurd (h refl)
+kept (suc k) new out h = refl
+
+module _ (returning variadic-argument : Bool) (c : Call) (arg : args.Arg) (ws out : List ℕ) (r : Answer) where
+  pub row-missing-refused : description-count ≤ c .abi → r ≡ refused c bad-abi → parts.Performs returning variadic-argument c arg ws out r out
+  unfolding parts.performedBy parts.performedByIn
+  row-missing-refused h er = performs c arg ws out r out returning variadic-argument (record { answers = rw (er, row-missing (c .abi) h); writes = rw (row-missing (c .abi) h) })
+
+  module _ (h : c .abi < description-count) (b : Brief) (eb : b ≡ briefOf (described (c .abi))) (n : ℕ) (en : n ≡ checked (b .terms) (c .left) arg ws) where
+    checks : n ≡ checked (termsOf (described (c .abi))) (c .left) arg ws
+    checks = rw eb at en
+
+    pub row-refused : (n ≡ accepted → ⊥) → r ≡ refused c n → parts.Performs returning variadic-argument c arg ws out r out
+    unfolding parts.performedBy parts.performedByIn
+    row-refused z er =
+        performs c arg ws out r out returning variadic-argument
+        (record { answers = rw (er, row-there (c .abi) h, ← checks) (or-refused n c _ z); writes = rw (row-there (c .abi) h, ← checks) (kept n _ out z) })
+
+    module _ (z : n ≡ accepted) (b′ : Brief) (eb′ : b′ ≡ briefOf (described (c .abi)))
+        (dots : Dots) (ed : dots ≡ parts.dotsFor variadic-argument (b′ .terms .variadic)) (after : List ℕ) where
+      by-row : (list : List Rule) → list ≡ parts.rulesFor returning (described (c .abi)) → parts.By (b′ .terms) list returning dots c arg ws out r after
+          → parts.Performs returning variadic-argument c arg ws out r after
+      unfolding parts.performedBy parts.performedByIn
+      by-row list el e =
+          let ed′ : dots ≡ parts.dotsFor variadic-argument (described (c .abi) .variadic) = rw eb′ at ed in
+          let e′ : parts.By (termsOf (described (c .abi))) list returning dots c arg ws out r after = rw eb′ at e in
+          performs c arg ws out r after returning variadic-argument (rw (row-there (c .abi) h, ← checks, z, ← ed′, ← el) e′)
+
+      pub row-aggregate : (list : Rules) → list ≡ parts.listFor returning b′ → parts.By (b′ .terms) (listed list) returning dots c arg ws out r after
+          → parts.Performs returning variadic-argument c arg ws out r after
+      row-aggregate list el e = by-row (listed list) (list-is (c .abi) b′ eb′ returning list el) e
+
+-- a scalar's rules are no list's, and its terms are those that the checks looked at
+pub row-scalar : (returning variadic-argument : Bool) (c : Call) (s : Scalar) (out : List ℕ) (r : Answer) → c .abi < description-count
+    → (b : Brief) → b ≡ briefOf (described (c .abi)) → (n : ℕ) → n ≡ checked (b .terms) (c .left) (parts.scalarArg s) [] → n ≡ accepted
+    → (dots : Dots) → dots ≡ parts.dotsFor variadic-argument (b .terms .variadic) → (after : List ℕ)
+    → parts.By (b .terms) [] returning dots c (parts.scalarArg s) [] out r after
+    → parts.Performs returning variadic-argument c (parts.scalarArg s) [] out r after
+row-scalar returning variadic-argument c s out r h b eb n en z dots ed after e =
+    by-row returning variadic-argument c (parts.scalarArg s) [] out r h b eb n en z b eb dots ed after (parts.rulesFor returning (described (c .abi))) refl e
 
 -- ---- the operations, by what is asked about
 

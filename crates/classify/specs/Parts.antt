@@ -2,7 +2,7 @@
 -- goes about it; what an operation means is in Classify.antt and Spending.antt, and proofs/Agree.antt has this meet that.
 use Prim.Native.Nat.{ℕ}
 use mathlib.Core.List.{List}
-use mathlib.Core.Bool.{Bool, cond}
+use mathlib.Core.Bool.{Bool, true, false, cond}
 use Rattle.shape.specs.declared.Arg as args
 use Rattle.shape.specs.declared.Piece.{Piece}
 use Rattle.shape.specs.declared.Scalar.{Scalar}
@@ -31,7 +31,7 @@ use Rattle.classify.specs.declared.Call.{Call}
 use Rattle.classify.specs.declared.Answer.{Answer}
 use Rattle.classify.specs.declared.Decided.{Decided}
 use Rattle.classify.specs.Spending.{Chosen, byRules, freely, aggregateBy, choice}
-use Rattle.classify.specs.Answers.{callWith, checked, rowRefusal, roomRefusal, answered, orAnswer, Leaves}
+use Rattle.classify.specs.Answers.{callWith, checked, rowRefusal, roomRefusal, answered, orAnswer, Leaves, Returns, Passes, PassesVariadic}
 
 abbrev pub scalarArg : Scalar → args.Arg
 scalarArg s = args.the-variants.Scalar s
@@ -119,3 +119,10 @@ From source D returning variadic-argument c arg ws out r after =
 
 abbrev pub OnRow : Bool → Bool → Call → args.Arg → List ℕ → List ℕ → Answer → List ℕ → Type 0
 OnRow returning variadic-argument c arg ws out r after = From (rowRefusal (c .abi)) (described (c .abi)) returning variadic-argument c arg ws out r after
+
+-- an operation, as it is promised. None is a return after the dots
+abbrev pub Performs : Bool → Bool → Call → args.Arg → List ℕ → List ℕ → Answer → List ℕ → Type 0
+Performs true false c arg ws out r after = Returns c arg ws out r after
+Performs true true c arg ws out r after = OnRow true true c arg ws out r after
+Performs false false c arg ws out r after = Passes c arg ws out r after
+Performs false true c arg ws out r after = PassesVariadic c arg ws out r after

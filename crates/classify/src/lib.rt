@@ -230,7 +230,7 @@ fn perform_scalar(
     s: Scalar,
     out: &mut [u64],
 ) -> Answer
-    ensures { λ r. ⌜ parts.OnRow returning «variadic_argument» call (parts.scalarArg s) [] (now (out .entry)) r (now (out .exit)) ⌝ }
+    ensures { λ r. ⌜ parts.Performs returning «variadic_argument» call (parts.scalarArg s) [] (now (out .entry)) r (now (out .exit)) ⌝ }
 {
     if call.abi >= abis::DESCRIPTIONS {
         return refused(call, shape::BAD_ABI);
@@ -256,7 +256,7 @@ fn perform_aggregate(
     words: &[u64],
     out: &mut [u64],
 ) -> Answer
-    ensures { λ r. ⌜ parts.OnRow returning «variadic_argument» call (parts.aggregateArg shape) (now (words .entry)) (now (out .entry)) r (now (out .exit)) ⌝ }
+    ensures { λ r. ⌜ parts.Performs returning «variadic_argument» call (parts.aggregateArg shape) (now (words .entry)) (now (out .entry)) r (now (out .exit)) ⌝ }
 {
     if call.abi >= abis::DESCRIPTIONS {
         return refused(call, shape::BAD_ABI);
