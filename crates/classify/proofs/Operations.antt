@@ -327,49 +327,36 @@ module _ (source : ℕ) (T : Terms) (list : List Rule) (returning : Bool) (dots 
       same zero = nothing-written out
       same (suc n) = refl
 
-module _ (c : Call) (arg : args.Arg) (ws out : List ℕ) (r : Answer) where
-  module _ (e : arg ≡ args.the-variants.Void) (er : r ≡ voidAnswer c) where
-    void-row : (returning variadic-argument : Bool) → parts.OnRow returning variadic-argument c args.the-variants.Void ws out r out
-    unfolding voidAnswer voidAnswerBy callRefusalBy
-    void-row returning variadic-argument = record { answers = er ∙ void-performed _ _ _ returning _ c ws out; writes = void-kept _ _ _ returning _ c ws out }
+module _ (returning variadic-argument : Bool) (c : Call) (arg : args.Arg) (ws out : List ℕ) (r : Answer) where
+  pub by-void : arg ≡ args.the-variants.Void → r ≡ voidAnswer c → parts.Performs returning variadic-argument c arg ws out r out
+  unfolding voidAnswer voidAnswerBy callRefusalBy
+  by-void e er =
+      rw e
+      (performs c args.the-variants.Void ws out r out returning variadic-argument
+      (record { answers = er ∙ void-performed _ _ _ returning _ c ws out; writes = void-kept _ _ _ returning _ c ws out }))
 
-    pub returns-void : Returns c arg ws out r out
-    returns-void = rw e (returns-row c args.the-variants.Void ws out r out (void-row true false))
+  pub by-aggregate : (shape : Shape) → arg ≡ args.the-variants.Aggregate shape → (after : List ℕ)
+      → parts.Performs returning variadic-argument c (parts.aggregateArg shape) ws out r after → parts.Performs returning variadic-argument c arg ws out r after
+  by-aggregate shape e after k = rw e k
 
-    pub argument-void : Passes c arg ws out r out
-    argument-void = rw e (argument-row c args.the-variants.Void ws out r out (void-row false false))
+-- a scalar has no pieces
+module _ (c : Call) (arg : args.Arg) (ws out : List ℕ) (r : Answer) (s : Scalar) (e : arg ≡ args.the-variants.Scalar s) (after : List ℕ) where
+  pub returns-scalar : Returns c (parts.scalarArg s) [] out r after → Returns c arg ws out r after
+  unfolding returnsAnswer returnsWritten returnsAnswerBy returnsWrittenBy refusalBy checked argRefusal rust.returns rules.returnChoice
+  returns-scalar k = rw e k
 
-    pub variadic-argument-void : PassesVariadic c arg ws out r out
-    variadic-argument-void = rw e (variadic-argument-row c args.the-variants.Void ws out r out (void-row false true))
+  pub argument-scalar : Passes c (parts.scalarArg s) [] out r after → Passes c arg ws out r after
+  unfolding argumentAnswer argumentWritten argumentAnswerBy argumentWrittenBy refusalBy checked argRefusal rust.argument rules.argumentChoice
+  argument-scalar k = rw e k
 
-  -- a scalar has no pieces
-  module _ (s : Scalar) (e : arg ≡ args.the-variants.Scalar s) (after : List ℕ) where
-    pub returns-scalar : Returns c (parts.scalarArg s) [] out r after → Returns c arg ws out r after
-    unfolding returnsAnswer returnsWritten returnsAnswerBy returnsWrittenBy refusalBy checked argRefusal rust.returns rules.returnChoice
-    returns-scalar k = rw e k
-
-    pub argument-scalar : Passes c (parts.scalarArg s) [] out r after → Passes c arg ws out r after
-    unfolding argumentAnswer argumentWritten argumentAnswerBy argumentWrittenBy refusalBy checked argRefusal rust.argument rules.argumentChoice
-    argument-scalar k = rw e k
-
-    pub variadic-argument-scalar : PassesVariadic c (parts.scalarArg s) [] out r after → PassesVariadic c arg ws out r after
-    unfolding variadicArgumentAnswer variadicArgumentWritten variadicArgumentAnswerBy variadicArgumentWrittenBy refusalBy checked argRefusal rust.argument rust.variadicArgument rules.variadicArgumentChoice
-    variadic-argument-scalar k = rw (e, wordless (described (c .abi) .variadic) (described (c .abi)) (c .left)) k
-      where
-        wordless : (v : Variadic) (D : Description) (left : Left)
-            → rust.variadicBy v D left (args.the-variants.Scalar s) (piecesOf ws) ≡ rust.variadicBy v D left (args.the-variants.Scalar s) (piecesOf [])
-        wordless SameAsFixed D left = refl
-        wordless AlwaysMemory D left = refl
-        wordless BothBanks D left = refl
-        wordless IntegersOnly D left = refl
-        wordless UnnamedIntegers D left = refl
-
-  module _ (shape : Shape) (e : arg ≡ args.the-variants.Aggregate shape) (after : List ℕ) where
-    pub returns-aggregate : Returns c (parts.aggregateArg shape) ws out r after → Returns c arg ws out r after
-    returns-aggregate k = rw e k
-
-    pub argument-aggregate : Passes c (parts.aggregateArg shape) ws out r after → Passes c arg ws out r after
-    argument-aggregate k = rw e k
-
-    pub variadic-argument-aggregate : PassesVariadic c (parts.aggregateArg shape) ws out r after → PassesVariadic c arg ws out r after
-    variadic-argument-aggregate k = rw e k
+  pub variadic-argument-scalar : PassesVariadic c (parts.scalarArg s) [] out r after → PassesVariadic c arg ws out r after
+  unfolding variadicArgumentAnswer variadicArgumentWritten variadicArgumentAnswerBy variadicArgumentWrittenBy refusalBy checked argRefusal rust.argument rust.variadicArgument rules.variadicArgumentChoice
+  variadic-argument-scalar k = rw (e, wordless (described (c .abi) .variadic) (described (c .abi)) (c .left)) k
+    where
+      wordless : (v : Variadic) (D : Description) (left : Left)
+          → rust.variadicBy v D left (args.the-variants.Scalar s) (piecesOf ws) ≡ rust.variadicBy v D left (args.the-variants.Scalar s) (piecesOf [])
+      wordless SameAsFixed D left = refl
+      wordless AlwaysMemory D left = refl
+      wordless BothBanks D left = refl
+      wordless IntegersOnly D left = refl
+      wordless UnnamedIntegers D left = refl

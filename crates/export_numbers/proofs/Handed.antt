@@ -3,11 +3,13 @@
 use Prim.Native.Nat.{ℕ}
 use mathlib.Core.Path.{_≡_, refl}
 use mathlib.Core.List.{List, []}
+use mathlib.Core.Bool.{Bool}
 use Rattle.shape.specs.declared.Arg.{Arg}
 use Rattle.classify.specs.declared.Call.{Call}
 use Rattle.classify.specs.declared.Answer.{Answer}
-use Rattle.classify.specs.Answers.{voidAnswer, Leaves, Returns, Passes, PassesVariadic}
-use Rattle.classify.proofs.Operations.{returns-void, argument-void, variadic-argument-void}
+use Rattle.classify.specs.Answers.{voidAnswer, Leaves}
+use Rattle.classify.specs.Parts.{Performs}
+use Rattle.classify.proofs.Operations.{by-void}
 use Rattle.export_numbers.specs.Numbers.{voidArg}
 
 module _ (answer : Call → Arg → List ℕ → List ℕ → Answer) (written : Call → Arg → List ℕ → List ℕ → List ℕ) where
@@ -20,12 +22,6 @@ pub started : (f : Call → Answer) (r : Answer) (k k′ : Call) → r ≡ f k �
 started f r k k′ er ek = rw (er, ek)
 
 -- nothing travels, so the call alone is asked
-module _ (r : Answer) (k k′ : Call) (out : List ℕ) (er : r ≡ voidAnswer k) (ek : k ≡ k′) where
-  pub returns-nothing : Returns k′ voidArg [] out r out
-  returns-nothing = rw (← ek) (returns-void k voidArg [] out r refl er)
-
-  pub passes-nothing : Passes k′ voidArg [] out r out
-  passes-nothing = rw (← ek) (argument-void k voidArg [] out r refl er)
-
-  pub passes-nothing-variadic : PassesVariadic k′ voidArg [] out r out
-  passes-nothing-variadic = rw (← ek) (variadic-argument-void k voidArg [] out r refl er)
+pub nothing-handed : (returning variadic-argument : Bool) (r : Answer) (k k′ : Call) (out : List ℕ) → r ≡ voidAnswer k → k ≡ k′
+    → Performs returning variadic-argument k′ voidArg [] out r out
+nothing-handed returning variadic-argument r k k′ out er ek = rw (← ek) (by-void returning variadic-argument k voidArg [] out r refl er)

@@ -1,6 +1,7 @@
 -- `barkpaddle_return_void` hands on what the call answers where nothing travels.
+use mathlib.Core.Bool.{true, false}
 use borrow.Author.Needs.{needs}
-use Rattle.export_numbers.proofs.Handed.{returns-nothing}
+use Rattle.export_numbers.proofs.Handed.{nothing-handed}
 use Rattle.export_returns.proofs.barkpaddle_return_void.Statement.{statement}
 use Rattle.export_returns.proofs.barkpaddle_return_void.Tie as tie
 
@@ -10,4 +11,4 @@ barkpaddle-return-void-spec =
     (tie.spec
     (λ c κs. search needs)
     (λ c κs. search needs)
-    (λ c. search (returns-nothing)))
+    (λ c. search (nothing-handed true false)))

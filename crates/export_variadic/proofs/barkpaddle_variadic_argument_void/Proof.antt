@@ -1,6 +1,7 @@
 -- `barkpaddle_variadic_argument_void` hands on what the call answers where nothing travels.
+use mathlib.Core.Bool.{true, false}
 use borrow.Author.Needs.{needs}
-use Rattle.export_numbers.proofs.Handed.{passes-nothing-variadic}
+use Rattle.export_numbers.proofs.Handed.{nothing-handed}
 use Rattle.export_variadic.proofs.barkpaddle_variadic_argument_void.Statement.{statement}
 use Rattle.export_variadic.proofs.barkpaddle_variadic_argument_void.Tie as tie
 
@@ -10,4 +11,4 @@ barkpaddle-variadic-argument-void-spec =
     (tie.spec
     (λ c κs. search needs)
     (λ c κs. search needs)
-    (λ c. search (passes-nothing-variadic)))
+    (λ c. search (nothing-handed false true)))

@@ -1,6 +1,7 @@
 -- `argument` performs an operation by what is asked about.
+use mathlib.Core.Bool.{false}
 use borrow.Author.Needs.{needs}
-use Rattle.classify.proofs.Operations.{argument-void, argument-scalar, argument-aggregate}
+use Rattle.classify.proofs.Operations.{by-void, argument-scalar, by-aggregate}
 use Rattle.classify.proofs.Call.argument.Statement.{statement}
 use Rattle.classify.proofs.Call.argument.Tie as tie
 
@@ -14,8 +15,8 @@ argument-spec =
     (λ c κs. search needs)
     (λ c. search needs)
     (λ c κs. search needs)
-    (λ c. search (argument-void))
+    (λ c. search (by-void false false))
     (λ c. search needs)
     (λ c. search (argument-scalar))
     (λ c. search needs)
-    (λ c. search (argument-aggregate)))
+    (λ c. search (by-aggregate false false)))

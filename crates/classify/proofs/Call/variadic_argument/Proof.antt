@@ -1,6 +1,7 @@
 -- `variadic_argument` performs an operation by what is asked about.
+use mathlib.Core.Bool.{true, false}
 use borrow.Author.Needs.{needs}
-use Rattle.classify.proofs.Operations.{variadic-argument-void, variadic-argument-scalar, variadic-argument-aggregate}
+use Rattle.classify.proofs.Operations.{by-void, variadic-argument-scalar, by-aggregate}
 use Rattle.classify.proofs.Call.variadic_argument.Statement.{statement}
 use Rattle.classify.proofs.Call.variadic_argument.Tie as tie
 
@@ -14,8 +15,8 @@ variadic-argument-spec =
     (λ c κs. search needs)
     (λ c. search needs)
     (λ c κs. search needs)
-    (λ c. search (variadic-argument-void))
+    (λ c. search (by-void false true))
     (λ c. search needs)
     (λ c. search (variadic-argument-scalar))
     (λ c. search needs)
-    (λ c. search (variadic-argument-aggregate)))
+    (λ c. search (by-aggregate false true)))
