@@ -317,19 +317,7 @@ fn put_text(out: &mut [u8], at: usize, number: usize) -> usize {
         lone_float......floating_mode...complex_float...eightbytes 8....\
         eightbytes 16...eightbytes 24...eightbytes 32...eightbytes 64...\
         memory..........record..........pieces.......... nothing........ refused........";
-    put_up_to_dot(out, at, texts, number % 25 * 16)
-}
-
-// The text from a place on, up to the next dot.
-fn put_up_to_dot(out: &mut [u8], from: usize, text: &[u8], start: usize) -> usize {
-    let mut at = from;
-    for i in start..text.len() {
-        if text[i] == b'.' {
-            return at;
-        }
-        at = put_byte(out, at, text[i]);
-    }
-    at
+    text::append_up_to_dot(out, at, texts, number % 25 * 16)
 }
 
 // The end of a line: nothing, or how many slots and then that many of `each`.

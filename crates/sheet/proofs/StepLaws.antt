@@ -4,11 +4,11 @@ use mathlib.Core.Path.{_≡_, refl, sym, ap, _∙_}
 use mathlib.Core.List.{List}
 use mathlib.Core.Bool.{Bool, true, false, _||_, not}
 use native.Mathlib.Omega.{arith}
-use borrow.Author.Tests.{le-leb, leb-true, not-true, not-false}
+use borrow.Author.Tests.{leb-true, not-true, not-false}
 use lib.Dec.{leb, eqb}
 use lib.ListN.{length}
 use Rattle.shape.specs.Words.{putAt}
-use Rattle.shape.proofs.Put.{put-none, put-fits}
+use Rattle.shape.proofs.Put.{put-none}
 use Rattle.text.specs.Text.{appendEnd, appended}
 use Rattle.sheet_records.specs.declared.known.Reader.{Reader}
 use Rattle.sheet_records.specs.declared.known.Operation as operations
@@ -19,6 +19,7 @@ use Rattle.sheet_records.specs.Known.{actOf, stoppedReader}
 use Rattle.sheet_records.specs.declared.known.Act as acts
 use Rattle.sheet_lines.specs.Text.{Put}
 use Rattle.sheet_lines.specs.Printing.{longest, line, Lined}
+use Rattle.sheet_lines.proofs.TextLaws.{put-appended}
 use Rattle.sheet_lines.proofs.LineLaws.{line-there}
 use Rattle.sheet_perform.specs.declared.State.{State}
 use Rattle.sheet.specs.declared.Step.{Step}
@@ -42,11 +43,7 @@ module _ (out : List ℕ) (at : ℕ) (b : Bool) (eb : b ≡ leb (at + longest) (
 -- the text that says that the sheet stops
 pub stop-put : (out : List ℕ) (at to : ℕ) (out′ : List ℕ) → at + longest ≤ length out → to ≡ appendEnd (length out) at stopText
     → out′ ≡ appended out at stopText → Put out at stopText to out′
-unfolding appendEnd appended
-stop-put out at to out′ h et eo =
-    let fits : at + length stopText ≤ length out = omega arith in
-    let f = le-leb (at + length stopText) (length out) fits in
-    record { ends = rw f at et; put = rw f at eo ∙ sym (put-fits out at stopText fits); fits = fits }
+stop-put out at to out′ h et eo = put-appended out at stopText to out′ (omega arith) et eo
 
 -- ---- an operation that is ready
 

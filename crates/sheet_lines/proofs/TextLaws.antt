@@ -4,12 +4,11 @@ use mathlib.Core.Path.{_≡_, refl, ap, sym, _∙_}
 use mathlib.Core.List.{List, [], _∷_, _++_}
 use mathlib.Core.Bool.{Bool, true, false, cond}
 use native.Mathlib.Omega.{arith}
-use native.Mathlib.Numerals.{add-one}
-use borrow.Author.Tests.{lt-ltb, le-ltb}
+use borrow.Author.Tests.{lt-ltb, le-ltb, le-leb}
 use lib.Dec.{ltb}
-use lib.ListN.{length, set, getD, length-append}
-use lib.Seq.{take-length, paste, paste-suc}
+use lib.ListN.{length, set, length-append}
 use Rattle.shape.proofs.Put.{put-fits, put-stores, length-put, put-split, put-none}
+use Rattle.text.specs.Text.{appendEnd, appended}
 use Rattle.sheet_lines.specs.Text.{Put, digitOf, decimalIn}
 
 -- a text and then another from where it ends
@@ -33,15 +32,13 @@ put-nothing o at h = record { ends = omega arith; put = sym (put-none o at h); f
 pub put-one : (o : List ℕ) (at b : ℕ) → at + 1 ≤ length o → Put o at (b ∷ []) (at + 1) (set o at b)
 put-one o at b h = record { ends = refl; put = put-stores o at (b ∷ []) h; fits = h }
 
--- the loop of `put_text`: a copy byte by byte
-module _ (o : List ℕ) (at : ℕ) (text : List ℕ) (room : at + length text ≤ length o) where
-  pub copy-next : (i : ℕ) (p : List ℕ) → i < length text → p ≡ paste o at text i → set p (at + i) (getD text i 0) ≡ paste o at text (i + 1)
-  copy-next i p h e = rw (e, add-one) (paste-suc o at text i 0 (omega arith) h)
-
-  pub copy-done : (i : ℕ) (p : List ℕ) → length text ≤ i → i ≤ length text → p ≡ paste o at text i → Put o at text (at + i) p
-  copy-done i p h k e =
-      let n : i ≡ length text = omega arith in
-      record { ends = omega arith; put = e ∙ rw (n, take-length) (sym (put-fits o at text room)); fits = room }
+-- what is appended where it fits
+pub put-appended : (o : List ℕ) (at : ℕ) (text : List ℕ) (to : ℕ) (p : List ℕ) → at + length text ≤ length o
+    → to ≡ appendEnd (length o) at text → p ≡ appended o at text → Put o at text to p
+unfolding appendEnd appended
+put-appended o at text to p h et ep =
+    let f = le-leb (at + length text) (length o) h in
+    record { ends = rw f at et; put = rw f at ep ∙ sym (put-fits o at text h); fits = h }
 
 -- ---- digits
 

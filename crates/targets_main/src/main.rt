@@ -1,7 +1,5 @@
 // Prints every lookup over the whole of its small domain, a line each: first for the known codes, then, behind the word `unknown`, wherever
 // a code isn't known. `none` stands where there is no answer, and `-` for the empty name.
-ghost use Prim.Native.Nat.{_≤_};
-ghost use lib.ListN.{length};
 use libc::STDOUT_FILENO;
 use text::append;
 
@@ -120,19 +118,7 @@ fn put_word(out: &mut [u8], at: usize, word: usize) -> usize {
     let words =
         b"target..............convention..........asked...............attribute...........pops................\
         unknown target......unknown convention..unknown asked.......unknown attribute...unknown pops........";
-    put_up_to_dot(out, at, words, word % 10 * 20)
-}
-
-// The text from a place on, up to the next dot.
-fn put_up_to_dot(out: &mut [u8], from: usize, text: &[u8], start: usize) -> usize {
-    let mut at = from;
-    for i in start..text.len() {
-        if text[i] == b'.' {
-            return at;
-        }
-        at = put_byte(out, at, text[i]);
-    }
-    at
+    text::append_up_to_dot(out, at, words, word % 10 * 20)
 }
 
 // ---- its numbers
@@ -246,7 +232,7 @@ fn put_asked_for(out: &mut [u8], at: usize, i: u64, names: &[u8]) -> usize {
     if start > names.len() {
         return at;
     }
-    let end = end_of(names, start);
+    let end = text::end_of(names, start);
     put_asked_on(out, at, i / NAMES, &names[start..end])
 }
 
@@ -258,21 +244,6 @@ fn put_asked_on(out: &mut [u8], at: usize, target: u64, name: &[u8]) -> usize {
 
 fn asked(target: u64, name: &[u8]) -> u64 {
     attributes::asked(target / 10, target / 2 % 5, target % 2 == 1, name)
-}
-
-// Where the name that starts here ends: at the next dot.
-fn end_of(names: &[u8], start: usize) -> usize
-    requires { ⌜ start ≤ length (now names) ⌝ }
-    ensures { λ r. ⌜ (start ≤ r) × (r ≤ length (now (names .entry))) ⌝ }
-{
-    let mut end = start;
-    while end < names.len() {
-        if names[end] == b'.' {
-            return end;
-        }
-        end += 1;
-    }
-    end
 }
 
 fn put_attribute(out: &mut [u8], at: usize, convention: u64) -> usize {

@@ -1,2 +1,3 @@
 mod Copy
+pub mod Dots
 mod Unique

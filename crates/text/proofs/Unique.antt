@@ -5,6 +5,8 @@ use denote.Ref.{now}
 use Rattle.shape.proofs.OneAnswer.{OneAnswer, OneExit}
 use Rattle.text.proofs.put.Reads as put
 use Rattle.text.proofs.append.Reads as append
+use Rattle.text.proofs.append_up_to_dot.Reads as append-up-to-dot
+use Rattle.text.proofs.end_of.Reads as end-of
 
 put-decides : (κs : Lfts 2) → OneAnswer (put.Post κs)
 put-decides κs a r q s t p p′ = p .0 ∙ sym (p′ .0)
@@ -17,3 +19,12 @@ append-decides κs a r q s t p p′ = p .0 ∙ sym (p′ .0)
 
 append-bytes : (κs : Lfts 2) → OneExit (append.Post κs) (λ s. now (s .0))
 append-bytes κs a r q s t p p′ = p .1 ∙ sym (p′ .1)
+
+append-up-to-dot-decides : (κs : Lfts 2) → OneAnswer (append-up-to-dot.Post κs)
+append-up-to-dot-decides κs a r q s t p p′ = p .0 ∙ sym (p′ .0)
+
+append-up-to-dot-bytes : (κs : Lfts 2) → OneExit (append-up-to-dot.Post κs) (λ s. now (s .0))
+append-up-to-dot-bytes κs a r q s t p p′ = p .1 ∙ sym (p′ .1)
+
+end-of-decides : (κs : Lfts 1) → OneAnswer (end-of.Post κs)
+end-of-decides κs a r q s t p p′ = p ∙ sym p′

@@ -4,7 +4,7 @@ use Prim.Native.Char.{code}
 use Prim.Native.String.{String, [] as ends, _∷_ as _then_}
 use mathlib.Core.List.{List, [], _∷_, _++_}
 use mathlib.Core.Bool.{cond}
-use lib.Dec.{leb}
+use lib.Dec.{leb, eqb}
 use lib.ListN.{length, take, drop}
 use Rattle.shape.specs.Numbers.{accepted, no-room}
 use Rattle.text.specs.declared.Written.{Written}
@@ -32,3 +32,15 @@ appended out at bs = cond (leb (at + length bs) (length out)) (take at out ++ bs
 -- the place behind them, or the same place, by the length of the buffer
 unfoldable pub appendEnd : ℕ → ℕ → List ℕ → ℕ
 appendEnd room at bs = cond (leb (at + length bs) room) (at + length bs) at
+
+abbrev pub dot : ℕ
+dot = 46
+
+-- the bytes up to the first dot, all where there is none
+unfoldable pub upToDot : List ℕ → List ℕ
+upToDot [] = []
+upToDot (b ∷ bs) = cond (eqb b dot) [] (b ∷ upToDot bs)
+
+-- where the text that starts at a place ends
+unfoldable pub endFrom : List ℕ → ℕ → ℕ
+endFrom bs start = start + length (upToDot (drop start bs))

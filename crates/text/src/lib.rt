@@ -1,7 +1,7 @@
 // Bytes of text, written into a lent buffer: the one way that names leave (REFERENCE 5.5, 6.4), and that programs make their lines.
 ghost use mathlib.Core.Path.{_≡_};
-ghost use lib.ListN.{length};
-ghost use Rattle.text.specs.Text.{putAnswer, putWritten, appendEnd, appended};
+ghost use lib.ListN.{length, drop};
+ghost use Rattle.text.specs.Text.{putAnswer, putWritten, appendEnd, appended, upToDot, endFrom};
 
 // A refusal, or how many bytes were written. Who has no name to write answers none for the number.
 pub struct Written {
@@ -42,4 +42,30 @@ pub fn append(out: &mut [u8], at: usize, bytes: &[u8]) -> usize
         i += 1;
     }
     at + bytes.len()
+}
+
+// Texts of unlike lengths can stand in one, each filled up with dots: the one that starts at a place goes to a place of `out`, up to its first
+// dot.
+pub fn append_up_to_dot(out: &mut [u8], at: usize, texts: &[u8], start: usize) -> usize
+    ensures { λ r. ⌜ (r ≡ appendEnd (length (now (out .entry))) at (upToDot (drop start (now (texts .entry))))) × (now (out .exit) ≡ appended (now (out .entry)) at (upToDot (drop start (now (texts .entry))))) ⌝ }
+{
+    if start > texts.len() {
+        return at;
+    }
+    let end = end_of(texts, start);
+    append(out, at, &texts[start..end])
+}
+
+// Where the text that starts at a place ends: at the next dot.
+pub fn end_of(texts: &[u8], start: usize) -> usize
+    ensures { λ r. ⌜ r ≡ endFrom (now (texts .entry)) start ⌝ }
+{
+    let mut end = start;
+    while end < texts.len() {
+        if texts[end] == b'.' {
+            return end;
+        }
+        end += 1;
+    }
+    end
 }
