@@ -1,3 +1,4 @@
 pub mod Abis
+pub mod RowNumbers
 pub mod Answers
 pub mod Brief

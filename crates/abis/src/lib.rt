@@ -7,6 +7,7 @@ ghost use Rattle.abis.specs.Brief.{briefOf, briefFrom};
 ghost use lib.ListN.{length};
 ghost use Rattle.abis.specs.Answers.{nameAnswer, nameWritten, isByReferenceAnswer, returnsByReferenceAnswer, wideReturnsInAnswer, questionRefusal};
 
+pub mod numbers;
 mod table;
 
 use describe::Scalars;

@@ -1,4 +1,4 @@
-// The descriptions' numbers, and which of them a target and a convention follow.
+// Which description a target and a convention follow, by its number.
 ghost use mathlib.Core.Path.{_≡_};
 ghost use mathlib.Core.Bool.{cond};
 ghost use mathlib.Core.Option.{none};
@@ -6,41 +6,12 @@ ghost use lib.ListN.{getD};
 ghost use Rattle.targets.specs.Codes.{isWindows, isX86, isX86-64, noneNumber};
 ghost use Rattle.targets.specs.Answers.{numberOf};
 ghost use Rattle.targets.specs.Followed.{forTarget, forConvention, byRuntime, regparmRows};
+use abis::numbers::*;
 use crate::codes::Architecture;
 use crate::codes::Convention;
 use crate::codes::NONE;
 use crate::codes::System;
 use crate::codes::is_windows;
-
-const SYSV_AMD64: u64 = 0;
-
-const AAPCS64: u64 = 1;
-
-const DARWIN_ARM64: u64 = 2;
-
-const WINDOWS_ARM64: u64 = 3;
-
-const WIN64: u64 = 4;
-
-const RISCV_LP64D: u64 = 5;
-
-const I386_SYSV: u64 = 6;
-
-const I386_SYSV_STDCALL: u64 = 14;
-
-const I386_SYSV_FASTCALL: u64 = 22;
-
-const I386_MINGW: u64 = 24;
-
-const I386_MSVC: u64 = 25;
-
-const I386_MINGW_STDCALL: u64 = 26;
-
-const I386_MINGW_FASTCALL: u64 = 27;
-
-const I386_MSVC_STDCALL: u64 = 28;
-
-const I386_MSVC_FASTCALL: u64 = 29;
 
 // regparm takes up to three registers; the descriptions of one to three stand behind I386_SYSV.
 const MOST_REGISTERS: u64 = 3;
