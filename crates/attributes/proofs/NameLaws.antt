@@ -9,6 +9,7 @@ use borrow.Author.Tests.{eqb-true, eq-eqb, ne-eqb}
 use lib.Dec.{eqb}
 use lib.ListN.{length, drop, getD}
 use lib.Seq.{drop-cons, drop-length}
+use Rattle.shape.proofs.Bools.{second-fails}
 use Rattle.attributes.specs.Attributes.{sameBytes}
 
 -- lists of other lengths differ
@@ -17,12 +18,7 @@ unfolding sameBytes
 same-lengths [] [] h = absurd (h refl)
 same-lengths [] (b ∷ bs) h = refl
 same-lengths (a ∷ as') [] h = refl
-same-lengths (a ∷ as') (b ∷ bs) h =
-    and-false (eqb a b) (same-lengths as' bs (λ e. h (ap suc e)))
-  where
-    and-false : (p : Bool) {q : Bool} → false ≡ q → false ≡ (p && q)
-    and-false true e = e
-    and-false false e = refl
+same-lengths (a ∷ as') (b ∷ bs) h = sym (second-fails (eqb a b) _ (sym (same-lengths as' bs (λ e. h (ap suc e)))))
 
 -- the loop of `same`: what is left decides
 module _ (as' bs : List ℕ) (i : ℕ) (l : length as' ≡ length bs) {w : Bool} (e : w ≡ sameBytes (drop i as') (drop i bs)) where

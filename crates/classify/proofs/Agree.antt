@@ -307,12 +307,19 @@ module _ (D : Description) (returning : Bool) (left : Left) (shape : Shape) (ps 
 
 -- ---- the operations
 
+-- a fixed argument, and one after the dots of a kind that has it go as a fixed one, whether that marks the call or not
+fixed-agrees : (mark : Bool) (D : Description) (left : Left) (arg : args.Arg) (ps : List Piece)
+    → Agrees left (argument D left arg ps) (spending.choice (termsOf D) (D .arguments) false (dots mark false false) left arg ps .decision)
+    (slotsFor (spending.choice (termsOf D) (D .arguments) false (dots mark false false) left arg ps) arg ps)
+unfolding argument spending.scalarBy spending.aggregateBy
+fixed-agrees mark D left args.the-variants.Void ps = spends-nothing args.the-variants.Void ps left Anything ignore _ refl refl
+fixed-agrees mark D left (args.the-variants.Scalar s) ps = scalar-argument (args.the-variants.Scalar s) ps left Anything D s
+fixed-agrees mark D left (args.the-variants.Aggregate shape) ps = aggregate-agrees D false left shape ps (D .arguments)
+
 pub argument-agrees : (D : Description) (left : Left) (arg : args.Arg) (ps : List Piece)
     → Agrees left (argument D left arg ps) (argumentChoice D left arg ps .decision) (slotsFor (argumentChoice D left arg ps) arg ps)
-unfolding argument argumentChoice spending.scalarBy spending.aggregateBy
-argument-agrees D left args.the-variants.Void ps = spends-nothing args.the-variants.Void ps left Anything ignore _ refl refl
-argument-agrees D left (args.the-variants.Scalar s) ps = scalar-argument (args.the-variants.Scalar s) ps left Anything D s
-argument-agrees D left (args.the-variants.Aggregate shape) ps = aggregate-agrees D false left shape ps (D .arguments)
+unfolding argumentChoice
+argument-agrees = fixed-agrees false
 
 pub returns-agrees : (D : Description) (left : Left) (arg : args.Arg) (ps : List Piece)
     → Agrees left (returns D left arg ps) (returnChoice D left arg ps .decision) (slotsFor (returnChoice D left arg ps) arg ps)
@@ -364,15 +371,6 @@ module _ (D : Description) (left : Left) (arg : args.Arg) (ps : List Piece) wher
       go args.the-variants.Void a = unmark-agrees left e _ _ _ a
       go (args.the-variants.Scalar s) a = unmark-agrees left e _ _ _ a
       go (args.the-variants.Aggregate shape) a = unmark-agrees left e _ _ _ a
-
--- a kind whose arguments after the dots go as fixed ones do, whether it marks the call or not
-fixed-agrees : (mark : Bool) (D : Description) (left : Left) (arg : args.Arg) (ps : List Piece)
-    → Agrees left (argument D left arg ps) (spending.choice (termsOf D) (D .arguments) false (dots mark false false) left arg ps .decision)
-    (slotsFor (spending.choice (termsOf D) (D .arguments) false (dots mark false false) left arg ps) arg ps)
-unfolding argumentChoice spending.scalarBy spending.aggregateBy
-fixed-agrees mark D left args.the-variants.Void ps = argument-agrees D left args.the-variants.Void ps
-fixed-agrees mark D left (args.the-variants.Scalar s) ps = argument-agrees D left (args.the-variants.Scalar s) ps
-fixed-agrees mark D left (args.the-variants.Aggregate shape) ps = argument-agrees D left (args.the-variants.Aggregate shape) ps
 
 in-memory-agrees : (D : Description) (left : Left) (arg : args.Arg) (ps : List Piece) → Dotted D left arg ps AlwaysMemory
 unfolding spending.scalarBy spending.aggregateBy

@@ -12,7 +12,7 @@ use lib.Dec.{T, eqb, leb, ltb, leb→le}
 use lib.ListN.{length}
 use Rattle.shape.specs.Lists.{every}
 use Rattle.shape.proofs.Lists.{anywhere}
-use Rattle.shape.proofs.Bools.{both-true, and-left, and-right}
+use Rattle.shape.proofs.Bools.{both-true, implied, and-left, and-right}
 use Rattle.shape.specs.declared.Arg as args
 use Rattle.shape.specs.declared.Piece.{Piece}
 use Rattle.shape.specs.declared.Scalar.{Scalar}
@@ -36,6 +36,7 @@ use Rattle.describe.specs.declared.Short.the-variants.{Unchanged, Memory, Memor
 use Rattle.describe.specs.declared.Variadic.{Variadic}
 use Rattle.describe.specs.declared.Variadic.the-variants.{SameAsFixed, AlwaysMemory, BothBanks, IntegersOnly, UnnamedIntegers}
 use Rattle.describe.specs.Description.{Description, termsOf}
+use Rattle.describe.specs.Dots.{dotsOf}
 use Rattle.describe.specs.Questions.{isByReference, returnsByReference}
 use Rattle.abis.specs.Abis.{described, descriptions, blank}
 use Rattle.find.specs.Find.{foundIf, complexFloat}
@@ -272,11 +273,7 @@ module _ (D : Description) (left : Left) (shape : Shape) (ps : List Piece) (retu
 
 -- floats may go in integers alone
 abbrev marks : Variadic → Bool
-marks SameAsFixed = false
-marks AlwaysMemory = false
-marks BothBanks = false
-marks IntegersOnly = true
-marks UnnamedIntegers = true
+marks v = isIntegersOnly v || dotsOf v .«integers_only»
 
 abbrev fewReturns : Description → Bool
 fewReturns D = every (fewRule (D .banks) true) (D .returns)
@@ -338,14 +335,6 @@ memory-few D left t (args.the-variants.Scalar s) ps = omega arith
 memory-few D left t (args.the-variants.Aggregate shape) ps =
     apply-few D (leaves 0 0 (left .«integers_only»)) shape ps false (λ _. omega arith) (D .arguments) t
 
--- a marked call is one whose description marks it
-marks-it : (only : Bool) (v : Variadic) → only && not (isIntegersOnly v) ≡ false → only ≡ true → marks v ≡ true
-marks-it only SameAsFixed h e = absurd (let z : true ≡ false = cc in subst T z tt)
-marks-it only AlwaysMemory h e = absurd (let z : true ≡ false = cc in subst T z tt)
-marks-it only BothBanks h e = absurd (let z : true ≡ false = cc in subst T z tt)
-marks-it only IntegersOnly h e = refl
-marks-it only UnnamedIntegers h e = refl
-
 -- what comes back, from any call
 pub returns-eight : (d : ℕ) (left : Left) (arg : args.Arg) (ps : List Piece) → length (passSlots (returns (described d) left arg ps .pass)) ≤ 8
 unfolding returns
@@ -369,7 +358,7 @@ module _ (d : ℕ) (left : Left) (fits : left .integer ≤ described d .banks .i
   pub argument-eight : length (passSlots (argument (described d) left arg ps .pass)) ≤ 8
   argument-eight =
       argument-few (described d) left arguments-few fits
-      (λ e. wide-marked (marks-it (marked left) (described d .variadic) mark e)) arg ps h
+      (λ e. wide-marked (rw (implied (marked left) (isIntegersOnly (described d .variadic)) mark e))) arg ps h
 
   pub variadic-argument-eight : length (passSlots (variadicArgument (described d) left arg ps .pass)) ≤ 8
   unfolding variadicArgument

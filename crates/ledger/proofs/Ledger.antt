@@ -4,13 +4,14 @@
 use Prim.Native.Nat.{ℕ, zero, suc, _+_, _-_, _≤_, _<_}
 use mathlib.Core.Path.{_≡_, refl, sym, ap, subst, _∙_}
 use mathlib.Core.List.{List, [], _∷_}
-use mathlib.Core.Bool.{Bool, true, false, _&&_, not}
+use mathlib.Core.Bool.{Bool, true, false}
 use mathlib.Core.Option.Option.{some}
 use native.Mathlib.Omega.{arith}
 use borrow.Author.Tests.{ltb-true, ltb-false, lt-leb}
 use lib.Dec.{T, ltb}
 use lib.ListN.{take, getElem?}
 use Rattle.shape.specs.Numbers.{accepted}
+use Rattle.shape.proofs.Bools.{implied}
 use Rattle.describe.specs.Description.{Description}
 use Rattle.abis.specs.Abis.{described, description-count}
 use Rattle.classify.specs.declared.Call.{Call}
@@ -66,11 +67,6 @@ isPassedOver : Holder → Bool
 isPassedOver (passed-over-by k) = true
 isPassedOver (given-to k) = false
 isPassedOver left = false
-
-used : (marked uses : Bool) → marked && not uses ≡ false → marked ≡ true → uses ≡ true
-used true true e m = refl
-used true false e m = absurd (subst T e tt)
-used false uses e m = absurd (subst T (sym m) tt)
 
 -- from a call that has every register left and passes the checks
 module _ (source : ℕ) (D : Description) (c : Call) (good : callRefusalBy source D c ≡ accepted) (whole : (b : Bank) → leftIn b c ≡ startOf b (D .banks))
@@ -131,7 +127,7 @@ module _ (source : ℕ) (D : Description) (c : Call) (good : callRefusalBy sourc
         same-abi = last .0;
         acceptable = last .1;
         never-above = λ b. omega (arith, totals b source D c past f, whole b);
-        marked-where-used = used _ _ (sound source D _ (last .1) .1 .mark-used);
+        marked-where-used = implied _ _ (sound source D _ (last .1) .1 .mark-used);
       }
 
 -- ---- the theorem: after every prefix of every list of operations, on every description

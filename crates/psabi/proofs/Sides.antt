@@ -10,7 +10,7 @@ use native.Mathlib.Omega.{arith}
 use borrow.Author.Tests.{ltb-true, lt-ltb, le-ltb, eqb-true, eq-eqb, not-false}
 use lib.Dec.{eqb, leb, ltb}
 use lib.ListN.{length}
-use Rattle.shape.proofs.Bools.{both-true, both-false}
+use Rattle.shape.proofs.Bools.{both-true, both-false, second-fails}
 use Rattle.shape.specs.declared.Piece.{Piece}
 use Rattle.shape.specs.Lists.{any}
 use Rattle.shape.specs.Numbers.{integer, x87-extended, quad}
@@ -135,14 +135,9 @@ no-up size (p ∷ ps) c (more r rs) u h = go (λ d. no-up size ps d rs (both-fal
         let x : is SSEUP b ≡ false = third-half p (r .usual) (at-multiple size p (anyUnaligned ps) r u) t in
         ih (merge c b) (merge-in (λ z. is SSEUP z ≡ false) c b h x refl refl refl)
 
-narrow : (a b : Bool) → a && (b && false) ≡ false
-narrow true true = refl
-narrow true false = refl
-narrow false b = refl
-
 no-vector : (ps : List Piece) (n : ℕ) → is SSEUP (mergedIn NO-CLASS ps 2) ≡ false → isOneVector (classesFrom ps 0 (suc (suc (suc n)))) ≡ false
 unfolding classesFrom isOneVector allUp
-no-vector ps n h = rw h (narrow (is SSE (mergedIn NO-CLASS ps 0)) (is SSEUP (mergedIn NO-CLASS ps 1)))
+no-vector ps n h = rw h (second-fails (is SSE (mergedIn NO-CLASS ps 0)) _ (second-fails (is SSEUP (mergedIn NO-CLASS ps 1)) false refl))
 
 all-none : (a b : Bool) (o : Option (List Class)) → o ≡ none → cond a none (cond b none o) ≡ none
 all-none true b o e = refl

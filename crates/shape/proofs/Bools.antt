@@ -1,7 +1,7 @@
 -- What two tests at once say of each.
 use mathlib.Core.Path.{_≡_, refl}
 use mathlib.Core.Logic.{_⊎_, inl, inr}
-use mathlib.Core.Bool.{Bool, true, false, _&&_, _||_, true≢false, false≢true}
+use mathlib.Core.Bool.{Bool, true, false, not, _&&_, _||_, true≢false, false≢true}
 use lib.Dec.{T}
 
 pub both-true : (a b : Bool) → a && b ≡ true → (a ≡ true) × (b ≡ true)
@@ -15,6 +15,11 @@ both-false false b e = (refl, e)
 pub second-fails : (a b : Bool) → b ≡ false → a && b ≡ false
 second-fails true b e = e
 second-fails false b e = refl
+
+pub implied : (a b : Bool) → a && not b ≡ false → a ≡ true → b ≡ true
+implied a true h e = refl
+implied true false h e = absurd (true≢false h)
+implied false false h e = absurd (false≢true e)
 
 -- the same of tests that are computed
 
