@@ -152,7 +152,10 @@ fn read_value(reader: Reader, record: Record) -> Reading
             ),
         );
     }
-    if (record.second > shape::FORM_AGGREGATE) | (record.fifth > MOST_FLAGS) | (record.sixth > checks::MOST_PIECES as u64) {
+    if (record.second > shape::FORM_AGGREGATE)
+        | (record.fifth > MOST_FLAGS)
+        | (record.sixth > checks::MOST_PIECES as u64)
+    {
         return no_more(reader);
     }
     read_aggregate(reader, record)

@@ -6,9 +6,10 @@ use describe::ReturnPointer;
 use describe::Rule;
 use describe::Short;
 use describe::Travel;
+use shape::minus;
 use slots::Source;
 ghost use mathlib.Core.Path.{_≡_};
-ghost use Prim.Native.Nat.{_-_, min};
+ghost use Prim.Native.Nat.{min};
 ghost use Rattle.spend.specs.Ways.{wayNumber, wayFrom, spends, plain, inPieces, cutSlots, oneSlot, leftAfter};
 ghost use Rattle.spend.specs.Spending.{wantOf, byPointer, travelOf, byReference, inMemoryAndSpend, inSlots, whenShort, integerCost, floatCost, drainOf};
 
@@ -199,7 +200,7 @@ fn when_short(short: Short, left: Left, found: Wanted, integer: u64, float: u64)
 fn integer_cost(shared: bool, count: u64, floats: u64) -> u64
     ensures { λ r. ⌜ r ≡ integerCost shared count floats ⌝ }
 {
-    if shared { count } else { shape::minus(count, floats) }
+    if shared { count } else { minus(count, floats) }
 }
 
 fn float_cost(shared: bool, floats: u64) -> u64
@@ -311,11 +312,11 @@ pub fn left_after(left: Left, spent: Spent) -> Left
     ensures { λ r. ⌜ r ≡ leftAfter left spent ⌝ }
 {
     Left {
-        integer: shape::minus(
-            shape::minus(left.integer, spent.integers_passed),
+        integer: minus(
+            minus(left.integer, spent.integers_passed),
             spent.integers_given,
         ),
-        float: shape::minus(shape::minus(left.float, spent.floats_passed), spent.floats_given),
+        float: minus(minus(left.float, spent.floats_passed), spent.floats_given),
         integers_only: left.integers_only,
     }
 }

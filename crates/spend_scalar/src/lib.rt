@@ -4,6 +4,7 @@ use describe::Banks;
 use describe::ReturnPointer;
 use describe::Scalars;
 use shape::Scalar;
+use shape::minus;
 use slots::Source;
 use spend::Decision;
 use spend::Left;
@@ -11,7 +12,7 @@ use spend::Spent;
 use spend::Way;
 ghost use mathlib.Core.Path.{_≡_};
 ghost use mathlib.Core.Bool.{false};
-ghost use Prim.Native.Nat.{_-_, min};
+ghost use Prim.Native.Nat.{min};
 ghost use Rattle.shape.specs.Numbers.{integer};
 ghost use Rattle.describe.specs.Questions.{isByReference};
 ghost use Rattle.spend.specs.Ways.{spends, plain};
@@ -80,8 +81,8 @@ fn integer_argument(start: u64, scalars: Scalars, left: u64, want: u64) -> Decis
     }
     // 9: wide, with an even start or a drain
     if (want > 1) & (scalars.wide_integer_starts_even | scalars.wide_integer_drains) {
-        let skipped = skip(scalars.wide_integer_starts_even, shape::minus(start, left), left);
-        if want <= shape::minus(left, skipped) {
+        let skipped = skip(scalars.wide_integer_starts_even, minus(start, left), left);
+        if want <= minus(left, skipped) {
             return direct(skipped, want);
         }
         if scalars.wide_integer_drains {

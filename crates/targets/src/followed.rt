@@ -6,12 +6,12 @@ ghost use lib.ListN.{getD};
 ghost use Rattle.targets.specs.Codes.{isWindows, isX86, isX86-64, noneNumber};
 ghost use Rattle.targets.specs.Answers.{numberOf};
 ghost use Rattle.targets.specs.Followed.{forTarget, forConvention, byRuntime, regparmRows};
-use abis::numbers::*;
 use crate::codes::Architecture;
 use crate::codes::Convention;
 use crate::codes::NONE;
 use crate::codes::System;
 use crate::codes::is_windows;
+use abis::numbers::*;
 
 // regparm takes up to three registers; the descriptions of one to three stand behind I386_SYSV.
 const MOST_REGISTERS: u64 = 3;
