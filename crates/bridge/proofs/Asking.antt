@@ -50,7 +50,7 @@ use Rattle.classify.proofs.Answer.Laws as N′
 use Rattle.bridge.proofs.argument_of as value
 use Rattle.bridge.proofs.barkpaddle_bridge_argument as argument
 use Rattle.bridge.proofs.Promised.{Asks}
-use Rattle.bridge.proofs.Steps.{mach, told, asked, slice, gone, further, apart, last-list, passed-on, copied, answered, handed}
+use Rattle.bridge.proofs.Steps.{mach, told, question, slice, gone, further, apart, last-list, passed-on, copied, answered, handed}
 
 -- the MIR of such a function
 abbrev function : Name → Fn
@@ -88,12 +88,12 @@ module _ (ans : Call → Arg → List ℕ → List ℕ → Answer) (wri : Call �
   abbrev pub Value : {M : Type 1} (𝓤 : URA M) (H : Heap 𝓤) (A : Atoms 𝓤) → Contract 𝓤
   Value 𝓤 H A = tripleOf 𝓤 H A value.signature (closing 𝓤 H A value.ended (full 𝓤))
 
-  module _ {M : Type 1} (𝓤 : URA M) (H : Heap 𝓤) (A : Atoms 𝓤) (W : Given 𝓤 H A) (κ κ₁ κ₂ : Lft) (q q₁ q₂ : Share) (b o : ℕ) (γ : GName) (h : Call) (n : What) (ws ss : RefT (List ℕ)) (n-is : Is Q.the-row n (asked n ∷ [])) where
+  module _ {M : Type 1} (𝓤 : URA M) (H : Heap 𝓤) (A : Atoms 𝓤) (W : Given 𝓤 H A) (κ κ₁ κ₂ : Lft) (q q₁ q₂ : Share) (b o : ℕ) (γ : GName) (h : Call) (n : What) (ws ss : RefT (List ℕ)) (n-is : Is Q.the-row n (question n ∷ [])) where
     abbrev a : RefT Call × (What × (RefT (List ℕ) × (RefT (List ℕ) × Unit {0})))
     a = (record { ptr = (b, o); name = γ; now = h }, (n, (ws, (ss, tt))))
 
     abbrev vals : List Val × (List Val × (List Val × (List Val × Unit {0})))
-    vals = (vptr b o ∷ [], (asked n ∷ [], (slice ws ∷ [], (slice ss ∷ [], tt))))
+    vals = (vptr b o ∷ [], (question n ∷ [], (slice ws ∷ [], (slice ss ∷ [], tt))))
 
     abbrev Words : Fml
     Words = ShrSlice (named 1) κ₁ u64 .own ws (slice ws ∷ [])
@@ -140,10 +140,10 @@ module _ (ans : Call → Arg → List ℕ → List ℕ → Answer) (wri : Call �
 
     module _ (f : Name) (C : Calls 𝓤 H) (Λ : Loops 𝓤 H) (fm : FmC 𝓤 H (W .laws) C) (known : Triple 𝓤 (C f) (Value 𝓤 H A)) where
       walk : Is (ShrSlice (named 1) κ₁ u64) ws (slice ws ∷ []) → Room u64 (length (ss .now))
-          → ent 𝓤 (onEntry 𝓤 H A argument.signature (κ, (κ₁, (κ₂, tt))) (q, (q₁, (q₂, tt))) a vals) (WpFn 𝓤 H C Λ (function f) (vptr b o ∷ asked n ∷ slice ws ∷ slice ss ∷ []) Post)
+          → ent 𝓤 (onEntry 𝓤 H A argument.signature (κ, (κ₁, (κ₂, tt))) (q, (q₁, (q₂, tt))) a vals) (WpFn 𝓤 H C Λ (function f) (vptr b o ∷ question n ∷ slice ws ∷ slice ss ∷ []) Post)
       walk pw room =
           qed W ((‵ (flft κ q) ⊛ tokens) ∷ ‵ (owns (MutRef (named 0) κ T.the-row ∷ Q.the-row ∷ ShrSlice (named 1) κ₁ u64 ∷ MutSlice (named 2) κ₂ u64 ∷ []) a vals) ∷ []) ∵
-          enter ! C Λ (function f) (vptr b o ∷ asked n ∷ slice ws ∷ slice ss ∷ []) _ $
+          enter ! C Λ (function f) (vptr b o ∷ question n ∷ slice ws ∷ slice ss ∷ []) _ $
           alloc1 ! (λ l₀. alloc1 ! (λ l₁. alloc1 ! (λ l₂. alloc1 ! (λ l₃. alloc1 ! (λ l₄. alloc1 ! (λ l₅. alloc1 ! (λ l₆. alloc1 ! (λ l₇. alloc1 ! (λ l₈. alloc0 ! $ params1 ! $ pass1 ! (init ! 14 refl (tt, tt)) $
           pass1 ! (init ! 12 refl (LL.lawful Q.the-type Q′.the-laws 𝓤 H A W .typed n _ n-is .0)) $ pass1 ! (init ! 10 refl (shr-slice-lawful 𝓤 H A W (named 1) κ₁ u64 .typed ws (slice ws ∷ []) pw .0)) $
           pass1 ! (init ! 8 refl (tt, (tt, (record { fits = room .0 }, tt)))) $ pass0 ! $

@@ -10,7 +10,8 @@ use lib.ListN.{take}
 use Rattle.abis.specs.Abis.{description-count}
 use Rattle.classify.specs.declared.Call.{Call}
 use Rattle.classify.specs.declared.Answer.{Answer}
-use Rattle.classify.specs.Answers.{freshAnswer}
+use Rattle.classify.specs.Answers.{freshAnswer, returnsAnswer, returnsWritten, argumentAnswer, argumentWritten, variadicArgumentAnswer, variadicArgumentWritten}
+use Rattle.shape.specs.declared.Arg.{Arg}
 use Rattle.ledger.specs.Ledger as values
 use Rattle.ledger.specs.Ledger.{answerFor, answersFrom, history, Ledger}
 use Rattle.ledger.specs.Performed.{Started}
@@ -19,7 +20,7 @@ use Rattle.bridge.specs.declared.What.{What}
 use Rattle.bridge.specs.Lent.{argOf}
 use Rattle.bridge.proofs.barkpaddle_bridge_variadic as on-mark
 use Rattle.bridge.proofs.barkpaddle_bridge_argument as on-value
-use Rattle.bridge.proofs.Promised.{Marks, Returns, Passes, PassesVariadic}
+use Rattle.bridge.proofs.Promised.{Marks, Asks, Returns, Passes, PassesVariadic}
 
 -- ---- what is said
 
@@ -69,14 +70,16 @@ AllLent c (op ∷ ops) (x ∷ past) = Lends c op x × AllLent (x .next) ops past
 both-parts : (x : After) (a : Answer) → x .next ≡ a .next → x .outcome ≡ a .outcome → x ≡ a
 both-parts x a n o = rw (← n, ← o)
 
+asked-is : (answer : Call → Arg → List ℕ → List ℕ → Answer) (written : Call → Arg → List ℕ → List ℕ → List ℕ) (c : Call) (what : What) (words out : List ℕ) (x : After)
+    → Asked (λ κs a x e. Asks answer written κs a (x .outcome) e) c what words out x → x ≡ answer c (argOf what) words out
+asked-is answer written c what words out x p =
+    both-parts x (answer c (argOf what) words out) (rw (← p .5, ← p .6, ← p .7) (sym (p .8) ∙ p .9 .call)) (rw (← p .5, ← p .6, ← p .7) (p .9 .outcome))
+
 lends-is : (c : Call) (op : Operation) (x : After) → Lends c op x → x ≡ answerFor (operationOf op) c
 lends-is c mark x p = both-parts x (answerFor values.mark c) (rw (← p .3) (sym (p .4) ∙ p .5 .1)) (rw (← p .3) (p .5 .0))
-lends-is c (return what words out) x p =
-    both-parts x (answerFor (values.return (argOf what) words out) c) (rw (← p .5, ← p .6, ← p .7) (sym (p .8) ∙ p .9 .call)) (rw (← p .5, ← p .6, ← p .7) (p .9 .outcome))
-lends-is c (argument what words out) x p =
-    both-parts x (answerFor (values.argument (argOf what) words out) c) (rw (← p .5, ← p .6, ← p .7) (sym (p .8) ∙ p .9 .call)) (rw (← p .5, ← p .6, ← p .7) (p .9 .outcome))
-lends-is c (variadic-argument what words out) x p =
-    both-parts x (answerFor (values.variadic-argument (argOf what) words out) c) (rw (← p .5, ← p .6, ← p .7) (sym (p .8) ∙ p .9 .call)) (rw (← p .5, ← p .6, ← p .7) (p .9 .outcome))
+lends-is c (return what words out) x p = asked-is returnsAnswer returnsWritten c what words out x p
+lends-is c (argument what words out) x p = asked-is argumentAnswer argumentWritten c what words out x p
+lends-is c (variadic-argument what words out) x p = asked-is variadicArgumentAnswer variadicArgumentWritten c what words out x p
 
 all-lent-are : (c : Call) (ops : List Operation) (past : List After) → AllLent c ops past → past ≡ answersFrom c (map operationOf ops)
 unfolding answersFrom

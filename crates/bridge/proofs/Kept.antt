@@ -16,7 +16,7 @@ use Rattle.classify.specs.Answers.{rowRefusal, callRefusalBy, done, orAnswer, v
 use Rattle.classify.proofs.Accepted.{refused-so}
 use Rattle.bridge.proofs.barkpaddle_bridge_variadic as variadic
 use Rattle.bridge.proofs.barkpaddle_bridge_argument as argument
-use Rattle.bridge.proofs.Promised.{Marks, Returns, Passes, PassesVariadic}
+use Rattle.bridge.proofs.Promised.{Marks, Asks, Returns, Passes, PassesVariadic}
 
 -- ---- of the definitions
 
@@ -61,17 +61,17 @@ module _ (κs : Lfts 3) (a : ArgsD argument.signature κs) (r : Outcome) (e : At
   abbrev Same : Type 0
   Same = (r .refusal ≡ accepted → ⊥) → (now (e .0) ≡ now (a .0)) × (now (e .1 .1 .1 .0) ≡ now (a .1 .1 .1 .0))
 
-  pub returns-refused : Returns κs a r e → Same
-  returns-refused p h =
-      let k = return-keeps (now (a .0)) _ _ (now (a .1 .1 .1 .0)) (λ none. h (ap refusalIn (p .outcome) ∙ none)) in
+  same-by : (answer : Call → Arg → List ℕ → List ℕ → Answer) (written : Call → Arg → List ℕ → List ℕ → List ℕ)
+      → ((c : Call) (arg : Arg) (words out : List ℕ) → Keeps c out (answer c arg words out) (written c arg words out)) → Asks answer written κs a r e → Same
+  same-by answer written keeps p h =
+      let k = keeps (now (a .0)) _ _ (now (a .1 .1 .1 .0)) (λ none. h (ap refusalIn (p .outcome) ∙ none)) in
       (p .call ∙ k .0, p .writes ∙ k .1)
+
+  pub returns-refused : Returns κs a r e → Same
+  returns-refused = same-by returnsAnswer returnsWritten return-keeps
 
   pub argument-refused : Passes κs a r e → Same
-  argument-refused p h =
-      let k = argument-keeps (now (a .0)) _ _ (now (a .1 .1 .1 .0)) (λ none. h (ap refusalIn (p .outcome) ∙ none)) in
-      (p .call ∙ k .0, p .writes ∙ k .1)
+  argument-refused = same-by argumentAnswer argumentWritten argument-keeps
 
   pub variadic-argument-refused : PassesVariadic κs a r e → Same
-  variadic-argument-refused p h =
-      let k = variadic-argument-keep (now (a .0)) _ _ (now (a .1 .1 .1 .0)) (λ none. h (ap refusalIn (p .outcome) ∙ none)) in
-      (p .call ∙ k .0, p .writes ∙ k .1)
+  variadic-argument-refused = same-by variadicArgumentAnswer variadicArgumentWritten variadic-argument-keep

@@ -30,19 +30,21 @@ abbrev pub Marks : (κs : Lfts 1) → ArgsD variadic.signature κs → Outcome �
 Marks κs a r e = (r ≡ variadicAnswer (now (a .0)) .outcome) × (now (e .0) ≡ variadicAnswer (now (a .0)) .next)
 
 -- of an operation on a value, by its two definitions: the outcome, the call at exit, and the words in the slot buffer at exit
-abbrev pub Asks : (Call → Arg → List ℕ → List ℕ → Answer) → (Call → Arg → List ℕ → List ℕ → List ℕ)
-    → (κs : Lfts 3) → ArgsD argument.signature κs → Outcome → AtExit argument.ended κs → Type 0
+abbrev Promise : Type 1
+Promise = (κs : Lfts 3) → ArgsD argument.signature κs → Outcome → AtExit argument.ended κs → Type 0
+
+abbrev pub Asks : (Call → Arg → List ℕ → List ℕ → Answer) → (Call → Arg → List ℕ → List ℕ → List ℕ) → Promise
 Asks answer written κs a r e =
     Lends (answer (now (a .0)) (argOf (a .1 .0)) (now (a .1 .1 .0)) (now (a .1 .1 .1 .0)))
     (written (now (a .0)) (argOf (a .1 .0)) (now (a .1 .1 .0)) (now (a .1 .1 .1 .0))) r (now (e .0)) (now (e .1 .1 .1 .0))
 
-abbrev pub Returns : (κs : Lfts 3) → ArgsD argument.signature κs → Outcome → AtExit argument.ended κs → Type 0
+abbrev pub Returns : Promise
 Returns = Asks returnsAnswer returnsWritten
 
-abbrev pub Passes : (κs : Lfts 3) → ArgsD argument.signature κs → Outcome → AtExit argument.ended κs → Type 0
+abbrev pub Passes : Promise
 Passes = Asks argumentAnswer argumentWritten
 
-abbrev pub PassesVariadic : (κs : Lfts 3) → ArgsD argument.signature κs → Outcome → AtExit argument.ended κs → Type 0
+abbrev pub PassesVariadic : Promise
 PassesVariadic = Asks variadicArgumentAnswer variadicArgumentWritten
 
 module _ {M : Type 1} (𝓤 : URA M) (H : Heap 𝓤) (A : Atoms 𝓤) (mem : Memory → SProp 𝓤) (run : Routine → Fun 𝓤) where

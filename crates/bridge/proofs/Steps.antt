@@ -68,8 +68,8 @@ module _ {M : Type 1} {𝓤 : URA M} {H : Heap 𝓤} {A : Atoms 𝓤} {K : Type 
 -- ---- the further parameters of a form that asks about a value: the question, the words of its pieces, and the slot buffer
 
 -- the machine values of a question and of a slice
-abbrev pub asked : What → Val
-asked n = LL.val Q.the-type Q′.the-laws n
+abbrev pub question : What → Val
+question n = LL.val Q.the-type Q′.the-laws n
 
 abbrev pub slice : RefT (List ℕ) → Val
 slice s = sliceVal (s .ptr) (length (s .now))
@@ -80,16 +80,16 @@ LastList s zs = fsep ftrue (fsep ftrue (fsep (fsep (finally u64 (s .name) zs) (f
 
 module _ {M : Type 1} {𝓤 : URA M} {H : Heap 𝓤} {A : Atoms 𝓤} {K : Type 0} {W : Given 𝓤 H A} {Γ : List (Item 𝓤)} {G : Goal 𝓤 H} where
   -- what they own, from what the words own and what is had of the buffer
-  pub further : K → {words buffer : Fml} (n : What) → Is Q.the-row n (asked n ∷ [])
-      → Step K W (‵ (fsep (Q.the-row .own n (asked n ∷ [])) (fsep words (fsep buffer ftrue))) ∷ Γ) G (‵ words ∷ ‵ buffer ∷ Γ) G
+  pub further : K → {words buffer : Fml} (n : What) → Is Q.the-row n (question n ∷ [])
+      → Step K W (‵ (fsep (Q.the-row .own n (question n ∷ [])) (fsep words (fsep buffer ftrue))) ∷ Γ) G (‵ words ∷ ‵ buffer ∷ Γ) G
   further t n is = step (λ s.
       nothing t $ move t (2 ∷ 0 ∷ []) $ fjoin t $ move t (1 ∷ 0 ∷ []) $ fjoin t $ owned t Q.the-row (Is Q.the-row) (LL.makes Q.the-type Q′.the-plain 𝓤 H A) n _ is $ fjoin t $ s)
 
   -- and apart again, with a copy of what the words own
-  pub apart : K → {question buffer : Fml} (ρ : Lifetime) (κ : Lft) (ws : RefT (List ℕ))
+  pub apart : K → {one buffer : Fml} (ρ : Lifetime) (κ : Lft) (ws : RefT (List ℕ))
       → Step K W (‵ buffer ∷ ‵ (ShrSlice ρ κ u64 .own ws (slice ws ∷ [])) ∷ ‵ (ShrSlice ρ κ u64 .own ws (slice ws ∷ [])) ∷ Γ) G
-      (‵ (fsep question (fsep (ShrSlice ρ κ u64 .own ws (slice ws ∷ [])) (fsep buffer ftrue))) ∷ Γ) G
-  apart t {question} {buffer} ρ κ ws = step (λ s. fsplit t $ drop t $ fsplit t $
+      (‵ (fsep one (fsep (ShrSlice ρ κ u64 .own ws (slice ws ∷ [])) (fsep buffer ftrue))) ∷ Γ) G
+  apart t ρ κ ws = step (λ s. fsplit t $ drop t $ fsplit t $
       use1 W (‵ (ShrSlice ρ κ u64 .own ws (slice ws ∷ [])) ⊛ ‵ (ShrSlice ρ κ u64 .own ws (slice ws ∷ []))) (shr-slice-copy 𝓤 H A W ρ κ u64 .twice ws (slice ws ∷ [])) $
       split t $ move t (2 ∷ []) $ fsplit t $ move t (1 ∷ []) $ drop t $ s)
 
@@ -101,7 +101,7 @@ pub passed-on : {M : Type 1} {𝓤 : URA M} {H : Heap 𝓤} {A : Atoms 𝓤} {K 
     → K → {ρ : Lifetime} {rest : Code} {i j l l₁ l₂ : ℕ} (s : RefT (List ℕ)) → Room u64 (length (s .now))
     → spotOf 𝓤 H E 4 ≡ (sliceTy (tyRef ρ mut (tyInt w64)), l, zero) → spotOf 𝓤 H E i ≡ (tyRef erased mut (tyInt w64), l₁, zero) → spotOf 𝓤 H E j ≡ (sliceTy (tyRef erased mut (tyInt w64)), l₂, zero)
     → Step K W (‵ (fat fullShare (sliceTy (tyRef ρ mut (tyInt w64))) l zero (slice s)) ∷ ‵ (fat fullShare (tyRef erased mut (tyInt w64)) l₁ zero (vptr (s .ptr .0) (s .ptr .1)))
-      ∷ ‵ (fat fullShare (sliceTy (tyRef erased mut (tyInt w64))) l₂ zero (slice s)) ∷ Γ) (runs C Λ E rest p)
+    ∷ ‵ (fat fullShare (sliceTy (tyRef erased mut (tyInt w64))) l₂ zero (slice s)) ∷ Γ) (runs C Λ E rest p)
     (‵ (fat fullShare (sliceTy (tyRef ρ mut (tyInt w64))) l zero (slice s)) ∷ ‵ (froom (tyRef erased mut (tyInt w64)) l₁ zero) ∷ ‵ (froom (sliceTy (tyRef erased mut (tyInt w64))) l₂ zero) ∷ Γ)
     (runs C Λ E (seq (assign (place i []) (addrOf (place 4 (field 0 ∷ deref (tyInt w64) ∷ [])))) (seq (assign (place j []) (aggregate (copy (place i []) ∷ copy (place 4 (field 1 ∷ [])) ∷ []))) rest)) p)
 passed-on t s room at-4 at-i at-j = step (λ k.
@@ -139,8 +139,8 @@ module _ {M : Type 1} {𝓤 : URA M} {H : Heap 𝓤} {A : Atoms 𝓤} {K : Type 
       → ((w : Val) → ent 𝓤 (c .post x w) (mean 𝓤 H A (later (some (λ (r : Answer). (tokens ⊛ ‵ (N.the-row .own r (w ∷ []))) ⊛ raw (S r)))))) → spotOf 𝓤 H (Locals τ l₀ l₁ E) a ≡ (N′.mir, l, zero)
       → Opds K W (raw (c .pre x) ∷ Open κ q γ b o h ∷ ‵ (fat fullShare τ l₁ zero (vptr b o)) ∷ ‵ (froom N′.mir l zero) ∷ ‵ (froom O′.mir l₀ zero) ∷ Γ) (Locals τ l₀ l₁ E) xs (c .args x)
       → ((r : Answer) (v : Val) → Is O.the-row (r .outcome) (told (r .outcome) ∷ [])
-        → Seq K W (‵ (fobs γ (T.the-row .coded .code (r .next))) ∷ ‵ (fbor κ (Body (mem T.the-row) b o γ)) ∷ ‵ (flft κ q) ∷ tokens ∷ raw (S r)
-          ∷ ‵ (fat fullShare τ l₁ zero (vptr b o)) ∷ ‵ (fat fullShare N′.mir l zero v) ∷ ‵ (fat fullShare O′.mir l₀ zero (told (r .outcome))) ∷ Γ) (frees (Locals τ l₀ l₁ E) (prop (Kf (told (r .outcome))))))
+      → Seq K W (‵ (fobs γ (T.the-row .coded .code (r .next))) ∷ ‵ (fbor κ (Body (mem T.the-row) b o γ)) ∷ ‵ (flft κ q) ∷ tokens ∷ raw (S r)
+      ∷ ‵ (fat fullShare τ l₁ zero (vptr b o)) ∷ ‵ (fat fullShare N′.mir l zero v) ∷ ‵ (fat fullShare O′.mir l₀ zero (told (r .outcome))) ∷ Γ) (frees (Locals τ l₀ l₁ E) (prop (Kf (told (r .outcome))))))
       → Seq K W (raw (c .pre x) ∷ Open κ q γ b o h ∷ ‵ (fat fullShare τ l₁ zero (vptr b o)) ∷ ‵ (froom N′.mir l zero) ∷ ‵ (froom O′.mir l₀ zero) ∷ Γ)
       (runs C Λ (Locals τ l₀ l₁ E) (seq (call f xs (place a [])) (seq (assign (place 1 (deref T′.mir ∷ [])) (rvOpd (copy (place a (field 0 ∷ []))))) (seq (assign (place 0 []) (rvOpd (copy (place a (field 1 ∷ []))))) return))) (atRet (Locals τ l₀ l₁ E) Kf))
   answered t fm b o h c known x tokens S gives e os k =

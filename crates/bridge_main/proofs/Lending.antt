@@ -47,7 +47,7 @@ use Rattle.classify.proofs.Outcome.Laws as O′
 use Rattle.classify.proofs.Answer as N
 use Rattle.classify.proofs.Answer.Laws as N′
 use Rattle.bridge.proofs.Asking as form
-use Rattle.bridge.proofs.Steps.{mach, asked, slice, LastList, gone, further, apart, last-list, passed-on}
+use Rattle.bridge.proofs.Steps.{mach, question, slice, LastList, gone, further, apart, last-list, passed-on}
 use Rattle.bridge.proofs.barkpaddle_bridge_argument as thin
 use Rattle.bridge_main.proofs.Steps.{left, told, lent-ref, Lent, lent, back}
 use Rattle.bridge_main.proofs.argument as argument
@@ -85,12 +85,12 @@ module _ (ans : Call → Arg → List ℕ → List ℕ → Answer) (wri : Call �
   abbrev stayed : Stays (argument.ended .signature .params) (argument.ended .kept)
   stayed = (stay-none (λ _. T.the-row) yes, (stay-none (λ _. Q.the-row) yes, (stay-none-slice (0 ∷ []) tt (plain (λ _. u64)) yes, (gave-slice (1 ∷ []) tt (plain (λ _. u64)), tt))))
 
-  module _ {M : Type 1} (𝓤 : URA M) (H : Heap 𝓤) (A : Atoms 𝓤) (W : Given 𝓤 H A) (κ₁ κ₂ : Lft) (q₁ q₂ : Share) (h : Call) (n : What) (ws ss : RefT (List ℕ)) (h-is : Is T.the-row h (mach h ∷ [])) (n-is : Is Q.the-row n (asked n ∷ [])) where
+  module _ {M : Type 1} (𝓤 : URA M) (H : Heap 𝓤) (A : Atoms 𝓤) (W : Given 𝓤 H A) (κ₁ κ₂ : Lft) (q₁ q₂ : Share) (h : Call) (n : What) (ws ss : RefT (List ℕ)) (h-is : Is T.the-row h (mach h ∷ [])) (n-is : Is Q.the-row n (question n ∷ [])) where
     abbrev a : Call × (What × (RefT (List ℕ) × (RefT (List ℕ) × Unit {0})))
     a = (h, (n, (ws, (ss, tt))))
 
     abbrev vals : List Val × (List Val × (List Val × (List Val × Unit {0})))
-    vals = (mach h ∷ [], (asked n ∷ [], (slice ws ∷ [], (slice ss ∷ [], tt))))
+    vals = (mach h ∷ [], (question n ∷ [], (slice ws ∷ [], (slice ss ∷ [], tt))))
 
     abbrev Words : Fml
     Words = ShrSlice (named 0) κ₁ u64 .own ws (slice ws ∷ [])
@@ -133,9 +133,9 @@ module _ (ans : Call → Arg → List ℕ → List ℕ → Answer) (wri : Call �
 
     module _ (f : Name) (C : Calls 𝓤 H) (Λ : Loops 𝓤 H) (fm : FmC 𝓤 H (W .laws) C) (known : Triple 𝓤 (C f) (Form 𝓤 H A)) where
       walk : Is (ShrSlice (named 0) κ₁ u64) ws (slice ws ∷ []) → Room u64 (length (ss .now))
-          → ent 𝓤 (onEntry 𝓤 H A argument.signature (κ₁, (κ₂, tt)) (q₁, (q₂, tt)) a vals) (WpFn 𝓤 H C Λ (function f) (mach h ∷ asked n ∷ slice ws ∷ slice ss ∷ []) Post)
+          → ent 𝓤 (onEntry 𝓤 H A argument.signature (κ₁, (κ₂, tt)) (q₁, (q₂, tt)) a vals) (WpFn 𝓤 H C Λ (function f) (mach h ∷ question n ∷ slice ws ∷ slice ss ∷ []) Post)
       walk pw room =
-          qed W (tokens ∷ ‵ (owns (T.the-row ∷ Q.the-row ∷ ShrSlice (named 0) κ₁ u64 ∷ MutSlice (named 1) κ₂ u64 ∷ []) a vals) ∷ []) ∵ enter ! C Λ (function f) (mach h ∷ asked n ∷ slice ws ∷ slice ss ∷ []) _ $
+          qed W (tokens ∷ ‵ (owns (T.the-row ∷ Q.the-row ∷ ShrSlice (named 0) κ₁ u64 ∷ MutSlice (named 1) κ₂ u64 ∷ []) a vals) ∷ []) ∵ enter ! C Λ (function f) (mach h ∷ question n ∷ slice ws ∷ slice ss ∷ []) _ $
           alloc1 ! (λ l₀. alloc1 ! (λ l₁. alloc1 ! (λ l₂. alloc1 ! (λ l₃. alloc1 ! (λ l₄. alloc1 ! (λ l₅. alloc1 ! (λ l₆. alloc1 ! (λ l₇. alloc1 ! (λ l₈. alloc1 ! (λ l₉. alloc1 ! (λ l₁₀. alloc0 ! $ params1 ! $
           pass1 ! (init ! 18 refl (LL.lawful T.the-type T′.the-laws 𝓤 H A W .typed h _ h-is .0)) $ pass1 ! (init ! 16 refl (LL.lawful Q.the-type Q′.the-laws 𝓤 H A W .typed n _ n-is .0)) $
           pass1 ! (init ! 14 refl (shr-slice-lawful 𝓤 H A W (named 0) κ₁ u64 .typed ws (slice ws ∷ []) pw .0)) $ pass1 ! (init ! 12 refl (tt, (tt, (record { fits = room .0 }, tt)))) $ pass0 ! $

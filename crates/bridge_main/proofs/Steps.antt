@@ -95,7 +95,7 @@ module _ {M : Type 1} {𝓤 : URA M} {H : Heap 𝓤} {A : Atoms 𝓤} {K : Type 
   -- the call is copied to the local i, at l, and the copy is lent for a new lifetime, by the local j
   pub lent : K → {p : Post 𝓤 H} {rest : Code} {j m : ℕ} (h : Call) → Is T.the-row h (mach h ∷ []) → spotOf 𝓤 H (Locals l₀ l₁ E) i ≡ (T′.mir, l, zero) → spotOf 𝓤 H (Locals l₀ l₁ E) j ≡ (RefTy, m, zero)
       → ((α : ℕ) (δ : GName) → Seq K W (‵ (Lent h α l δ) ∷ ‵ (Lender α l δ) ∷ ‵ (flft (α ∷ []) fullShare) ∷ ‵ (fat fullShare T′.mir l₁ zero (mach h)) ∷ ‵ (fat fullShare RefTy m zero (vptr l 0)) ∷ Γ)
-        (runs C Λ (Locals l₀ l₁ E) rest p))
+      (runs C Λ (Locals l₀ l₁ E) rest p))
       → Seq K W (‵ (fat fullShare T′.mir l₁ zero (mach h)) ∷ ‵ (froom T′.mir l zero) ∷ ‵ (froom RefTy m zero) ∷ Γ)
       (runs C Λ (Locals l₀ l₁ E) (seq (assign (place i []) (rvOpd (copy (place 1 [])))) (seq (assign (place j []) (addrOf (place i []))) rest)) p)
   lent t h h-is at-i at-j k =
@@ -109,12 +109,12 @@ module _ {M : Type 1} {𝓤 : URA M} {H : Heap 𝓤} {A : Atoms 𝓤} {K : Type 
   pub back : K → FmC 𝓤 H (W .laws) C → {f : Name} {xs : List Opd} {u z m n : ℕ} {Kf : Val → SProp 𝓤} (α : ℕ) (δ : GName) (c : Contract 𝓤) → Triple 𝓤 (C f) c → (x : c .Ghost) (tokens : Item 𝓤)
       {Z : Type 0} (last : Z → Call) (others : Z → Fml) (says : Outcome → Z → Type 0)
       → ((w : Val) → ent 𝓤 (c .post x w) (mean 𝓤 H A (later (some (λ (r : Outcome). ((‵ (flft (α ∷ []) fullShare) ⊛ tokens) ⊛ ‵ (O.the-row .own r (w ∷ [])))
-        ⊛ some (λ (zs : Z). ‵ (fsep (fres δ (T.the-row .coded .code (last zs))) (others zs)) ⊛ raw (fact 𝓤 (says r zs))))))))
+      ⊛ some (λ (zs : Z). ‵ (fsep (fres δ (T.the-row .coded .code (last zs))) (others zs)) ⊛ raw (fact 𝓤 (says r zs))))))))
       → spotOf 𝓤 H (Locals l₀ l₁ E) i ≡ (T′.mir, l, zero) → spotOf 𝓤 H (Locals l₀ l₁ E) u ≡ (O′.mir, m, zero) → spotOf 𝓤 H (Locals l₀ l₁ E) z ≡ (T′.mir, n, zero)
       → Opds K W (raw (c .pre x) ∷ ‵ (Lender α l δ) ∷ ‵ (froom O′.mir m zero) ∷ ‵ (froom T′.mir n zero) ∷ ‵ (froom N′.mir l₀ zero) ∷ Γ) (Locals l₀ l₁ E) xs (c .args x)
       → ((r : Outcome) (zs : Z) (v : Val) → says r zs → Is N.the-row (left (last zs) r) (told (last zs) r ∷ [])
-        → Seq K W (‵ (fat fullShare T′.mir l zero (mach (last zs))) ∷ tokens ∷ ‵ (others zs) ∷ ‵ (fat fullShare O′.mir m zero v) ∷ ‵ (fat fullShare T′.mir n zero (mach (last zs)))
-          ∷ ‵ (fat fullShare N′.mir l₀ zero (told (last zs) r)) ∷ Γ) (frees (Locals l₀ l₁ E) (prop (Kf (told (last zs) r)))))
+      → Seq K W (‵ (fat fullShare T′.mir l zero (mach (last zs))) ∷ tokens ∷ ‵ (others zs) ∷ ‵ (fat fullShare O′.mir m zero v) ∷ ‵ (fat fullShare T′.mir n zero (mach (last zs)))
+      ∷ ‵ (fat fullShare N′.mir l₀ zero (told (last zs) r)) ∷ Γ) (frees (Locals l₀ l₁ E) (prop (Kf (told (last zs) r)))))
       → Seq K W (raw (c .pre x) ∷ ‵ (Lender α l δ) ∷ ‵ (froom O′.mir m zero) ∷ ‵ (froom T′.mir n zero) ∷ ‵ (froom N′.mir l₀ zero) ∷ Γ)
       (runs C Λ (Locals l₀ l₁ E) (seq (call f xs (place u [])) (seq (assign (place z []) (rvOpd (copy (place i [])))) (seq (assign (place 0 []) (aggregate (copy (place z []) ∷ copy (place u []) ∷ []))) return))) (atRet (Locals l₀ l₁ E) Kf))
   back t fm {m = m} α δ c known x tokens {Z} last others says gives at-i at-u at-z os k =
