@@ -19,6 +19,13 @@ const OPERATIONS: u64 = 60000;
 
 const SEED: u64 = 88172645463325252;
 
+// The first number that is no kind; a size and an alignment that are larger than any that is taken.
+const NO_KIND: u64 = shape::QUAD + 1;
+
+const TOO_LARGE: u64 = checks::MOST_OFFSET * 2;
+
+const TOO_ALIGNED: u64 = checks::MOST_ALIGN * 2;
+
 // The call behind an operation, the seed of the next one, whether the two forms agreed, and which place of the tally it counts in. Where they
 // agreed they left one call.
 struct Turn {
@@ -134,7 +141,7 @@ fn renewed(call: Call, drawn: Drawn) -> Call {
     let a = drawn.a;
     let b = drawn.b;
     if (a >> 8) % 16 == 0 {
-        let answer = Call::fresh((b >> 9) % 30);
+        let answer = Call::fresh((b >> 9) % abis::DESCRIPTIONS);
         let fresh = answer.next;
         return fresh;
     }
@@ -180,7 +187,7 @@ fn form_of(k: u64) -> u64 {
 
 // Mostly an integer, a Single or a Double; now and then any other, or the first number that is no kind.
 fn kind_of(k: u64) -> u64 {
-    if k < 6 {
+    if k <= NO_KIND {
         return k;
     }
     k % 3
@@ -191,7 +198,7 @@ fn size_of(form: u64, b: u64, c: u64) -> u64 {
         return scalar_size((b >> 10) % 64);
     }
     if (c >> 6) % 32 == 0 {
-        return 33554432;
+        return TOO_LARGE;
     }
     if (c >> 6) % 32 < 6 {
         return (c >> 12) % 70;
@@ -212,7 +219,7 @@ fn scalar_size(k: u64) -> u64 {
 
 fn align_of(c: u64) -> u64 {
     if (c >> 18) % 64 == 0 {
-        return 8192;
+        return TOO_ALIGNED;
     }
     if (c >> 18) % 64 < 5 {
         return 1;
@@ -281,10 +288,10 @@ fn word(i: u64, b: u64, c: u64) -> u64 {
 
 fn piece_kind(piece: u64, b: u64) -> u64 {
     if (b >> 36) % 64 == piece {
-        return 5;
+        return NO_KIND;
     }
     if (b >> 30) % 2 == 0 {
-        return (b >> 31) % 5;
+        return (b >> 31) % NO_KIND;
     }
     ((b >> 31) ^ piece) % 3
 }
