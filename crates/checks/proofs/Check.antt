@@ -11,9 +11,9 @@ use Rattle.shape.specs.declared.Piece.{Piece}
 use Rattle.shape.specs.declared.Scalar.{Scalar}
 use Rattle.shape.specs.declared.Shape.{Shape}
 use Rattle.shape.specs.Numbers.{quad, accepted, bad-list, bad-kind, bad-size, bad-align, most-size, most-offset, most-align, most-pieces}
-use Rattle.shape.specs.Words.{piecesOf, pieceAt}
+use Rattle.shape.specs.Words.{piecesOf}
 use Rattle.checks.specs.Check.{orElse, scalarRefusal, pieceRefusal, piecesRefusal, listRefusal, shapeRefusal}
-use Rattle.shape.proofs.Words.{pieces-step, pieces-end, length-pieces}
+use Rattle.shape.proofs.Words.{length-pieces, Records, ByFirst, loop-turn}
 
 -- the first of two answers decides where it is a refusal
 pub else-first : (n rest : ℕ) → (n ≡ accepted → ⊥) → n ≡ orElse n rest
@@ -94,20 +94,20 @@ module _ (ws : List ℕ) where
       go true ea true eb t = absurd (let z : _≡_ {A = ℕ} 0 1 = cc in omega arith)
       go true ea false eb t = list-whole (eqb-true _ _ ea) (ltb-false _ _ eb)
 
--- the loop over the pieces: `total` is what the pieces from the place on decide
-module _ (total : ℕ) (ws : List ℕ) (at : ℕ) (inv : total ≡ piecesRefusal (piecesOf (drop at ws))) (w : at ≤ length ws) where
-  pub pieces-accepted : length ws - at < 4 → accepted ≡ total
-  unfolding piecesRefusal
-  pieces-accepted h = rw (inv, pieces-end ws at (omega arith))
+-- a loop that answers the first refusal among some records
+module _ {A : Type 0} {size : ℕ} {all : List ℕ → List A} {one : List ℕ → ℕ → A} (records : Records A size all one)
+    {f : List A → ℕ} {g : A → ℕ} (d : ByFirst f g orElse accepted)
+    (total : ℕ) (ws : List ℕ) (at : ℕ) (inv : total ≡ f (all (drop at ws))) (w : at ≤ length ws)
+    (h : size ≤ length ws - at) (x : A) (r : ℕ) (ex : x ≡ one ws at) (er : r ≡ g x) where
+  pub refused-here : (r ≡ accepted → ⊥) → r ≡ total
+  refused-here n = rw (loop-turn records d total ws at inv w h x ex, ← er) (else-first _ _ n)
 
-  module _ (h : 4 ≤ length ws - at) (p : Piece) (r : ℕ) (ep : p ≡ pieceAt ws at) (er : r ≡ pieceRefusal p) where
-    pub refused-here : (r ≡ accepted → ⊥) → r ≡ total
-    unfolding piecesRefusal
-    refused-here f = rw (inv, pieces-step ws at (omega arith), ← ep, ← er) (else-first _ _ f)
+  pub refused-later : r ≡ accepted → total ≡ f (all (drop (at + size) ws))
+  refused-later z = rw (loop-turn records d total ws at inv w h x ex, ← er, z)
 
-    pub refused-later : r ≡ accepted → total ≡ piecesRefusal (piecesOf (drop (at + 4) ws))
-    unfolding piecesRefusal
-    refused-later f = rw (inv, pieces-step ws at (omega arith), ← ep, ← er, f)
+pub pieces-by-first : ByFirst piecesRefusal pieceRefusal orElse accepted
+unfolding piecesRefusal
+pieces-by-first = record { none = refl; more = λ p ps. refl }
 
 -- a shape and its words
 module _ (shape : Shape) (ws : List ℕ) (list : ℕ) (el : list ≡ listRefusal ws) where

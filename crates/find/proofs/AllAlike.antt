@@ -1,6 +1,6 @@
 -- The laws of the test, each with what the code looked at as premises: what fails decides, and where nothing fails the slots are found; and
 -- what float slots of one format are.
-use Prim.Native.Nat.{ℕ, suc, _+_, _-_, _*_, _/_, _≤_, _<_}
+use Prim.Native.Nat.{ℕ, suc, _-_, _*_, _/_, _≤_, _<_}
 use mathlib.Core.Path.{_≡_, refl, ap, sym, subst}
 use mathlib.Core.List.{List, [], _∷_}
 use mathlib.Core.Bool.{Bool, true, false, not, _&&_}
@@ -15,7 +15,7 @@ use Rattle.shape.specs.declared.Shape.{Shape}
 use Rattle.shape.specs.Numbers.{integer}
 use Rattle.shape.specs.Words.{piecesOf, pieceAt}
 use Rattle.shape.specs.Questions.{isFloat}
-use Rattle.shape.proofs.Words.{pieces-step, pieces-end, length-pieces}
+use Rattle.shape.proofs.Words.{pieces-step, pieces-end, length-pieces, ByFirst}
 use Rattle.slots.specs.declared.Slot.{Slot}
 use Rattle.slots.specs.declared.Found.the-variants.{Slots, Nothing}
 use Rattle.slots.specs.Search.{floatsIn, foundOf}
@@ -56,20 +56,10 @@ module _ (size count whole : ℕ) (n : 0 < count) where
   pub fills-small : size ≡ whole / count → size * count ≤ whole
   fills-small e = rw e (div-mul-le-self whole count)
 
--- the loop of `rest_same`: `total` is whether the pieces from the place on are all the same scalar
-module _ (total : Bool) (first : Piece) (ws : List ℕ) (at : ℕ) (inv : total ≡ allSame first (piecesOf (drop at ws))) (w : at ≤ length ws) where
-  pub same-end : length ws - at < 4 → true ≡ total
-  unfolding allSame
-  same-end h = rw (inv, pieces-end ws at (omega arith))
-
-  module _ (h : 4 ≤ length ws - at) (p : Piece) (ep : p ≡ pieceAt ws at) where
-    pub same-broken : not (sameScalar first p) ≡ true → false ≡ total
-    unfolding allSame
-    same-broken f = rw (inv, pieces-step ws at (omega arith), ← ep, not-true (sameScalar first p) f)
-
-    pub same-next : not (sameScalar first p) ≡ false → total ≡ allSame first (piecesOf (drop (at + 4) ws))
-    unfolding allSame
-    same-next f = rw (inv, pieces-step ws at (omega arith), ← ep, not-false (sameScalar first p) f)
+-- all the same scalar, by the first piece and the rest
+pub same-by-first : (first : Piece) → ByFirst (allSame first) (λ p. sameScalar first p) _&&_ true
+unfolding allSame
+same-by-first first = record { none = refl; more = λ p ps. refl }
 
 -- what a homogeneous shape has
 pub record Fields (limit : ℕ) (shape : Shape) (first : Piece) (ps : List Piece) : Type 0 where

@@ -11,9 +11,8 @@ use Rattle.shape.specs.declared.Piece.{Piece}
 use Rattle.shape.specs.declared.Scalar.{Scalar}
 use Rattle.shape.specs.Numbers.{accepted, bad-list, no-room, most-pieces}
 use Rattle.shape.specs.Words.{piece, scalarsOf, scalarAt, putAt, pieceWords}
-use Rattle.checks.specs.Check.{scalarRefusal, unlessRefused}
-use Rattle.shape.proofs.Words.{scalars-step, scalars-end, length-scalars}
-use Rattle.checks.proofs.Check.{else-first}
+use Rattle.checks.specs.Check.{scalarRefusal, unlessRefused, orElse}
+use Rattle.shape.proofs.Words.{scalars-step, scalars-end, length-scalars, ByFirst}
 use Rattle.checks.proofs.Accepted.{refuse-none, else-none, Fits, fits}
 use Rattle.shape.proofs.Put.{put-short, put-split, put-none}
 use Rattle.layouts.specs.declared.Placed.{Placed}
@@ -35,20 +34,9 @@ module _ (ws : List ℕ) where
   unfolding membersRefusal
   by-scalars w n = rw (le-ltb 0 (length ws % 3) (omega arith), length-scalars, le-ltb _ _ n)
 
--- the loop over the scalars: `total` is what the scalars from the place on decide
-module _ (total : ℕ) (ws : List ℕ) (at : ℕ) (inv : total ≡ scalarsRefusal (scalarsOf (drop at ws))) (w : at ≤ length ws) where
-  pub scalars-accepted : length ws - at < 3 → accepted ≡ total
-  unfolding scalarsRefusal
-  scalars-accepted h = rw (inv, scalars-end ws at (omega arith))
-
-  module _ (h : 3 ≤ length ws - at) (s : Scalar) (r : ℕ) (es : s ≡ scalarAt ws at) (er : r ≡ scalarRefusal s) where
-    pub refused-here : (r ≡ accepted → ⊥) → r ≡ total
-    unfolding scalarsRefusal
-    refused-here f = rw (inv, scalars-step ws at (omega arith), ← es, ← er) (else-first _ _ f)
-
-    pub refused-later : r ≡ accepted → total ≡ scalarsRefusal (scalarsOf (drop (at + 3) ws))
-    unfolding scalarsRefusal
-    refused-later f = rw (inv, scalars-step ws at (omega arith), ← es, ← er, f)
+pub scalars-by-first : ByFirst scalarsRefusal scalarRefusal orElse accepted
+unfolding scalarsRefusal
+scalars-by-first = record { none = refl; more = λ s ss. refl }
 
 -- ---- pieces
 

@@ -136,7 +136,8 @@ pub fn is_all_of(words: &[u64], kind: u64) -> bool
     let mut at = 0;
     while words.len() - at >= PIECE {
         let p = piece_at(words, at);
-        if p.kind != kind {
+        let same = p.kind == kind;
+        if !same {
             return false;
         }
         at += PIECE;

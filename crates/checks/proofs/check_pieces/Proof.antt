@@ -3,8 +3,9 @@ use Prim.Native.Nat.{_≤_, _-_}
 use mathlib.Core.Path.{_≡_, refl}
 use lib.ListN.{length, drop}
 use Rattle.shape.specs.Words.{piecesOf}
+use Rattle.shape.proofs.Words.{pieces, loop-end}
 use Rattle.checks.specs.Check.{piecesRefusal}
-use Rattle.checks.proofs.Check.{pieces-accepted, refused-here, refused-later}
+use Rattle.checks.proofs.Check.{pieces-by-first, refused-here, refused-later}
 use borrow.Author.Needs.{needs}
 use native.Mathlib.Omega.{arith}
 use Rattle.checks.proofs.check_pieces.Statement.{statement}
@@ -26,8 +27,8 @@ check-pieces-spec =
     (λ c. search needs)
     (λ c κs. search needs)
     (λ c κs. search needs)
-    (λ c. search (refused-here))
+    (λ c. search (refused-here pieces pieces-by-first))
     (λ c. search needs)
     (λ c. search needs)
-    (λ c. (omega arith, search (refused-later)))
-    (λ c. search (pieces-accepted)))
+    (λ c. (omega arith, search (refused-later pieces pieces-by-first)))
+    (λ c. search (loop-end pieces pieces-by-first)))

@@ -3,8 +3,10 @@ use Prim.Native.Nat.{_≤_, _-_}
 use mathlib.Core.Path.{_≡_}
 use lib.ListN.{length, drop}
 use Rattle.shape.specs.Words.{scalarsOf}
+use Rattle.shape.proofs.Words.{scalars, loop-end}
+use Rattle.checks.proofs.Check.{refused-here, refused-later}
 use Rattle.layouts.specs.Members.{scalarsRefusal, membersRefusal}
-use Rattle.layouts.proofs.Members.{members-parts, members-many, by-scalars, refused-here, refused-later, scalars-accepted}
+use Rattle.layouts.proofs.Members.{members-parts, members-many, by-scalars, scalars-by-first}
 use borrow.Author.Needs.{needs}
 use native.Mathlib.Omega.{arith}
 use Rattle.layouts.proofs.check_members.Statement.{statement}
@@ -28,8 +30,8 @@ check-members-spec =
     (λ c. search needs)
     (λ c κs. search needs)
     (λ c κs. search needs)
-    (λ c. search (refused-here))
+    (λ c. search (refused-here scalars scalars-by-first))
     (λ c. search needs)
     (λ c. search needs)
-    (λ c. (omega arith, search (refused-later)))
-    (λ c. search (scalars-accepted)))
+    (λ c. (omega arith, search (refused-later scalars scalars-by-first)))
+    (λ c. search (loop-end scalars scalars-by-first)))

@@ -4,7 +4,8 @@ use mathlib.Core.Path.{_≡_}
 use lib.ListN.{length, drop}
 use Rattle.shape.specs.Words.{piecesOf}
 use Rattle.shape.specs.Questions.{allOf, isAllOf}
-use Rattle.shape.proofs.Questions.{all-none, all-start, all-end, all-broken, all-next}
+use Rattle.shape.proofs.Questions.{all-none, all-start, kind-by-first}
+use Rattle.shape.proofs.Words.{pieces, test-end, test-broken, test-next}
 use borrow.Author.Needs.{needs}
 use native.Mathlib.Omega.{arith}
 use Rattle.shape.proofs.is_all_of.Statement.{statement}
@@ -26,8 +27,8 @@ is-all-of-spec =
     (λ c. (omega arith, search (all-start)))
     (λ c. search needs)
     (λ c κs. search needs)
-    (λ c. search (all-broken))
+    (λ c. search (test-broken pieces kind-by-first))
     (λ c. search needs)
     (λ c. search needs)
-    (λ c. (omega arith, search (all-next)))
-    (λ c. search (all-end)))
+    (λ c. (omega arith, search (test-next pieces kind-by-first)))
+    (λ c. search (test-end pieces kind-by-first)))

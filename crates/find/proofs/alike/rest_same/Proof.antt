@@ -3,8 +3,9 @@ use Prim.Native.Nat.{_≤_, _-_}
 use mathlib.Core.Path.{_≡_, refl}
 use lib.ListN.{length, drop}
 use Rattle.shape.specs.Words.{piecesOf}
+use Rattle.shape.proofs.Words.{pieces, test-end, test-broken, test-next}
 use Rattle.find.specs.Find.{allSame}
-use Rattle.find.proofs.AllAlike.{same-end, same-broken, same-next}
+use Rattle.find.proofs.AllAlike.{same-by-first}
 use borrow.Author.Needs.{needs}
 use native.Mathlib.Omega.{arith}
 use Rattle.find.proofs.alike.rest_same.Statement.{statement}
@@ -25,8 +26,8 @@ rest-same-spec =
     (λ c. (omega arith, refl))
     (λ c. search needs)
     (λ c κs. search needs)
-    (λ c. search (same-broken))
+    (λ c. search (test-broken pieces same-by-first))
     (λ c. search needs)
     (λ c. search needs)
-    (λ c. (omega arith, search (same-next)))
-    (λ c. search (same-end)))
+    (λ c. (omega arith, search (test-next pieces same-by-first)))
+    (λ c. search (test-end pieces same-by-first)))
