@@ -9,7 +9,7 @@ use lib.Dec.{leb, eqb}
 use lib.ListN.{length}
 use Rattle.shape.specs.Words.{putAt}
 use Rattle.shape.proofs.Put.{put-none}
-use Rattle.text.specs.Text.{appendEnd, appended}
+use Rattle.text.specs.Text.{appendEnd}
 use Rattle.sheet_records.specs.declared.known.Reader.{Reader}
 use Rattle.sheet_records.specs.declared.known.Operation as operations
 use Rattle.sheet_records.specs.declared.Event as events
@@ -19,7 +19,7 @@ use Rattle.sheet_records.specs.Known.{actOf, stoppedReader}
 use Rattle.sheet_records.specs.declared.known.Act as acts
 use Rattle.sheet_lines.specs.Text.{Put}
 use Rattle.sheet_lines.specs.Printing.{longest, line, Lined}
-use Rattle.sheet_lines.proofs.TextLaws.{put-appended}
+use Rattle.sheet_lines.proofs.TextLaws.{append-put}
 use Rattle.sheet_lines.proofs.LineLaws.{line-there}
 use Rattle.sheet_perform.specs.declared.State.{State}
 use Rattle.sheet.specs.declared.Step.{Step}
@@ -42,8 +42,8 @@ module _ (out : List ℕ) (at : ℕ) (b : Bool) (eb : b ≡ leb (at + longest) (
 
 -- the text that says that the sheet stops
 pub stop-put : (out : List ℕ) (at to : ℕ) (out′ : List ℕ) → at + longest ≤ length out → to ≡ appendEnd (length out) at stopText
-    → out′ ≡ appended out at stopText → Put out at stopText to out′
-stop-put out at to out′ h et eo = put-appended out at stopText to out′ (omega arith) et eo
+    → out′ ≡ putAt out at stopText → Put out at stopText to out′
+stop-put out at to out′ h et eo = append-put out at stopText to out′ (omega arith) et eo
 
 -- ---- an operation that is ready
 

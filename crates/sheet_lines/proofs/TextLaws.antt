@@ -7,8 +7,9 @@ use native.Mathlib.Omega.{arith}
 use borrow.Author.Tests.{lt-ltb, le-ltb, le-leb}
 use lib.Dec.{ltb}
 use lib.ListN.{length, set, length-append}
-use Rattle.shape.proofs.Put.{put-fits, put-stores, length-put, put-split, put-none}
-use Rattle.text.specs.Text.{appendEnd, appended}
+use Rattle.shape.proofs.Put.{put-stores, length-put, put-split, put-none}
+use Rattle.text.specs.Text.{appendEnd}
+use Rattle.shape.specs.Words.{putAt}
 use Rattle.sheet_lines.specs.Text.{Put, digitOf, decimalIn}
 
 -- a text and then another from where it ends
@@ -32,13 +33,11 @@ put-nothing o at h = record { ends = omega arith; put = sym (put-none o at h); f
 pub put-one : (o : List ℕ) (at b : ℕ) → at + 1 ≤ length o → Put o at (b ∷ []) (at + 1) (set o at b)
 put-one o at b h = record { ends = refl; put = put-stores o at (b ∷ []) h; fits = h }
 
--- what is appended where it fits
-pub put-appended : (o : List ℕ) (at : ℕ) (text : List ℕ) (to : ℕ) (p : List ℕ) → at + length text ≤ length o
-    → to ≡ appendEnd (length o) at text → p ≡ appended o at text → Put o at text to p
-unfolding appendEnd appended
-put-appended o at text to p h et ep =
-    let f = le-leb (at + length text) (length o) h in
-    record { ends = rw f at et; put = rw f at ep ∙ sym (put-fits o at text h); fits = h }
+-- what is appended where there is room
+pub append-put : (o : List ℕ) (at : ℕ) (text : List ℕ) (r : ℕ) (p : List ℕ) → at + length text ≤ length o
+    → r ≡ appendEnd (length o) at text → p ≡ putAt o at text → Put o at text r p
+unfolding appendEnd
+append-put o at text r p h er ep = record { ends = er ∙ rw (le-leb _ _ h); put = ep; fits = h }
 
 -- ---- digits
 

@@ -9,7 +9,8 @@ use borrow.Author.Tests.{eq-eqb, ne-eqb}
 use lib.Dec.{leb, eqb}
 use lib.ListN.{length, take, drop, getD, length-drop, take-append-drop, drop-of-length-le}
 use lib.Seq.{drop-cons}
-use Rattle.text.specs.Text.{dot, upToDot, endFrom, appended, appendEnd}
+use Rattle.shape.specs.Words.{putAt}
+use Rattle.text.specs.Text.{dot, upToDot, endFrom, appendEnd}
 
 -- ---- the search
 
@@ -86,7 +87,7 @@ module _ (bs : List ℕ) (start end : ℕ) (e : end ≡ endFrom bs start) where
     pub part-end : (to : ℕ) → to ≡ appendEnd (length out) at (take (end - start) (drop start bs)) → to ≡ appendEnd (length out) at (upToDot (drop start bs))
     part-end to h = rw part at h
 
-    pub part-appended : (after : List ℕ) → after ≡ appended out at (take (end - start) (drop start bs)) → after ≡ appended out at (upToDot (drop start bs))
+    pub part-appended : (after : List ℕ) → after ≡ putAt out at (take (end - start) (drop start bs)) → after ≡ putAt out at (upToDot (drop start bs))
     part-appended after h = rw part at h
 
 -- no text starts behind the last
@@ -98,6 +99,6 @@ module _ (out : List ℕ) (at : ℕ) where
   none-by false = (refl, refl)
 
   pub nothing-there : (bs : List ℕ) (start : ℕ) → length bs < start
-      → (at ≡ appendEnd (length out) at (upToDot (drop start bs))) × (out ≡ appended out at (upToDot (drop start bs)))
-  unfolding appendEnd appended
+      → (at ≡ appendEnd (length out) at (upToDot (drop start bs))) × (out ≡ putAt out at (upToDot (drop start bs)))
+  unfolding appendEnd putAt
   nothing-there bs start h = rw (at-end bs start (omega arith)) (none-by (leb (at + 0) (length out)))

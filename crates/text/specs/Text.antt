@@ -2,11 +2,12 @@
 use Prim.Native.Nat.{ℕ, _+_}
 use Prim.Native.Char.{code}
 use Prim.Native.String.{String, [] as ends, _∷_ as _then_}
-use mathlib.Core.List.{List, [], _∷_, _++_}
+use mathlib.Core.List.{List, [], _∷_}
 use mathlib.Core.Bool.{cond}
 use lib.Dec.{leb, eqb}
-use lib.ListN.{length, take, drop}
+use lib.ListN.{length, drop}
 use Rattle.shape.specs.Numbers.{accepted, no-room}
+use Rattle.shape.specs.Words.{putAt}
 use Rattle.text.specs.declared.Written.{Written}
 
 -- the bytes of a text of ASCII characters
@@ -22,14 +23,10 @@ unfoldable pub putAnswer : List ℕ → ℕ → Written
 putAnswer name room = cond (leb (length name) room) (wrote accepted (length name)) (wrote no-room 0)
 
 -- the bytes at the front, where they fit; every byte behind them keeps its value
-unfoldable pub putWritten : List ℕ → List ℕ → List ℕ
-putWritten name out = cond (leb (length name) (length out)) (name ++ drop (length name) out) out
+abbrev pub putWritten : List ℕ → List ℕ → List ℕ
+putWritten name out = putAt out 0 name
 
--- the bytes at a place of the buffer, where they fit behind it; otherwise no byte changes
-unfoldable pub appended : List ℕ → ℕ → List ℕ → List ℕ
-appended out at bs = cond (leb (at + length bs) (length out)) (take at out ++ bs ++ drop (at + length bs) out) out
-
--- the place behind them, or the same place, by the length of the buffer
+-- the place behind some bytes that were put at a place, or the same place where they didn't fit, by the length of the buffer
 unfoldable pub appendEnd : ℕ → ℕ → List ℕ → ℕ
 appendEnd room at bs = cond (leb (at + length bs) room) (at + length bs) at
 

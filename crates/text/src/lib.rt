@@ -1,7 +1,8 @@
 // Bytes of text, written into a lent buffer: the one way that names leave (REFERENCE 5.5, 6.4), and that programs make their lines.
 ghost use mathlib.Core.Path.{_≡_};
 ghost use lib.ListN.{length, drop};
-ghost use Rattle.text.specs.Text.{putAnswer, putWritten, appendEnd, appended, upToDot, endFrom};
+ghost use Rattle.text.specs.Text.{putAnswer, putWritten, appendEnd, upToDot, endFrom};
+ghost use Rattle.shape.specs.Words.{putAt};
 
 // A refusal, or how many bytes were written. Who has no name to write answers none for the number.
 pub struct Written {
@@ -28,7 +29,7 @@ pub fn put(bytes: &[u8], out: &mut [u8]) -> Written
 
 // The bytes go to a place of `out`, where they all fit behind it; the place behind them. What doesn't fit is left out whole.
 pub fn append(out: &mut [u8], at: usize, bytes: &[u8]) -> usize
-    ensures { λ r. ⌜ (r ≡ appendEnd (length (now (out .entry))) at (now (bytes .entry))) × (now (out .exit) ≡ appended (now (out .entry)) at (now (bytes .entry))) ⌝ }
+    ensures { λ r. ⌜ (r ≡ appendEnd (length (now (out .entry))) at (now (bytes .entry))) × (now (out .exit) ≡ putAt (now (out .entry)) at (now (bytes .entry))) ⌝ }
 {
     if at > out.len() {
         return at;
@@ -47,7 +48,7 @@ pub fn append(out: &mut [u8], at: usize, bytes: &[u8]) -> usize
 // Texts of unlike lengths can stand in one, each filled up with dots: the one that starts at a place goes to a place of `out`, up to its first
 // dot.
 pub fn append_up_to_dot(out: &mut [u8], at: usize, texts: &[u8], start: usize) -> usize
-    ensures { λ r. ⌜ (r ≡ appendEnd (length (now (out .entry))) at (upToDot (drop start (now (texts .entry))))) × (now (out .exit) ≡ appended (now (out .entry)) at (upToDot (drop start (now (texts .entry))))) ⌝ }
+    ensures { λ r. ⌜ (r ≡ appendEnd (length (now (out .entry))) at (upToDot (drop start (now (texts .entry))))) × (now (out .exit) ≡ putAt (now (out .entry)) at (upToDot (drop start (now (texts .entry))))) ⌝ }
 {
     if start > texts.len() {
         return at;

@@ -4,7 +4,7 @@ use mathlib.Core.Path.{_≡_, refl}
 use native.Mathlib.Omega.{arith}
 use lib.ListN.{length, length-set}
 use lib.Seq.{paste, paste-zero}
-use Rattle.text.proofs.Copy.{behind-the-end, too-long, copy-next, copy-end, copy-done}
+use Rattle.text.proofs.Copy.{left-out, copy-next, copy-end, copy-done}
 use Rattle.text.proofs.append.Statement.{statement}
 use Rattle.text.proofs.append.Tie as tie
 
@@ -20,9 +20,9 @@ append-spec =
     (tie.spec
     Inv-loop
     μ-loop
-    (λ c. behind-the-end _ _ _ (c .if1 .taken))
+    (λ c. left-out _ _ _ (omega arith))
     (λ c. omega arith)
-    (λ c. too-long _ _ _ (c .before .if1 .left) (c .if2 .taken))
+    (λ c. left-out _ _ _ (omega arith))
     (λ c. (omega arith, refl, search (paste-zero)))
     (λ c. omega arith)
     (λ c. omega arith)

@@ -1,6 +1,6 @@
 -- `put` meets its contract: what fits is appended to nothing.
 use borrow.Author.Needs.{needs}
-use Rattle.text.proofs.Copy.{refused, put-answer, put-written}
+use Rattle.text.proofs.Copy.{refused, put-answer}
 use Rattle.text.proofs.put.Statement.{statement}
 use Rattle.text.proofs.put.Tie as tie
 
@@ -11,4 +11,4 @@ put-spec =
     (λ c. search (refused))
     (λ c κs. search needs)
     (λ c. search needs)
-    (λ c. (search (put-answer), search (put-written))))
+    (λ c. (search (put-answer), search needs)))
