@@ -23,31 +23,18 @@ use Rattle.rows.proofs.Numbers.{travel-fits, size-back}
 use Rattle.rows.proofs.Inverse.{rule-back}
 
 -- What a test, its number and a way need.
-code-fits : (t : Test) → testCode t < 256
-code-fits Anything = lit< tt
-code-fits Empty = lit< tt
-code-fits (SizeOneOf k a b c d) = lit< tt
-code-fits (SizeAtMost limit) = lit< tt
-code-fits (Homogeneous limit) = lit< tt
-code-fits FloatPair = lit< tt
-code-fits X87Stack = lit< tt
-code-fits LoneFloat = lit< tt
-code-fits FloatingMode = lit< tt
-code-fits ComplexFloat = lit< tt
-code-fits (Eightbytes limit) = lit< tt
-
-code-some : (t : Test) → 0 < testCode t
-code-some Anything = lit< tt
-code-some Empty = lit< tt
-code-some (SizeOneOf k a b c d) = lit< tt
-code-some (SizeAtMost limit) = lit< tt
-code-some (Homogeneous limit) = lit< tt
-code-some FloatPair = lit< tt
-code-some X87Stack = lit< tt
-code-some LoneFloat = lit< tt
-code-some FloatingMode = lit< tt
-code-some ComplexFloat = lit< tt
-code-some (Eightbytes limit) = lit< tt
+code-fits : (t : Test) → (0 < testCode t) × (testCode t < 256)
+code-fits Anything = (lit< tt, lit< tt)
+code-fits Empty = (lit< tt, lit< tt)
+code-fits (SizeOneOf k a b c d) = (lit< tt, lit< tt)
+code-fits (SizeAtMost limit) = (lit< tt, lit< tt)
+code-fits (Homogeneous limit) = (lit< tt, lit< tt)
+code-fits FloatPair = (lit< tt, lit< tt)
+code-fits X87Stack = (lit< tt, lit< tt)
+code-fits LoneFloat = (lit< tt, lit< tt)
+code-fits FloatingMode = (lit< tt, lit< tt)
+code-fits ComplexFloat = (lit< tt, lit< tt)
+code-fits (Eightbytes limit) = (lit< tt, lit< tt)
 
 short-fits : (s : Short) → shortCode s < 4
 short-fits Unchanged = lit< tt
@@ -100,16 +87,18 @@ module _ (r : Rule) (rules : List Rule) (h : T (heldTests (r ∷ rules))) where
   first-back : firstRule (packed (r ∷ rules)) ≡ r
   unfolding firstRule packed
   first-back =
-      let code = code-fits (r .when) in
+      let code = code-fits (r .when) .1 in
       let number = number-fits (r .when) held-first in
       let way = way-fits r in
       let w : (wayByte r + 256 * packedWays rules) % 256 ≡ wayByte r = omega arith in
-      rw (low-byte (testCode (r .when)) (testNumber (r .when)) (packedTests rules) code number, high-byte (testCode (r .when)) (testNumber (r .when)) (packedTests rules) code number, w) (rule-back r held-first)
+      let tests = packedTests rules in
+      rw (low-byte (testCode (r .when)) (testNumber (r .when)) tests code number, high-byte (testCode (r .when)) (testNumber (r .when)) tests code number, w)
+      (rule-back r held-first)
 
   later-back : laterRules (packed (r ∷ rules)) ≡ packed rules
   unfolding laterRules packed
   later-back =
-      let code = code-fits (r .when) in
+      let code = code-fits (r .when) .1 in
       let number = number-fits (r .when) held-first in
       let way = way-fits r in
       let w : (wayByte r + 256 * packedWays rules) / 256 ≡ packedWays rules = omega arith in
@@ -151,7 +140,7 @@ pub listed-packed : (rules : List Rule) → T (heldTests rules) → listed (pack
 unfolding packed
 listed-packed [] h = listed-none (packed []) refl
 listed-packed (r ∷ rules) h =
-    listed-next (packed (r ∷ rules)) (λ (e : packed (r ∷ rules) .tests ≡ 0). let some = code-some (r .when) in omega (arith, some, e))
+    listed-next (packed (r ∷ rules)) (λ (e : packed (r ∷ rules) .tests ≡ 0). let some = code-fits (r .when) .0 in omega (arith, some, e))
     ∙ rw (first-back r rules h, later-back r rules h, listed-packed rules (held-later r rules h))
 
 -- A rule that doesn't decide isn't the last of a list that ends.
@@ -161,10 +150,16 @@ ends-later r (s ∷ rules) ends open-still =
     let one-less : length (r ∷ s ∷ rules) - 1 ≡ suc (length (s ∷ rules) - 1) = omega arith in
     record { some = (omega arith); last = rw one-less at (ends .last) }
 
--- The lists of a row.
+-- The lists of a row: its tests and ways, each by its place.
+abbrev testAt : List Rule → ℕ → ℕ
+testAt rules i = pairOf (getD (map (λ (r : Rule). testCode (r .when)) rules) i 0) (getD (map (λ (r : Rule). testNumber (r .when)) rules) i 0)
+
+abbrev wayAt : List Rule → ℕ → ℕ
+wayAt rules i = getD (map wayByte rules) i 0
+
 four-packed : (rules : List Rule) → T (leb (length rules) 4)
-    → (testsOf (pairOf (getD (map (λ (r : Rule). testCode (r .when)) rules) 0 0) (getD (map (λ (r : Rule). testNumber (r .when)) rules) 0 0)) (pairOf (getD (map (λ (r : Rule). testCode (r .when)) rules) 1 0) (getD (map (λ (r : Rule). testNumber (r .when)) rules) 1 0)) (pairOf (getD (map (λ (r : Rule). testCode (r .when)) rules) 2 0) (getD (map (λ (r : Rule). testNumber (r .when)) rules) 2 0)) (pairOf (getD (map (λ (r : Rule). testCode (r .when)) rules) 3 0) (getD (map (λ (r : Rule). testNumber (r .when)) rules) 3 0)) ≡ packedTests rules)
-    × (waysOf (getD (map wayByte rules) 0 0) (getD (map wayByte rules) 1 0) (getD (map wayByte rules) 2 0) (getD (map wayByte rules) 3 0) ≡ packedWays rules)
+    → (testsOf (testAt rules 0) (testAt rules 1) (testAt rules 2) (testAt rules 3) ≡ packedTests rules)
+    × (waysOf (wayAt rules 0) (wayAt rules 1) (wayAt rules 2) (wayAt rules 3) ≡ packedWays rules)
 four-packed [] h = (refl, refl)
 four-packed (a ∷ []) h = (refl, refl)
 four-packed (a ∷ b ∷ []) h = (refl, refl)
