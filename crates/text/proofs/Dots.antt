@@ -9,7 +9,7 @@ use borrow.Author.Tests.{eq-eqb, ne-eqb}
 use lib.Dec.{leb, eqb}
 use lib.ListN.{length, take, drop, getD, length-drop, take-append-drop, drop-of-length-le}
 use lib.Seq.{drop-cons}
-use Rattle.shape.specs.Words.{putAt}
+use Rattle.shape.specs.Words.{pickWords, putAt}
 use Rattle.text.specs.Text.{dot, upToDot, endFrom, appendEnd}
 
 -- ---- the search
@@ -92,7 +92,7 @@ module _ (bs : List ℕ) (start end : ℕ) (e : end ≡ endFrom bs start) where
 
 -- no text starts behind the last
 module _ (out : List ℕ) (at : ℕ) where
-  none-by : (b : Bool) → (at ≡ cond b (at + 0) at) × (out ≡ cond b (take at out ++ [] ++ drop (at + 0) out) out)
+  none-by : (b : Bool) → (at ≡ cond b (at + 0) at) × (out ≡ pickWords b (take at out ++ [] ++ drop (at + 0) out) out)
   none-by true =
       let z : at + 0 ≡ at = omega arith in
       (omega arith, rw (z, append-nil) (sym (take-append-drop at out)))
