@@ -1,15 +1,9 @@
 // Prints every field, rule and question of the thirty descriptions, a fact to a line, each as its number (REFERENCE 5). The original's own
 // answers are printed in the same form, and the two are compared.
-use describe::BitInts;
-use describe::Cleanup;
-use describe::Narrow;
-use describe::ReturnPointer;
 use describe::Rule;
 use describe::Short;
-use describe::StackArgs;
 use describe::Test;
 use describe::Travel;
-use describe::Variadic;
 use libc::STDOUT_FILENO;
 use text::append;
 
@@ -89,12 +83,12 @@ fn others(out: &mut [u8], at: usize, d: u64) -> usize {
     let bits = others.bit_ints;
     let cleaner = others.cleanup;
     let numbers = [
-        return_pointer(pointer),
-        variadic(dots),
-        stack_args(stack),
-        narrow(narrowed),
-        bit_ints(bits),
-        cleanup(cleaner),
+        rows::return_pointer_number(pointer),
+        rows::variadic_number(dots),
+        rows::stack_args_number(stack),
+        rows::narrow_number(narrowed),
+        rows::bit_ints_number(bits),
+        rows::cleanup_number(cleaner),
     ];
     let a = begin(out, at, d, b" others");
     line(out, a, &numbers)
@@ -213,53 +207,6 @@ fn short(short: Short) -> u64 {
         Short::Memory => 1,
         Short::MemoryAndDrain => 2,
         Short::TryNextRule => 3,
-    }
-}
-
-fn return_pointer(pointer: ReturnPointer) -> u64 {
-    match pointer {
-        ReturnPointer::FirstArgument => 0,
-        ReturnPointer::FirstArgumentPopped => 1,
-        ReturnPointer::Dedicated => 2,
-    }
-}
-
-fn variadic(variadic: Variadic) -> u64 {
-    match variadic {
-        Variadic::SameAsFixed => 0,
-        Variadic::AlwaysMemory => 1,
-        Variadic::BothBanks => 2,
-        Variadic::IntegersOnly => 3,
-        Variadic::UnnamedIntegers => 4,
-    }
-}
-
-fn stack_args(stack_args: StackArgs) -> u64 {
-    match stack_args {
-        StackArgs::RegisterSized => 0,
-        StackArgs::Packed => 1,
-    }
-}
-
-fn narrow(narrow: Narrow) -> u64 {
-    match narrow {
-        Narrow::Unspecified => 0,
-        Narrow::ToInt => 1,
-        Narrow::ArgsToInt => 2,
-    }
-}
-
-fn bit_ints(bit_ints: BitInts) -> u64 {
-    match bit_ints {
-        BitInts::SpareBits => 0,
-        BitInts::Untaught => 1,
-    }
-}
-
-fn cleanup(cleanup: Cleanup) -> u64 {
-    match cleanup {
-        Cleanup::Caller => 0,
-        Cleanup::Callee => 1,
     }
 }
 

@@ -38,7 +38,7 @@ use Rattle.spend.specs.declared.Left.{Left}
 use Rattle.spend.specs.declared.Way.{Way}
 use Rattle.spend.specs.declared.Wanted.{Wanted}
 use Rattle.spend.specs.declared.Decision.{Decision}
-use Rattle.spend.specs.declared.Step as steps
+use Rattle.spend.specs.declared.Tried as tries
 use Rattle.spend.specs.Ways as made
 use Rattle.spend.specs.Ways.{no-mark, marked, withMark, bankAfter, leftAfter}
 use Rattle.spend.specs.Spending as rules
@@ -242,8 +242,8 @@ module _ (arg : args.Arg) (ps : List Piece) (left : Left) where
           (cond returning (some (passed (pieces ss) left)) (cond (x && y) (some (passed (pieces ss) (lessBoth i f left))) (rust.shortOf short left ss i f)))
           rest)
           (spending.orNext
-          (cond returning (steps.the-variants.Decided (made.inPieces slots made.nothing))
-          (cond (x && y) (steps.the-variants.Decided (made.inPieces slots (made.spends 0 i 0 f))) (rules.whenShort short left slots i f)))
+          (cond returning (tries.the-variants.Decided (made.inPieces slots made.nothing))
+          (cond (x && y) (tries.the-variants.Decided (made.inPieces slots (made.spends 0 i 0 f))) (rules.whenShort short left slots i f)))
           when next)
       where-fits short true i f x y ex ey = in-pieces when ss slots _ _ 0 0 es en (omega arith)
       where-fits short false i f true true ex ey =

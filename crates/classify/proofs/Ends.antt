@@ -21,8 +21,8 @@ use Rattle.describe.specs.Description.{Decides}
 use Rattle.spend.specs.declared.Left.{Left}
 use Rattle.spend.specs.declared.Wanted.{Wanted}
 use Rattle.spend.specs.declared.Decision.{Decision}
-use Rattle.spend.specs.declared.Step.{Step}
-use Rattle.spend.specs.declared.Step.the-variants.{Decided, TryNextRule}
+use Rattle.spend.specs.declared.Tried.{Tried}
+use Rattle.spend.specs.declared.Tried.the-variants.{Decided, TryNextRule}
 use Rattle.spend.specs.Ways as made
 use Rattle.spend.specs.Spending.{integerCost, floatCost, whenShort, inSlots, travelBy, travelOf}
 use Rattle.find.specs.Matches.{matches}
@@ -49,7 +49,7 @@ module _ (left : Left) (slots : Wanted) where
       let f : ℕ = floatCost shared (slots .floats) in
       go returning (leb i (left .integer) && leb f (left .float)) (made.inPieces slots made.nothing) (made.inPieces slots (made.spends 0 i 0 f)) _ (short-stays short i f h) e
     where
-      go : (b c : Bool) (d d′ : Decision) (s : Step) → (s ≡ TryNextRule → ⊥) → cond b (Decided d) (cond c (Decided d′) s) ≡ TryNextRule → ⊥
+      go : (b c : Bool) (d d′ : Decision) (s : Tried) → (s ≡ TryNextRule → ⊥) → cond b (Decided d) (cond c (Decided d′) s) ≡ TryNextRule → ⊥
       go true c d d′ s k x = decided _ x
       go false true d d′ s k x = decided _ x
       go false false d d′ s k x = k x

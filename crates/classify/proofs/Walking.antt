@@ -21,7 +21,7 @@ use Rattle.rows.specs.Row.{firstRule, laterRules, listed}
 use Rattle.rows.proofs.Packed.{later-less, listed-none, listed-next, ends-later}
 use Rattle.spend.specs.declared.Left.{Left}
 use Rattle.spend.specs.declared.Decision.{Decision}
-use Rattle.spend.specs.declared.Step as steps
+use Rattle.spend.specs.declared.Tried as tries
 use Rattle.spend.specs.Ways.{marked}
 use Rattle.spend.specs.Spending.{travelOf}
 use Rattle.find.specs.declared.Matched.{Matched}
@@ -72,13 +72,13 @@ module _ (T : Terms) (returning : Bool) (left : Left) (shape : Shape) (ps : List
     step-skipped h = rw (e, h)
 
     module _ (h : skipped left returning (floatsIn ss) ≡ false) where
-      step-short : travelOf (T .banks) (T .«return_pointer») returning left rule (shape .size) (wantedBy (rule .when) (shape .size) ss) ≡ steps.the-variants.TryNextRule
+      step-short : travelOf (T .banks) (T .«return_pointer») returning left rule (shape .size) (wantedBy (rule .when) (shape .size) ss) ≡ tries.the-variants.TryNextRule
           → walked T returning left (rule ∷ rest) shape ps ≡ walked T returning left rest shape ps
       unfolding walked byRules
       step-short t = rw (e, h, t)
 
       step-decided : (d : Decision)
-          → travelOf (T .banks) (T .«return_pointer») returning left rule (shape .size) (wantedBy (rule .when) (shape .size) ss) ≡ steps.the-variants.Decided d
+          → travelOf (T .banks) (T .«return_pointer») returning left rule (shape .size) (wantedBy (rule .when) (shape .size) ss) ≡ tries.the-variants.Decided d
           → walked T returning left (rule ∷ rest) shape ps ≡ decided d (classesBy (rule .when) shape ps)
       unfolding walked byRules
       step-decided d t = rw (e, h, t)
@@ -157,7 +157,7 @@ module _ (T : Terms) (list : Rules) (returning : Bool) (left : Left) (shape : Sh
           let t : skipped left returning (floatsIn []) ≡ true = rw q at skip in no-float (marked left && not returning) t)
           (step-skipped T returning left shape ps rule _ (some .ss) (some .is) skip)
 
-    module _ (h : skipped left returning m ≡ false) (first : Rule) (ef : first ≡ firstRule R) (t : steps.Step)
+    module _ (h : skipped left returning m ≡ false) (first : Rule) (ef : first ≡ firstRule R) (t : tries.Tried)
         (et : t ≡ travelOf (T .banks) (T .«return_pointer») returning left first (shape .size) (record { count = n; floats = m; source = s .source })) where
       kept : skipped left returning (floatsIn (some .ss)) ≡ false
       kept = rw (← some .floats) h
@@ -170,12 +170,12 @@ module _ (T : Terms) (list : Rules) (returning : Bool) (left : Left) (shape : Sh
           let el : first ≡ rule = ef in
           cc
 
-      pub short-next : t ≡ steps.the-variants.TryNextRule → Remaining T list returning left shape ps R′
+      pub short-next : t ≡ tries.the-variants.TryNextRule → Remaining T list returning left shape ps R′
       short-next x =
           goes-on (λ (d : Decides rule). decides-step _ _ _ _ _ _ _ d (sym travelled ∙ x))
           (step-short T returning left shape ps rule _ (some .ss) (some .is) kept (sym travelled ∙ x))
 
-      pub decided-here : (d : Decision) → t ≡ steps.the-variants.Decided d → decided d (s .classes) ≡ walked T returning left (listed list) shape ps
+      pub decided-here : (d : Decision) → t ≡ tries.the-variants.Decided d → decided d (s .classes) ≡ walked T returning left (listed list) shape ps
       decided-here d x =
           ap (decided d) classes-are
           ∙ sym (opened ∙ step-decided T returning left shape ps rule _ (some .ss) (some .is) kept d (sym travelled ∙ x))

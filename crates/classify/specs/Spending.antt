@@ -22,7 +22,7 @@ use Rattle.spend.specs.declared.Left.{Left}
 use Rattle.spend.specs.declared.Way as ways
 use Rattle.spend.specs.declared.Wanted.{Wanted}
 use Rattle.spend.specs.declared.Decision.{Decision}
-use Rattle.spend.specs.declared.Step as steps
+use Rattle.spend.specs.declared.Tried as tries
 use Rattle.spend.specs.Ways as made
 use Rattle.spend.specs.Ways.{marked, withMark}
 use Rattle.spend.specs.Spending.{travelOf}
@@ -41,9 +41,9 @@ abbrev pub wantedBy : Test → ℕ → List Slot → Wanted
 wantedBy test size ss = record { count = length ss; floats = floatsIn ss; source = sourceOf test size }
 
 -- a decision, or the rules after it
-abbrev pub orNext : steps.Step → Test → Chosen → Chosen
-orNext (steps.the-variants.Decided d) test rest = chosen d test
-orNext steps.the-variants.TryNextRule test rest = rest
+abbrev pub orNext : tries.Tried → Test → Chosen → Chosen
+orNext (tries.the-variants.Decided d) test rest = chosen d test
+orNext tries.the-variants.TryNextRule test rest = rest
 
 -- a rule whose test came back: nothing moves on, and so does, under integers-only, an argument's rule that found a float slot. The callee would
 -- not look into float registers, so the aggregate is left to the rules behind, as if no piece of it were a float. What comes back is no argument

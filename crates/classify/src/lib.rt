@@ -12,7 +12,7 @@ use slots::Found;
 use spend::Decision;
 use spend::Left;
 use spend::Spent;
-use spend::Step;
+use spend::Tried;
 use spend::Wanted;
 use spend::Way;
 ghost use mathlib.Core.Path.{_≡_};
@@ -476,7 +476,7 @@ fn apply(
         }
         let source = matched.source;
         let pointer = terms.return_pointer;
-        let step = spend::travel(
+        let tried = spend::travel(
             terms.banks,
             pointer,
             returning,
@@ -489,7 +489,7 @@ fn apply(
                 source,
             },
         );
-        let Step::Decided(decision) = step else {
+        let Tried::Decided(decision) = tried else {
             continue;
         };
         let classes = matched.classes;

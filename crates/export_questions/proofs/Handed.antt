@@ -7,7 +7,7 @@ use Rattle.layouts.specs.declared.Recorded.{Recorded}
 use Rattle.shape.specs.Numbers.{oneIf}
 use Rattle.classify.specs.declared.Call.{Call}
 use Rattle.classify.specs.declared.InMemory.{InMemory}
-use Rattle.export_questions.specs.declared.members.Record.{Record}
+use Rattle.export_questions.specs.declared.members.RecordNumbers.{RecordNumbers}
 use Rattle.export_questions.specs.Answers.{alignTold, recordNumbers}
 
 pub in-memory-aligned : (k k′ : Call) → k ≡ k′ → (s s′ : Shape) → s ≡ s′ → (words : List ℕ) (f : Call → Shape → List ℕ → InMemory) (a : InMemory)
@@ -15,7 +15,7 @@ pub in-memory-aligned : (k k′ : Call) → k ≡ k′ → (s s′ : Shape) → 
 in-memory-aligned k k′ ek s s′ es words f a ea = rw (ea, ek, es)
 
 module _ (a a′ : Recorded) (ea : a ≡ a′) (complex : ℕ) (ec : complex ≡ oneIf (a .shape .complex)) (floating : ℕ) (ef : floating ≡ oneIf (a .shape .floating)) where
-  pub recorded : _≡_ {A = Record}
+  pub recorded : _≡_ {A = RecordNumbers}
       (record {
         refusal = a .refusal;
         size = a .shape .size;

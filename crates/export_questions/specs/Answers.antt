@@ -8,7 +8,7 @@ use Rattle.abis.specs.declared.AskedFormat.{AskedFormat}
 use Rattle.classify.specs.declared.InMemory.{InMemory}
 use Rattle.export_numbers.specs.declared.Told.{Told}
 use Rattle.export_numbers.specs.Numbers.{told}
-use Rattle.export_questions.specs.declared.members.Record.{Record}
+use Rattle.export_questions.specs.declared.members.RecordNumbers.{RecordNumbers}
 
 abbrev pub alignTold : InMemory → Told
 alignTold a = told (a .refusal) (a .align)
@@ -25,7 +25,7 @@ yesTold a = told (a .refusal) (oneIf (a .answer))
 abbrev pub formatTold : AskedFormat → Told
 formatTold a = told (a .refusal) (a .format)
 
-abbrev pub recordNumbers : Recorded → Record
+abbrev pub recordNumbers : Recorded → RecordNumbers
 recordNumbers a =
     record {
       refusal = a .refusal;

@@ -2,17 +2,10 @@
 ghost use mathlib.Core.Path.{_≡_};
 ghost use Prim.Native.Nat.{_≤_};
 ghost use lib.ListN.{length};
-ghost use Rattle.rows.specs.Codes.{returnPointerCode, variadicCode, stackArgsCode, narrowCode, bitIntsCode, cleanupCode};
 ghost use Rattle.abis.specs.Abis.{described};
 ghost use Rattle.abis.specs.Answers.{isByReferenceAnswer, returnsByReferenceAnswer, wideReturnsInAnswer, nameAnswer, nameWritten};
 ghost use Rattle.export_questions.specs.Answers.{yesTold, formatTold, lengthTold};
 ghost use Rattle.export_questions.specs.Descriptions.{descriptionAnswer, returnRuleAnswer, argumentRuleAnswer, fieldsOf, noDescription, ruleNumbersAt, ruleNumbers};
-use describe::BitInts;
-use describe::Cleanup;
-use describe::Narrow;
-use describe::ReturnPointer;
-use describe::StackArgs;
-use describe::Variadic;
 use export_numbers::Told;
 use rows::WIDTH;
 
@@ -165,12 +158,12 @@ fn fields_of(abi: u64) -> Description
         wide_integer_in_memory: shape::one_if(scalars.wide_integer_in_memory),
         decimal_in_integers: shape::one_if(scalars.decimal_in_integers),
         quad_returns_by_reference: shape::one_if(scalars.quad_returns_by_reference),
-        return_pointer: return_pointer_number(pointer),
-        variadic: variadic_number(variadic),
-        stack_args: stack_args_number(stack),
-        narrow: narrow_number(narrow),
-        bit_ints: bit_ints_number(bits),
-        cleanup: cleanup_number(cleanup),
+        return_pointer: rows::return_pointer_number(pointer),
+        variadic: rows::variadic_number(variadic),
+        stack_args: rows::stack_args_number(stack),
+        narrow: rows::narrow_number(narrow),
+        bit_ints: rows::bit_ints_number(bits),
+        cleanup: rows::cleanup_number(cleanup),
     }
 }
 
@@ -224,64 +217,5 @@ fn rule_numbers(refusal: u64, test: u8, number: u8, way: u8) -> RuleNumbers
         number: number as u64,
         travel: (way % 8) as u64,
         short: (way / 8) as u64,
-    }
-}
-
-fn return_pointer_number(pointer: ReturnPointer) -> u64
-    ensures { λ r. ⌜ r ≡ returnPointerCode pointer ⌝ }
-{
-    match pointer {
-        ReturnPointer::FirstArgument => 0,
-        ReturnPointer::FirstArgumentPopped => 1,
-        ReturnPointer::Dedicated => 2,
-    }
-}
-
-fn variadic_number(variadic: Variadic) -> u64
-    ensures { λ r. ⌜ r ≡ variadicCode variadic ⌝ }
-{
-    match variadic {
-        Variadic::SameAsFixed => 0,
-        Variadic::AlwaysMemory => 1,
-        Variadic::BothBanks => 2,
-        Variadic::IntegersOnly => 3,
-        Variadic::UnnamedIntegers => 4,
-    }
-}
-
-fn stack_args_number(stack: StackArgs) -> u64
-    ensures { λ r. ⌜ r ≡ stackArgsCode stack ⌝ }
-{
-    match stack {
-        StackArgs::RegisterSized => 0,
-        StackArgs::Packed => 1,
-    }
-}
-
-fn narrow_number(narrow: Narrow) -> u64
-    ensures { λ r. ⌜ r ≡ narrowCode narrow ⌝ }
-{
-    match narrow {
-        Narrow::Unspecified => 0,
-        Narrow::ToInt => 1,
-        Narrow::ArgsToInt => 2,
-    }
-}
-
-fn bit_ints_number(bits: BitInts) -> u64
-    ensures { λ r. ⌜ r ≡ bitIntsCode bits ⌝ }
-{
-    match bits {
-        BitInts::SpareBits => 0,
-        BitInts::Untaught => 1,
-    }
-}
-
-fn cleanup_number(cleanup: Cleanup) -> u64
-    ensures { λ r. ⌜ r ≡ cleanupCode cleanup ⌝ }
-{
-    match cleanup {
-        Cleanup::Caller => 0,
-        Cleanup::Callee => 1,
     }
 }

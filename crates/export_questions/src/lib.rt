@@ -20,6 +20,6 @@ pub use lookups::barkpaddle_attribute;
 pub use lookups::barkpaddle_callee_pops;
 pub use lookups::barkpaddle_for_convention;
 pub use lookups::barkpaddle_for_target;
-pub use members::Record;
+pub use members::RecordNumbers;
 pub use members::barkpaddle_pieces;
 pub use members::barkpaddle_record;

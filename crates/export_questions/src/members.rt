@@ -7,7 +7,7 @@ use export_numbers::Told;
 
 // A refusal, or the shape of a record.
 #[repr(C)]
-pub struct Record {
+pub struct RecordNumbers {
     pub refusal: u64,
     pub size: u64,
     pub align: u64,
@@ -29,12 +29,12 @@ pub extern "C" fn barkpaddle_pieces(members: &[u64], pieces: &mut [u64]) -> Told
 
 // The record that these pieces make.
 #[no_mangle]
-pub extern "C" fn barkpaddle_record(words: &[u64]) -> Record
+pub extern "C" fn barkpaddle_record(words: &[u64]) -> RecordNumbers
     ensures { λ r. ⌜ r ≡ recordNumbers (recordAnswer (now (words .entry))) ⌝ }
 {
     let answer = layouts::record(words);
     let shape = answer.shape;
-    Record {
+    RecordNumbers {
         refusal: answer.refusal,
         size: shape.size,
         align: shape.align,

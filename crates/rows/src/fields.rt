@@ -1,7 +1,7 @@
 // What a row says beside its rules, read back.
 ghost use mathlib.Core.Path.{_≡_};
 ghost use Rattle.rows.specs.Row.{banksFrom, scalarsFrom, termsFrom, othersFrom};
-ghost use Rattle.rows.specs.Codes.{returnPointerFrom, variadicFrom, stackArgsFrom, narrowFrom, bitIntsFrom, cleanupFrom};
+ghost use Rattle.rows.specs.Codes.{returnPointerCode, variadicCode, stackArgsCode, narrowCode, bitIntsCode, cleanupCode, returnPointerFrom, variadicFrom, stackArgsFrom, narrowFrom, bitIntsFrom, cleanupFrom};
 use crate::codes::*;
 use describe::Banks;
 use describe::BitInts;
@@ -156,5 +156,66 @@ fn cleanup_from(code: u8) -> Cleanup
     match code {
         0 => Cleanup::Caller,
         _ => Cleanup::Callee,
+    }
+}
+
+// The numbers of their cases, as a row has them and as they leave: each is read back by the function above.
+
+pub fn return_pointer_number(pointer: ReturnPointer) -> u64
+    ensures { λ r. ⌜ r ≡ returnPointerCode pointer ⌝ }
+{
+    match pointer {
+        ReturnPointer::FirstArgument => 0,
+        ReturnPointer::FirstArgumentPopped => 1,
+        ReturnPointer::Dedicated => 2,
+    }
+}
+
+pub fn variadic_number(variadic: Variadic) -> u64
+    ensures { λ r. ⌜ r ≡ variadicCode variadic ⌝ }
+{
+    match variadic {
+        Variadic::SameAsFixed => 0,
+        Variadic::AlwaysMemory => 1,
+        Variadic::BothBanks => 2,
+        Variadic::IntegersOnly => 3,
+        Variadic::UnnamedIntegers => 4,
+    }
+}
+
+pub fn stack_args_number(stack: StackArgs) -> u64
+    ensures { λ r. ⌜ r ≡ stackArgsCode stack ⌝ }
+{
+    match stack {
+        StackArgs::RegisterSized => 0,
+        StackArgs::Packed => 1,
+    }
+}
+
+pub fn narrow_number(narrow: Narrow) -> u64
+    ensures { λ r. ⌜ r ≡ narrowCode narrow ⌝ }
+{
+    match narrow {
+        Narrow::Unspecified => 0,
+        Narrow::ToInt => 1,
+        Narrow::ArgsToInt => 2,
+    }
+}
+
+pub fn bit_ints_number(bits: BitInts) -> u64
+    ensures { λ r. ⌜ r ≡ bitIntsCode bits ⌝ }
+{
+    match bits {
+        BitInts::SpareBits => 0,
+        BitInts::Untaught => 1,
+    }
+}
+
+pub fn cleanup_number(cleanup: Cleanup) -> u64
+    ensures { λ r. ⌜ r ≡ cleanupCode cleanup ⌝ }
+{
+    match cleanup {
+        Cleanup::Caller => 0,
+        Cleanup::Callee => 1,
     }
 }

@@ -21,7 +21,7 @@ use Rattle.spend.specs.declared.Way as ways
 use Rattle.spend.specs.declared.Spent.{Spent}
 use Rattle.spend.specs.declared.Wanted.{Wanted}
 use Rattle.spend.specs.declared.Decision.{Decision}
-use Rattle.spend.specs.declared.Step as steps
+use Rattle.spend.specs.declared.Tried as tries
 use Rattle.spend.specs.Ways.{spends, plain, inPieces, cutSlots, oneSlot, leftAfter}
 use Rattle.spend.specs.Spending.{wantOf, reference, memory, byPointer, integerCost, floatCost, drainOf, whenShort, inSlots, byReference, inMemoryAndSpend, travelOf}
 
@@ -75,48 +75,48 @@ module _ (returning : Bool) (I want : ℕ) (r : Decision) where
   memory-out h n en er = rw (er, en, h)
 
 module _ (shared returning : Bool) (left : Left) (short : Short) (found : Wanted) where
-  pub slots-back : returning ≡ true → (d : Decision) → d ≡ inPieces found (spends 0 0 0 0) → steps.the-variants.Decided d ≡ inSlots shared returning left short found
+  pub slots-back : returning ≡ true → (d : Decision) → d ≡ inPieces found (spends 0 0 0 0) → tries.the-variants.Decided d ≡ inSlots shared returning left short found
   unfolding inSlots
   slots-back h d ed = rw (ed, h)
 
   module _ (out : returning ≡ false) (i : ℕ) (ei : i ≡ integerCost shared (found .count) (found .floats)) (f : ℕ) (ef : f ≡ floatCost shared (found .floats)) where
-    pub slots-fit : (leb i (left .integer) && leb f (left .float)) ≡ true → (d : Decision) → d ≡ inPieces found (spends 0 i 0 f) → steps.the-variants.Decided d ≡ inSlots shared returning left short found
+    pub slots-fit : (leb i (left .integer) && leb f (left .float)) ≡ true → (d : Decision) → d ≡ inPieces found (spends 0 i 0 f) → tries.the-variants.Decided d ≡ inSlots shared returning left short found
     unfolding inSlots
     slots-fit h d ed = rw (ed, out, ← ei, ← ef, h)
 
-    pub slots-short : (leb i (left .integer) && leb f (left .float)) ≡ false → (r : steps.Step) → r ≡ whenShort short left found i f → r ≡ inSlots shared returning left short found
+    pub slots-short : (leb i (left .integer) && leb f (left .float)) ≡ false → (r : tries.Tried) → r ≡ whenShort short left found i f → r ≡ inSlots shared returning left short found
     unfolding inSlots
     slots-short miss r er = rw (er, out, ← ei, ← ef, miss)
 
 module _ (short : Short) (left : Left) (found : Wanted) (i f : ℕ) where
   pub short-unchanged : short ≡ Unchanged → (n : ℕ) → n ≡ min i (left .integer) → (m : ℕ) → m ≡ min f (left .float) → (d : Decision) → d ≡ inPieces found (spends 0 n 0 m)
-      → steps.the-variants.Decided d ≡ whenShort short left found i f
+      → tries.the-variants.Decided d ≡ whenShort short left found i f
   unfolding whenShort
   short-unchanged e n en m em d ed = rw (ed, en, em, e)
 
-  pub short-memory : short ≡ Memory → (d : Decision) → d ≡ memory 0 0 0 0 → steps.the-variants.Decided d ≡ whenShort short left found i f
+  pub short-memory : short ≡ Memory → (d : Decision) → d ≡ memory 0 0 0 0 → tries.the-variants.Decided d ≡ whenShort short left found i f
   unfolding whenShort
   short-memory e d ed = rw (ed, e)
 
   pub short-drain : short ≡ MemoryAndDrain → (n : ℕ) → n ≡ drainOf i (left .integer) → (m : ℕ) → m ≡ drainOf f (left .float) → (d : Decision) → d ≡ memory n 0 m 0
-      → steps.the-variants.Decided d ≡ whenShort short left found i f
+      → tries.the-variants.Decided d ≡ whenShort short left found i f
   unfolding whenShort
   short-drain e n en m em d ed = rw (ed, en, em, e)
 
-  pub short-next : short ≡ TryNextRule → steps.the-variants.TryNextRule ≡ whenShort short left found i f
+  pub short-next : short ≡ TryNextRule → tries.the-variants.TryNextRule ≡ whenShort short left found i f
   unfolding whenShort
   short-next e = rw e
 
 module _ (B : Banks) (pointer : ReturnPointer) (returning : Bool) (left : Left) (rule : Rule) (size : ℕ) (found : Wanted) where
-  pub travel-ignore : rule .then ≡ Ignore → (d : Decision) → d ≡ plain ways.the-variants.Ignore (spends 0 0 0 0) → steps.the-variants.Decided d ≡ travelOf B pointer returning left rule size found
+  pub travel-ignore : rule .then ≡ Ignore → (d : Decision) → d ≡ plain ways.the-variants.Ignore (spends 0 0 0 0) → tries.the-variants.Decided d ≡ travelOf B pointer returning left rule size found
   unfolding travelOf
   travel-ignore e d ed = rw (ed, e)
 
-  pub travel-found : rule .then ≡ AsFound → (r : steps.Step) → r ≡ inSlots (B .shared) returning left (rule .short) found → r ≡ travelOf B pointer returning left rule size found
+  pub travel-found : rule .then ≡ AsFound → (r : tries.Tried) → r ≡ inSlots (B .shared) returning left (rule .short) found → r ≡ travelOf B pointer returning left rule size found
   unfolding travelOf
   travel-found e r er = rw (er, e)
 
-  module _ (cutOrOne : Wanted) (r : steps.Step) (er : r ≡ inSlots (B .shared) returning left (rule .short) cutOrOne) where
+  module _ (cutOrOne : Wanted) (r : tries.Tried) (er : r ≡ inSlots (B .shared) returning left (rule .short) cutOrOne) where
     pub travel-integers : rule .then ≡ AsIntegers → cutOrOne ≡ cutSlots size (B .«integer_width») → r ≡ travelOf B pointer returning left rule size found
     unfolding travelOf
     travel-integers e ec = rw (er, ec, e)
@@ -125,16 +125,16 @@ module _ (B : Banks) (pointer : ReturnPointer) (returning : Bool) (left : Left) 
     unfolding travelOf
     travel-one e ec = rw (er, ec, e)
 
-  pub travel-reference : rule .then ≡ ByReference → (d : Decision) → d ≡ byReference pointer returning (left .integer) → steps.the-variants.Decided d ≡ travelOf B pointer returning left rule size found
+  pub travel-reference : rule .then ≡ ByReference → (d : Decision) → d ≡ byReference pointer returning (left .integer) → tries.the-variants.Decided d ≡ travelOf B pointer returning left rule size found
   unfolding travelOf
   travel-reference e d ed = rw (ed, e)
 
-  pub travel-memory : rule .then ≡ InMemory → (d : Decision) → d ≡ memory 0 0 0 0 → steps.the-variants.Decided d ≡ travelOf B pointer returning left rule size found
+  pub travel-memory : rule .then ≡ InMemory → (d : Decision) → d ≡ memory 0 0 0 0 → tries.the-variants.Decided d ≡ travelOf B pointer returning left rule size found
   unfolding travelOf
   travel-memory e d ed = rw (ed, e)
 
   pub travel-spend : rule .then ≡ InMemoryAndSpend → (want : ℕ) → want ≡ wantOf size (B .«integer_width») → (d : Decision) → d ≡ inMemoryAndSpend returning (left .integer) want
-      → steps.the-variants.Decided d ≡ travelOf B pointer returning left rule size found
+      → tries.the-variants.Decided d ≡ travelOf B pointer returning left rule size found
   unfolding travelOf
   travel-spend e want ew d ed = rw (ed, ew, e)
 

@@ -18,7 +18,7 @@ use Rattle.spend.specs.declared.Left.{Left}
 use Rattle.spend.specs.declared.Way as ways
 use Rattle.spend.specs.declared.Wanted.{Wanted}
 use Rattle.spend.specs.declared.Decision.{Decision}
-use Rattle.spend.specs.declared.Step as steps
+use Rattle.spend.specs.declared.Tried as tries
 use Rattle.spend.specs.Ways.{spends, nothing, plain, inPieces, cutSlots, oneSlot}
 
 -- "takes n": n, or all that is left, whichever is less
@@ -63,22 +63,22 @@ drainOf cost left = cond (ltb left cost) left 0
 
 -- short of registers: Unchanged gives what is left up to the cost; Memory spends nothing; MemoryAndDrain passes over each short bank whole;
 -- TryNextRule goes on. Who has which, and why, is said at `Short` (describe/src/lib.rt)
-unfoldable pub whenShort : Short → Left → Wanted → ℕ → ℕ → steps.Step
+unfoldable pub whenShort : Short → Left → Wanted → ℕ → ℕ → tries.Tried
 whenShort Unchanged left found integer float =
-    steps.the-variants.Decided (inPieces found (spends 0 (takes integer (left .integer)) 0 (takes float (left .float))))
-whenShort Memory left found integer float = steps.the-variants.Decided (memory 0 0 0 0)
+    tries.the-variants.Decided (inPieces found (spends 0 (takes integer (left .integer)) 0 (takes float (left .float))))
+whenShort Memory left found integer float = tries.the-variants.Decided (memory 0 0 0 0)
 whenShort MemoryAndDrain left found integer float =
-    steps.the-variants.Decided (memory (drainOf integer (left .integer)) 0 (drainOf float (left .float)) 0)
-whenShort TryNextRule left found integer float = steps.the-variants.TryNextRule
+    tries.the-variants.Decided (memory (drainOf integer (left .integer)) 0 (drainOf float (left .float)) 0)
+whenShort TryNextRule left found integer float = tries.the-variants.TryNextRule
 
 -- a slot rule: on a return it spends nothing, for the registers of a result aren't counted with the arguments'; on an argument, where it fits,
 -- the cost is given
-unfoldable pub inSlots : Bool → Bool → Left → Short → Wanted → steps.Step
+unfoldable pub inSlots : Bool → Bool → Left → Short → Wanted → tries.Tried
 inSlots shared returning left short found =
     let integer : ℕ = integerCost shared (found .count) (found .floats) in
     let float : ℕ = floatCost shared (found .floats) in
-    cond returning (steps.the-variants.Decided (inPieces found nothing))
-    (cond (leb integer (left .integer) && leb float (left .float)) (steps.the-variants.Decided (inPieces found (spends 0 integer 0 float)))
+    cond returning (tries.the-variants.Decided (inPieces found nothing))
+    (cond (leb integer (left .integer) && leb float (left .float)) (tries.the-variants.Decided (inPieces found (spends 0 integer 0 float)))
     (whenShort short left found integer float))
 
 -- ByReference: given takes 1 of I for an argument, or for a return unless the pointer is Dedicated. The address of a copy is an argument like
@@ -90,15 +90,15 @@ byReference pointer returning I = cond returning (byPointer pointer I) (referenc
 abbrev pub inMemoryAndSpend : Bool → ℕ → ℕ → Decision
 inMemoryAndSpend returning I want = cond returning (memory 0 0 0 0) (memory 0 (takes want I) 0 0)
 
-abbrev pub travelBy : Travel → Banks → ReturnPointer → Bool → Left → Short → ℕ → Wanted → steps.Step
-travelBy Ignore B pointer returning left short size found = steps.the-variants.Decided (plain ways.the-variants.Ignore nothing)
+abbrev pub travelBy : Travel → Banks → ReturnPointer → Bool → Left → Short → ℕ → Wanted → tries.Tried
+travelBy Ignore B pointer returning left short size found = tries.the-variants.Decided (plain ways.the-variants.Ignore nothing)
 travelBy AsFound B pointer returning left short size found = inSlots (B .shared) returning left short found
 travelBy AsIntegers B pointer returning left short size found = inSlots (B .shared) returning left short (cutSlots size (B .«integer_width»))
 travelBy AsOneInteger B pointer returning left short size found = inSlots (B .shared) returning left short (oneSlot integer size 0)
-travelBy ByReference B pointer returning left short size found = steps.the-variants.Decided (byReference pointer returning (left .integer))
-travelBy InMemory B pointer returning left short size found = steps.the-variants.Decided (memory 0 0 0 0)
+travelBy ByReference B pointer returning left short size found = tries.the-variants.Decided (byReference pointer returning (left .integer))
+travelBy InMemory B pointer returning left short size found = tries.the-variants.Decided (memory 0 0 0 0)
 travelBy InMemoryAndSpend B pointer returning left short size found =
-    steps.the-variants.Decided (inMemoryAndSpend returning (left .integer) (wantOf size (B .«integer_width»)))
+    tries.the-variants.Decided (inMemoryAndSpend returning (left .integer) (wantOf size (B .«integer_width»)))
 
-unfoldable pub travelOf : Banks → ReturnPointer → Bool → Left → Rule → ℕ → Wanted → steps.Step
+unfoldable pub travelOf : Banks → ReturnPointer → Bool → Left → Rule → ℕ → Wanted → tries.Tried
 travelOf B pointer returning left rule size found = travelBy (rule .then) B pointer returning left (rule .short) size found

@@ -53,7 +53,7 @@ pub struct Decision {
 }
 
 // What a rule that matched comes to: a decision, or the rule ran short and the next one is tried.
-pub enum Step {
+pub enum Tried {
     Decided(Decision),
     TryNextRule,
 }
@@ -100,14 +100,14 @@ pub fn travel(
     rule: Rule,
     size: u64,
     found: Wanted,
-) -> Step
+) -> Tried
     ensures { λ r. ⌜ r ≡ travelOf banks pointer returning left rule size found ⌝ }
 {
     let then = rule.then;
     let short = rule.short;
     let width = banks.integer_width;
     match then {
-        Travel::Ignore => Step::Decided(integers(Way::Ignore, 0, 0)),
+        Travel::Ignore => Tried::Decided(integers(Way::Ignore, 0, 0)),
         Travel::AsFound => in_slots(banks.shared, returning, left, short, found),
         Travel::AsIntegers => in_slots(
             banks.shared,
@@ -123,9 +123,9 @@ pub fn travel(
             short,
             one_slot(shape::INTEGER, size, 0),
         ),
-        Travel::ByReference => Step::Decided(by_reference(pointer, returning, left.integer)),
-        Travel::InMemory => Step::Decided(integers(Way::Memory, 0, 0)),
-        Travel::InMemoryAndSpend => Step::Decided(in_memory_and_spend(
+        Travel::ByReference => Tried::Decided(by_reference(pointer, returning, left.integer)),
+        Travel::InMemory => Tried::Decided(integers(Way::Memory, 0, 0)),
+        Travel::InMemoryAndSpend => Tried::Decided(in_memory_and_spend(
             returning,
             left.integer,
             registers(size, width),
@@ -163,36 +163,36 @@ fn in_memory_and_spend(returning: bool, left: u64, want: u64) -> Decision
 }
 
 // Slots on a return spend nothing; on an argument they cost registers.
-fn in_slots(shared: bool, returning: bool, left: Left, short: Short, found: Wanted) -> Step
+fn in_slots(shared: bool, returning: bool, left: Left, short: Short, found: Wanted) -> Tried
     ensures { λ r. ⌜ r ≡ inSlots shared returning left short found ⌝ }
 {
     if returning {
-        return Step::Decided(pieces(found, 0, 0));
+        return Tried::Decided(pieces(found, 0, 0));
     }
     let integer = integer_cost(shared, found.count, found.floats);
     let float = float_cost(shared, found.floats);
     if (integer <= left.integer) & (float <= left.float) {
-        return Step::Decided(pieces(found, integer, float));
+        return Tried::Decided(pieces(found, integer, float));
     }
     when_short(short, left, found, integer, float)
 }
 
 // Slots that cost more than is left: what happens is the rule's.
-fn when_short(short: Short, left: Left, found: Wanted, integer: u64, float: u64) -> Step
+fn when_short(short: Short, left: Left, found: Wanted, integer: u64, float: u64) -> Tried
     ensures { λ r. ⌜ r ≡ whenShort short left found integer float ⌝ }
 {
     match short {
-        Short::Unchanged => Step::Decided(pieces(
+        Short::Unchanged => Tried::Decided(pieces(
             found,
             shape::least(integer, left.integer),
             shape::least(float, left.float),
         )),
-        Short::Memory => Step::Decided(integers(Way::Memory, 0, 0)),
-        Short::MemoryAndDrain => Step::Decided(drained(
+        Short::Memory => Tried::Decided(integers(Way::Memory, 0, 0)),
+        Short::MemoryAndDrain => Tried::Decided(drained(
             drain(integer, left.integer),
             drain(float, left.float),
         )),
-        Short::TryNextRule => Step::TryNextRule,
+        Short::TryNextRule => Tried::TryNextRule,
     }
 }
 
