@@ -50,7 +50,7 @@ use Rattle.classify.proofs.Answer.Laws as N′
 use Rattle.bridge.proofs.argument_of as value
 use Rattle.bridge.proofs.barkpaddle_bridge_argument as argument
 use Rattle.bridge.proofs.Promised.{Asks}
-use Rattle.bridge.proofs.Steps.{mach, told, question, slice, gone, further, apart, last-list, passed-on, copied, answered, handed}
+use Rattle.bridge.proofs.Steps.{mach, outcome-value, question, slice, gone, further, apart, last-list, passed-on, copied, answered, handed}
 
 -- the MIR of such a function
 abbrev function : Name → Fn
@@ -127,14 +127,14 @@ module _ (ans : Call → Arg → List ℕ → List ℕ → Answer) (wri : Call �
     abbrev Said : Answer → List ℕ → Type 0
     Said r zs = Leaves (ans h (argOf n) (ws .now) (ss .now)) (wri h (argOf n) (ws .now) (ss .now)) r zs
 
-    exits : (r : Answer) → Is O.the-row (r .outcome) (told (r .outcome) ∷ [])
-        → ent 𝓤 (⋆ 𝓤 H A (‵ (fobs γ (T.the-row .coded .code (r .next))) ∷ ‵ (fbor κ (Body (mem T.the-row) b o γ)) ∷ ‵ (flft κ q) ∷ tokens ∷ raw (Ensured r) ∷ ‵ Words ∷ [])) (Post (told (r .outcome)))
+    exits : (r : Answer) → Is O.the-row (r .outcome) (outcome-value (r .outcome) ∷ [])
+        → ent 𝓤 (⋆ 𝓤 H A (‵ (fobs γ (T.the-row .coded .code (r .next))) ∷ ‵ (fbor κ (Body (mem T.the-row) b o γ)) ∷ ‵ (flft κ q) ∷ tokens ∷ raw (Ensured r) ∷ ‵ Words ∷ [])) (Post (outcome-value (r .outcome)))
     exits r is =
         qed W (‵ (fobs γ (T.the-row .coded .code (r .next))) ∷ ‵ (fbor κ (Body (mem T.the-row) b o γ)) ∷ ‵ (flft κ q) ∷ tokens ∷ raw (Ensured r) ∷ ‵ Words ∷ []) ∵ move ! (4 ∷ []) $
         use1 W (some (λ (zs : Lasts value.ended (κ₁, (κ₂, tt)) (h, (n, (ws, (ss, tt))))). ‵ (lasts value.ended (κ₁, (κ₂, tt)) (h, (n, (ws, (ss, tt)))) zs) ⊛ raw (fact 𝓤 (Said r (zs .1 .1 .1 .0))))) (id⊢ 𝓤 _) $
         pick ! (λ zs. split ! $ move ! (1 ∷ []) $ heard ! (Said r (zs .1 .1 .1 .0)) (λ e. fsplit ! $ drop ! $ last-list ! ss (zs .1 .1 .1 .0) (λ l.
         -- [the last list; obs; the borrow; its token; the tokens; what words own]
-        suffices ! _ (ends-at 𝓤 H A argument.ended stayed (thin 𝓤) W bound (told (r .outcome)) (r .outcome) (r .next, (tt, (tt, (zs .1 .1 .1 .0, tt)))) (tt, (tt, (tt, (l, tt))))) $
+        suffices ! _ (ends-at 𝓤 H A argument.ended stayed (thin 𝓤) W bound (outcome-value (r .outcome)) (r .outcome) (r .next, (tt, (tt, (zs .1 .1 .1 .0, tt)))) (tt, (tt, (tt, (l, tt))))) $
         says ! (record { outcome = ap (λ (x : Answer). x .outcome) (e .answers); call = ap (λ (x : Answer). x .next) (e .answers); writes = e .writes }) $ move ! (3 ∷ 4 ∷ []) $ join ! $ frame ! $
         move ! (3 ∷ 0 ∷ []) $ further ! n n-is $ handed ! b o (r .outcome) is $ done !)))
 

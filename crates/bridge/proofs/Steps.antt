@@ -46,14 +46,14 @@ use Rattle.classify.proofs.Answer.Laws as N′
 abbrev pub mach : Call → Val
 mach c = LL.val T.the-type T′.the-laws c
 
-abbrev pub told : Outcome → Val
-told r = LL.val O.the-type O′.the-laws r
+abbrev pub outcome-value : Outcome → Val
+outcome-value r = LL.val O.the-type O′.the-laws r
 
 -- what whoever holds an answer knows of its two parts
 next-is : (r : Answer) (w : Val) → Is N.the-row r (w ∷ []) → Is T.the-row (r .next) (mach (r .next) ∷ [])
 next-is r w is = LL.owed N.the-type N′.the-laws r _ is .0
 
-outcome-is : (r : Answer) (w : Val) → Is N.the-row r (w ∷ []) → Is O.the-row (r .outcome) (told (r .outcome) ∷ [])
+outcome-is : (r : Answer) (w : Val) → Is N.the-row r (w ∷ []) → Is O.the-row (r .outcome) (outcome-value (r .outcome) ∷ [])
 outcome-is r w is = LL.owed N.the-type N′.the-laws r _ is .1 .0
 
 module _ {M : Type 1} {𝓤 : URA M} {H : Heap 𝓤} {A : Atoms 𝓤} {K : Type 0} {W : Given 𝓤 H A} {Γ : List (Item 𝓤)} where
@@ -138,9 +138,9 @@ module _ {M : Type 1} {𝓤 : URA M} {H : Heap 𝓤} {A : Atoms 𝓤} {K : Type 
   pub answered : K → FmC 𝓤 H (W .laws) C → {f : Name} {xs : List Opd} {a : ℕ} {Kf : Val → SProp 𝓤} (b o : ℕ) (h : Call) (c : Contract 𝓤) → Triple 𝓤 (C f) c → (x : c .Ghost) (tokens : Item 𝓤) (S : Answer → SProp 𝓤)
       → ((w : Val) → ent 𝓤 (c .post x w) (mean 𝓤 H A (later (some (λ (r : Answer). (tokens ⊛ ‵ (N.the-row .own r (w ∷ []))) ⊛ raw (S r)))))) → spotOf 𝓤 H (Locals τ l₀ l₁ E) a ≡ (N′.mir, l, zero)
       → Opds K W (raw (c .pre x) ∷ Open κ q γ b o h ∷ ‵ (fat fullShare τ l₁ zero (vptr b o)) ∷ ‵ (froom N′.mir l zero) ∷ ‵ (froom O′.mir l₀ zero) ∷ Γ) (Locals τ l₀ l₁ E) xs (c .args x)
-      → ((r : Answer) (v : Val) → Is O.the-row (r .outcome) (told (r .outcome) ∷ [])
+      → ((r : Answer) (v : Val) → Is O.the-row (r .outcome) (outcome-value (r .outcome) ∷ [])
       → Seq K W (‵ (fobs γ (T.the-row .coded .code (r .next))) ∷ ‵ (fbor κ (Body (mem T.the-row) b o γ)) ∷ ‵ (flft κ q) ∷ tokens ∷ raw (S r)
-      ∷ ‵ (fat fullShare τ l₁ zero (vptr b o)) ∷ ‵ (fat fullShare N′.mir l zero v) ∷ ‵ (fat fullShare O′.mir l₀ zero (told (r .outcome))) ∷ Γ) (frees (Locals τ l₀ l₁ E) (prop (Kf (told (r .outcome))))))
+      ∷ ‵ (fat fullShare τ l₁ zero (vptr b o)) ∷ ‵ (fat fullShare N′.mir l zero v) ∷ ‵ (fat fullShare O′.mir l₀ zero (outcome-value (r .outcome))) ∷ Γ) (frees (Locals τ l₀ l₁ E) (prop (Kf (outcome-value (r .outcome))))))
       → Seq K W (raw (c .pre x) ∷ Open κ q γ b o h ∷ ‵ (fat fullShare τ l₁ zero (vptr b o)) ∷ ‵ (froom N′.mir l zero) ∷ ‵ (froom O′.mir l₀ zero) ∷ Γ)
       (runs C Λ (Locals τ l₀ l₁ E) (seq (call f xs (place a [])) (seq (assign (place 1 (deref T′.mir ∷ [])) (rvOpd (copy (place a (field 0 ∷ []))))) (seq (assign (place 0 []) (rvOpd (copy (place a (field 1 ∷ []))))) return))) (atRet (Locals τ l₀ l₁ E) Kf))
   answered t fm b o h c known x tokens S gives e os k =
@@ -158,7 +158,7 @@ module _ {M : Type 1} {𝓤 : URA M} {H : Heap 𝓤} {A : Atoms 𝓤} {K : Type 
       returns t (look t 7 refl) $ k r _ (outcome-is r w is))))
 
 -- at exit: the reference at its last call, before what is had of the parameters behind it, and the outcome
-pub handed : {M : Type 1} {𝓤 : URA M} {H : Heap 𝓤} {A : Atoms 𝓤} {K : Type 0} {W : Given 𝓤 H A} {Γ : List (Item 𝓤)} {G : Goal 𝓤 H} → K → {P obs bor : Fml} (b o : ℕ) (r : Outcome) → Is O.the-row r (told r ∷ [])
-    → Step K W (‵ (fsep (fsep (feq (List Val) (vptr b o ∷ []) (vptr b o ∷ [])) (fsep obs bor)) P) ∷ ‵ (O.the-row .own r (told r ∷ [])) ∷ Γ) G (‵ P ∷ ‵ obs ∷ ‵ bor ∷ Γ) G
+pub handed : {M : Type 1} {𝓤 : URA M} {H : Heap 𝓤} {A : Atoms 𝓤} {K : Type 0} {W : Given 𝓤 H A} {Γ : List (Item 𝓤)} {G : Goal 𝓤 H} → K → {P obs bor : Fml} (b o : ℕ) (r : Outcome) → Is O.the-row r (outcome-value r ∷ [])
+    → Step K W (‵ (fsep (fsep (feq (List Val) (vptr b o ∷ []) (vptr b o ∷ [])) (fsep obs bor)) P) ∷ ‵ (O.the-row .own r (outcome-value r ∷ [])) ∷ Γ) G (‵ P ∷ ‵ obs ∷ ‵ bor ∷ Γ) G
 handed {𝓤 = 𝓤} {H = H} {A = A} t b o r is = step (λ s. move t (1 ∷ 2 ∷ []) $ feqI t (List Val) (vptr b o ∷ []) (vptr b o ∷ []) refl $ fjoin3 t $ fjoin t $
     owned t O.the-row (Is O.the-row) (LL.makes O.the-type O′.the-plain 𝓤 H A) r _ is $ move t (1 ∷ 0 ∷ []) $ s)

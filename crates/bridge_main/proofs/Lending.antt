@@ -49,7 +49,7 @@ use Rattle.classify.proofs.Answer.Laws as N′
 use Rattle.bridge.proofs.Asking as form
 use Rattle.bridge.proofs.Steps.{mach, question, slice, LastList, gone, further, apart, last-list, passed-on}
 use Rattle.bridge.proofs.barkpaddle_bridge_argument as thin
-use Rattle.bridge_main.proofs.Steps.{left, told, lent-ref, Lent, lent, back}
+use Rattle.bridge_main.proofs.Steps.{left, left-value, lent-ref, Lent, lent, back}
 use Rattle.bridge_main.proofs.argument as argument
 
 -- the MIR of such a function
@@ -123,11 +123,11 @@ module _ (ans : Call → Arg → List ℕ → List ℕ → Answer) (wri : Call �
     abbrev Said : Outcome → Last → Type 0
     Said r zs = Lends (ans h (argOf n) (ws .now) (ss .now)) (wri h (argOf n) (ws .now) (ss .now)) r (zs .0) (zs .1 .1 .1 .0)
 
-    exits : (r : Outcome) (zs : Last) → Said r zs → Is N.the-row (left (zs .0) r) (told (zs .0) r ∷ [])
-        → ent 𝓤 (⋆ 𝓤 H A (tokens ∷ ‵ (LastList ss (zs .1 .1 .1 .0)) ∷ ‵ Words ∷ [])) (Post (told (zs .0) r))
+    exits : (r : Outcome) (zs : Last) → Said r zs → Is N.the-row (left (zs .0) r) (left-value (zs .0) r ∷ [])
+        → ent 𝓤 (⋆ 𝓤 H A (tokens ∷ ‵ (LastList ss (zs .1 .1 .1 .0)) ∷ ‵ Words ∷ [])) (Post (left-value (zs .0) r))
     exits r zs e is =
         qed W (tokens ∷ ‵ (LastList ss (zs .1 .1 .1 .0)) ∷ ‵ Words ∷ []) ∵ move ! (1 ∷ []) $ last-list ! ss (zs .1 .1 .1 .0) (λ l.
-        suffices ! _ (ends-at 𝓤 H A argument.ended stayed (here 𝓤) W bound (told (zs .0) r) (left (zs .0) r) (tt, (tt, (tt, (zs .1 .1 .1 .0, tt)))) (tt, (tt, (tt, (l, tt))))) $
+        suffices ! _ (ends-at 𝓤 H A argument.ended stayed (here 𝓤) W bound (left-value (zs .0) r) (left (zs .0) r) (tt, (tt, (tt, (zs .1 .1 .1 .0, tt)))) (tt, (tt, (tt, (l, tt))))) $
         says ! e $ move ! (1 ∷ []) $ frame ! $ move ! (1 ∷ 0 ∷ []) $ further ! n n-is $ owned ! T.the-row (Is T.the-row) (LL.makes T.the-type T′.the-plain 𝓤 H A) h _ h-is $ fjoin ! $
         owned ! N.the-row (Is N.the-row) (LL.makes N.the-type N′.the-plain 𝓤 H A) (left (zs .0) r) _ is $ move ! (1 ∷ 0 ∷ []) $ done !)
 

@@ -63,13 +63,13 @@ module _ {M : Type 1} (𝓤 : URA M) (H : Heap 𝓤) (A : Atoms 𝓤) (W : Given
 abbrev pub left : Call → Outcome → Answer
 left z r = record { next = z; outcome = r }
 
-abbrev pub told : Call → Outcome → Val
-told z r = LL.val N.the-type N′.the-laws (left z r)
+abbrev pub left-value : Call → Outcome → Val
+left-value z r = LL.val N.the-type N′.the-laws (left z r)
 
 outcome-is : (r : Outcome) (w : Val) → Is O.the-row r (w ∷ []) → Is O.the-row r (LL.vals O.the-type O′.the-laws r)
 outcome-is r w is = subst (λ (vs : List Val). Is O.the-row r vs) (LL.tells O.the-type O′.the-laws r _ is) is
 
-left-is : (z : Call) (r : Outcome) (w : Val) → Is T.the-row z (mach z ∷ []) → Is O.the-row r (w ∷ []) → Is N.the-row (left z r) (told z r ∷ [])
+left-is : (z : Call) (r : Outcome) (w : Val) → Is T.the-row z (mach z ∷ []) → Is O.the-row r (w ∷ []) → Is N.the-row (left z r) (left-value z r ∷ [])
 left-is z r w z-is is = LL.owes N.the-type N′.the-laws (left z r) (z-is, (outcome-is r w is, tt))
 
 -- ---- the two steps
@@ -112,9 +112,9 @@ module _ {M : Type 1} {𝓤 : URA M} {H : Heap 𝓤} {A : Atoms 𝓤} {K : Type 
       ⊛ some (λ (zs : Z). ‵ (fsep (fres δ (T.the-row .coded .code (last zs))) (others zs)) ⊛ raw (fact 𝓤 (says r zs))))))))
       → spotOf 𝓤 H (Locals l₀ l₁ E) i ≡ (T′.mir, l, zero) → spotOf 𝓤 H (Locals l₀ l₁ E) u ≡ (O′.mir, m, zero) → spotOf 𝓤 H (Locals l₀ l₁ E) z ≡ (T′.mir, n, zero)
       → Opds K W (raw (c .pre x) ∷ ‵ (Lender α l δ) ∷ ‵ (froom O′.mir m zero) ∷ ‵ (froom T′.mir n zero) ∷ ‵ (froom N′.mir l₀ zero) ∷ Γ) (Locals l₀ l₁ E) xs (c .args x)
-      → ((r : Outcome) (zs : Z) (v : Val) → says r zs → Is N.the-row (left (last zs) r) (told (last zs) r ∷ [])
+      → ((r : Outcome) (zs : Z) (v : Val) → says r zs → Is N.the-row (left (last zs) r) (left-value (last zs) r ∷ [])
       → Seq K W (‵ (fat fullShare T′.mir l zero (mach (last zs))) ∷ tokens ∷ ‵ (others zs) ∷ ‵ (fat fullShare O′.mir m zero v) ∷ ‵ (fat fullShare T′.mir n zero (mach (last zs)))
-      ∷ ‵ (fat fullShare N′.mir l₀ zero (told (last zs) r)) ∷ Γ) (frees (Locals l₀ l₁ E) (prop (Kf (told (last zs) r)))))
+      ∷ ‵ (fat fullShare N′.mir l₀ zero (left-value (last zs) r)) ∷ Γ) (frees (Locals l₀ l₁ E) (prop (Kf (left-value (last zs) r)))))
       → Seq K W (raw (c .pre x) ∷ ‵ (Lender α l δ) ∷ ‵ (froom O′.mir m zero) ∷ ‵ (froom T′.mir n zero) ∷ ‵ (froom N′.mir l₀ zero) ∷ Γ)
       (runs C Λ (Locals l₀ l₁ E) (seq (call f xs (place u [])) (seq (assign (place z []) (rvOpd (copy (place i [])))) (seq (assign (place 0 []) (aggregate (copy (place z []) ∷ copy (place u []) ∷ []))) return))) (atRet (Locals l₀ l₁ E) Kf))
   back t fm {m = m} α δ c known x tokens {Z} last others says gives at-i at-u at-z os k =

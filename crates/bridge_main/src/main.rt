@@ -58,11 +58,11 @@ fn agreed(tally: &mut [u64]) -> u64 {
 }
 
 // The refusals stand in the tally at their numbers, and the ways behind them.
-fn place_of(told: Outcome) -> usize {
-    if told.refusal > 0 {
-        return (told.refusal % 8) as usize;
+fn place_of(outcome: Outcome) -> usize {
+    if outcome.refusal > 0 {
+        return (outcome.refusal % 8) as usize;
     }
-    (8 + told.way % 8) as usize
+    (8 + outcome.way % 8) as usize
 }
 
 fn count(tally: &mut [u64], place: usize) {
@@ -402,12 +402,12 @@ fn compared(answer: Answer, left: Answer, first: &[u64], second: &[u64], seed: u
     let value = answer.next;
     let lent = left.next;
     let outcome = answer.outcome;
-    let told = left.outcome;
+    let lent_outcome = left.outcome;
     Turn {
         call: lent,
         seed,
-        same: same_calls(value, lent) & same_outcomes(outcome, told) & same_words(first, second),
-        place: place_of(told),
+        same: same_calls(value, lent) & same_outcomes(outcome, lent_outcome) & same_words(first, second),
+        place: place_of(lent_outcome),
     }
 }
 
@@ -420,16 +420,16 @@ fn same_calls(a: Call, b: Call) -> bool {
         & (left.integers_only == other.integers_only)
 }
 
-fn same_outcomes(outcome: Outcome, told: Outcome) -> bool {
-    let spent = outcome.spent;
-    let other = told.spent;
-    (outcome.refusal == told.refusal)
-        & (outcome.way == told.way)
+fn same_outcomes(a: Outcome, b: Outcome) -> bool {
+    let spent = a.spent;
+    let other = b.spent;
+    (a.refusal == b.refusal)
+        & (a.way == b.way)
         & (spent.integers_passed == other.integers_passed)
         & (spent.integers_given == other.integers_given)
         & (spent.floats_passed == other.floats_passed)
         & (spent.floats_given == other.floats_given)
-        & (outcome.slots == told.slots)
+        & (a.slots == b.slots)
 }
 
 fn same_words(first: &[u64], second: &[u64]) -> bool {

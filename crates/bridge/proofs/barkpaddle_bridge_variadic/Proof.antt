@@ -36,7 +36,7 @@ use Rattle.classify.specs.Answers.{variadicAnswer}
 use Rattle.classify.proofs.Call as T
 use Rattle.classify.proofs.Call.Laws as T′
 use Rattle.classify.proofs.Outcome as O
-use Rattle.bridge.proofs.Steps.{mach, told, gone, copied, answered, handed}
+use Rattle.bridge.proofs.Steps.{mach, outcome-value, gone, copied, answered, handed}
 use Rattle.bridge.proofs.variadic_of as value
 use Rattle.bridge.proofs.variadic_of.Symbol as value-def
 use Rattle.bridge.proofs.variadic_of.Symbol.{name as #value}
@@ -75,13 +75,13 @@ module _ {M : Type 1} (𝓤 : URA M) (H : Heap 𝓤) (A : Atoms 𝓤) (W : Given
     abbrev Ensured : Answer → SProp 𝓤
     Ensured = ensured 𝓤 H A value.ended (value.clauses 𝓤 H A at-mem run) tt (h, tt) tt
 
-    exits : (r : Answer) → Is O.the-row (r .outcome) (told (r .outcome) ∷ [])
-        → ent 𝓤 (⋆ 𝓤 H A (‵ (fobs γ (T.the-row .coded .code (r .next))) ∷ ‵ (fbor κ (Body (mem T.the-row) b o γ)) ∷ ‵ (flft κ q) ∷ ‵ ftrue ∷ raw (Ensured r) ∷ [])) (Post (told (r .outcome)))
+    exits : (r : Answer) → Is O.the-row (r .outcome) (outcome-value (r .outcome) ∷ [])
+        → ent 𝓤 (⋆ 𝓤 H A (‵ (fobs γ (T.the-row .coded .code (r .next))) ∷ ‵ (fbor κ (Body (mem T.the-row) b o γ)) ∷ ‵ (flft κ q) ∷ ‵ ftrue ∷ raw (Ensured r) ∷ [])) (Post (outcome-value (r .outcome)))
     exits r is =
         qed W (‵ (fobs γ (T.the-row .coded .code (r .next))) ∷ ‵ (fbor κ (Body (mem T.the-row) b o γ)) ∷ ‵ (flft κ q) ∷ ‵ ftrue ∷ raw (Ensured r) ∷ []) ∵ move ! (4 ∷ []) $
         use1 W (some (λ (zs : Lasts value.ended tt (h, tt)). ‵ (lasts value.ended tt (h, tt) zs) ⊛ raw (fact 𝓤 (r ≡ variadicAnswer h)))) (id⊢ 𝓤 _) $
         pick ! (λ zs. split ! $ drop ! $ heard ! (r ≡ variadicAnswer h) (λ e.
-        suffices ! _ (ends-at 𝓤 H A thin.ended stayed (thin.clauses 𝓤 H A at-mem run) W bound (told (r .outcome)) (r .outcome) (r .next, tt) (tt, tt)) $
+        suffices ! _ (ends-at 𝓤 H A thin.ended stayed (thin.clauses 𝓤 H A at-mem run) W bound (outcome-value (r .outcome)) (r .outcome) (r .next, tt) (tt, tt)) $
         says ! (ap (λ (x : Answer). x .outcome) e, ap (λ (x : Answer). x .next) e) $ move ! (2 ∷ 3 ∷ []) $ join ! $ frame ! $ nothing ! $ handed ! b o (r .outcome) is $ done !))
 
     module _ (C : Calls 𝓤 H) (Λ : Loops 𝓤 H) (fm : FmC 𝓤 H (W .laws) C) (known : Triple 𝓤 (C #value) (Value 𝓤 H A at-mem run)) where

@@ -39,7 +39,7 @@ use Rattle.bridge.proofs.barkpaddle_bridge_variadic as thin
 use Rattle.bridge.proofs.barkpaddle_bridge_variadic.Symbol as thin-def
 use Rattle.bridge.proofs.barkpaddle_bridge_variadic.Symbol.{name as #thin}
 use Rattle.bridge.proofs.barkpaddle_bridge_variadic.Met as thin-thm
-use Rattle.bridge_main.proofs.Steps.{left, told, lent-ref, Lent, lent, back}
+use Rattle.bridge_main.proofs.Steps.{left, left-value, lent-ref, Lent, lent, back}
 use Rattle.bridge_main.proofs.mark.Key.{name as #mark}
 use Rattle.bridge_main.proofs.mark as mark
 use Rattle.bridge_main.proofs.mark.Statement as stated
@@ -72,9 +72,9 @@ module _ {M : Type 1} (𝓤 : URA M) (H : Heap 𝓤) (A : Atoms 𝓤) (W : Given
     abbrev Said : Outcome → Call × Unit {0} → Type 0
     Said r zs = (r ≡ variadicAnswer h .outcome) × (zs .0 ≡ variadicAnswer h .next)
 
-    exits : (r : Outcome) (zs : Call × Unit {0}) → Said r zs → Is N.the-row (left (zs .0) r) (told (zs .0) r ∷ []) → ent 𝓤 (emp 𝓤) (Post (told (zs .0) r))
+    exits : (r : Outcome) (zs : Call × Unit {0}) → Said r zs → Is N.the-row (left (zs .0) r) (left-value (zs .0) r ∷ []) → ent 𝓤 (emp 𝓤) (Post (left-value (zs .0) r))
     exits r zs e is =
-        qed W [] ∵ suffices ! _ (ends-at 𝓤 H A mark.ended stayed (mark.clauses 𝓤 H A at-mem run) W bound (told (zs .0) r) (left (zs .0) r) (tt, tt) (tt, tt)) $
+        qed W [] ∵ suffices ! _ (ends-at 𝓤 H A mark.ended stayed (mark.clauses 𝓤 H A at-mem run) W bound (left-value (zs .0) r) (left (zs .0) r) (tt, tt) (tt, tt)) $
         says ! e $ nothing ! $ frame ! $ nothing ! $ owned ! T.the-row (Is T.the-row) (LL.makes T.the-type T′.the-plain 𝓤 H A) h _ h-is $ fjoin ! $
         owned ! N.the-row (Is N.the-row) (LL.makes N.the-type N′.the-plain 𝓤 H A) (left (zs .0) r) _ is $ move ! (1 ∷ 0 ∷ []) $ done !
 
