@@ -406,7 +406,9 @@ fn compared(answer: Answer, left: Answer, first: &[u64], second: &[u64], seed: u
     Turn {
         call: lent,
         seed,
-        same: same_calls(value, lent) & same_outcomes(outcome, lent_outcome) & same_words(first, second),
+        same: same_calls(value, lent)
+            & same_outcomes(outcome, lent_outcome)
+            & same_words(first, second),
         place: place_of(lent_outcome),
     }
 }
