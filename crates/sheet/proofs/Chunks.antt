@@ -1,5 +1,5 @@
 -- The law of chunks: reading a sheet in any chunks of whole records gives the same lines as reading it whole, and leaves the same state and
--- the same buffers. Said of `steps`, `step` and `finish` by their own promises (Taken, Stepped, Finished).
+-- the same buffers. Said of `take_records`, `take_record` and `finish` by their own promises (Taken, Stepped, Finished).
 use Prim.Native.Nat.{ℕ, _+_, _*_, _≤_, _<_}
 use mathlib.Core.Path.{_≡_, refl, sym, ap, _∙_}
 use mathlib.Core.List.{List, [], _∷_, _++_}
@@ -35,7 +35,7 @@ module _ (b : Between) (m : ℕ) (x y : List ℕ) (e : length x ≡ m * recordSi
 
 -- ---- any chunks
 
--- one call of `steps`: the bytes lent to it and the text as it was, its answer, and the buffers that it left
+-- one call of `take_records`: the bytes lent to it and the text as it was, its answer, and the buffers that it left
 pub record Turn : Type 0 where
   pub lent : List ℕ
   pub room : List ℕ
@@ -44,7 +44,7 @@ pub record Turn : Type 0 where
   pub slots : List ℕ
   pub out : List ℕ
 
--- it kept the promise of `steps`, called on what stood between two records
+-- it kept the promise of `take_records`, called on what stood between two records
 abbrev pub Kept : Between → Turn → Type 0
 Kept b t = Taken (b .state) (t .lent) (b .pieces) (b .slots) (t .room) (t .answer) (t .pieces) (t .slots) (t .out)
 
@@ -137,7 +137,7 @@ module _ (b : Between) (ts us : List Turn) (x : AllKept b ts) (y : AllKept b us)
 
 -- ---- from start to finish
 
--- the call that ends a sheet, with room for a line: `finish` where no byte is left, and otherwise `step` on the bytes that are, a short record
+-- the call that ends a sheet, with room for a line: `finish` where no byte is left, and otherwise `take_record` on the bytes that are, a short record
 pub record Last : Type 0 where
   pub room : List ℕ
   pub answer : Step

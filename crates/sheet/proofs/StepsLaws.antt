@@ -1,4 +1,4 @@
--- The loop of `steps`: what is left of the input from here on completes the records that are taken.
+-- The loop of `take_records`: what is left of the input from here on completes the records that are taken.
 use Prim.Native.Nat.{ℕ, zero, suc, _+_, _-_, _*_, _≤_}
 use mathlib.Core.Path.{_≡_, refl, sym, ap, _∙_}
 use mathlib.Core.List.{List, _∷_, _++_}
