@@ -195,7 +195,7 @@ module _ (source : ℕ) (D : Description) (c : Call) (arg : args.Arg) (ws out : 
   refusal = orElse source (checked (termsOf D) (c .left) arg ws)
 
   abbrev slots : List Slot
-  slots = parts.slotsOf (parts.decidedBy k arg (piecesOf ws)) (piecesOf ws)
+  slots = parts.decidedSlots (parts.decidedBy k arg (piecesOf ws)) (piecesOf ws)
 
   answer-is : orAnswer refusal c (parts.finished c (k .decision) out) ≡ answerTo refusal c p (k .decision .spent) out
   unfolding refusalBy parts.finished answerTo

@@ -72,11 +72,11 @@ finished c d out = orAnswer (roomRefusal (d .count) out) c (acceptedBy c d)
 unfoldable pub finishedIn : Decision → List Slot → List ℕ → List ℕ
 finishedIn d slots out = unlessRefused (roomRefusal (d .count) out) (written slots out) out
 
-abbrev pub slotsOf : Decided → List Piece → List Slot
-slotsOf d ps = sourceSlots (d .decision .source) (d .classes) ps
+abbrev pub decidedSlots : Decided → List Piece → List Slot
+decidedSlots d ps = sourceSlots (d .decision .source) (d .classes) ps
 
 abbrev pub Finishes : Call → Decided → List Piece → List ℕ → Answer → List ℕ → Type 0
-Finishes c d ps out r after = Leaves (finished c (d .decision) out) (finishedIn (d .decision) (slotsOf d ps) out) r after
+Finishes c d ps out r after = Leaves (finished c (d .decision) out) (finishedIn (d .decision) (decidedSlots d ps) out) r after
 
 abbrev pub FinishesScalar : Call → Decision → List ℕ → Answer → List ℕ → Type 0
 FinishesScalar c d out r after = Leaves (finished c d out) (finishedIn d (scalarSlots (d .source)) out) r after
@@ -96,7 +96,7 @@ performedBy source T rules returning dots c arg ws out =
 unfoldable pub performedByIn : ℕ → Terms → List Rule → Bool → Dots → Call → args.Arg → List ℕ → List ℕ → List ℕ
 performedByIn source T rules returning dots c arg ws out =
     let d = decidedFor T rules returning dots c arg (piecesOf ws) in
-    unlessRefused (orElse source (checked T (c .left) arg ws)) (finishedIn (d .decision) (slotsOf d (piecesOf ws)) out) out
+    unlessRefused (orElse source (checked T (c .left) arg ws)) (finishedIn (d .decision) (decidedSlots d (piecesOf ws)) out) out
 
 -- ---- by a description and what its source refuses, and on a row
 

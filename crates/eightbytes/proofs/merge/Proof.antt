@@ -33,15 +33,12 @@ in-table a b ha hb =
     below6 (λ a. getD (getD rows a []) b 0 ≡ code (merge (classOf a) (classOf b)))
     (in-row 0 b hb) (in-row 1 b hb) (in-row 2 b hb) (in-row 3 b hb) (in-row 4 b hb) (in-row 5 b hb) a ha
 
-returns : tie.Need-returns
-unfolding code classOf same merge
-returns c = in-table (c .before .args .a) (c .before .args .b) (search needs) (search needs)
-
 pub merge-spec : {M : Type 1} → statement M
+unfolding code classOf same merge
 merge-spec =
     tie.close
     (tie.spec
     (λ c. search needs)
     (λ c. search needs)
     (λ c. search needs)
-    returns)
+    (λ c. in-table (c .before .args .a) (c .before .args .b) (search needs) (search needs)))

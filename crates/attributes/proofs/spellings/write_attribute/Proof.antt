@@ -5,39 +5,8 @@ use borrow.Author.Needs.{needs}
 use Rattle.attributes.proofs.spellings.write_attribute.Statement.{statement}
 use Rattle.attributes.proofs.spellings.write_attribute.Tie as tie
 
-returns : tie.Need-returns
-unfolding spellingAnswer spellingWritten
-returns c = rw (c .enum-told .given .1) (refl, refl)
-
-returns-2 : tie.Need-returns-2
-unfolding spellingAnswer spellingWritten
-returns-2 c = rw (c .before .before .before .before .before .enum-told2 .given .1) (c .before .before .put .ensures)
-
-returns-3 : tie.Need-returns-3
-unfolding spellingAnswer spellingWritten
-returns-3 c = rw (c .before .before .before .before .before .enum-told3 .given .1) (c .before .before .put2 .ensures)
-
-returns-4 : tie.Need-returns-4
-unfolding spellingAnswer spellingWritten
-returns-4 c = rw (c .before .before .before .before .before .enum-told4 .given .1) (c .before .before .put3 .ensures)
-
-returns-5 : tie.Need-returns-5
-unfolding spellingAnswer spellingWritten
-returns-5 c = rw (c .before .before .before .before .before .enum-told5 .given .1) (c .before .before .put4 .ensures)
-
-returns-6 : tie.Need-returns-6
-unfolding spellingAnswer spellingWritten
-returns-6 c = rw (c .before .before .before .before .before .before .before .convention .given .1, ← c .before .before .before .before .before .regparm-name .ensures) (c .before .before .put5 .ensures)
-
-returns-7 : tie.Need-returns-7
-unfolding spellingAnswer spellingWritten
-returns-7 c = rw (c .before .before .before .before .before .enum-told6 .given .1) (c .before .before .put6 .ensures)
-
-returns-8 : tie.Need-returns-8
-unfolding spellingAnswer spellingWritten
-returns-8 c = rw (c .before .before .before .before .before .enum-told7 .given .1) (c .before .before .put7 .ensures)
-
 pub write-attribute-spec : {M : Type 1} → statement M
+unfolding spellingAnswer spellingWritten
 write-attribute-spec =
     tie.close
     (tie.spec
@@ -64,18 +33,18 @@ write-attribute-spec =
     (λ c. search needs)
     (λ c. search needs)
     (λ c κs. search needs)
-    returns
+    (λ c. rw (c .enum-told .given .1) (refl, refl))
     (λ c. search needs)
-    returns-2
+    (λ c. rw (c .before .before .before .before .before .enum-told2 .given .1) (c .before .before .put .ensures))
     (λ c. search needs)
-    returns-3
+    (λ c. rw (c .before .before .before .before .before .enum-told3 .given .1) (c .before .before .put2 .ensures))
     (λ c. search needs)
-    returns-4
+    (λ c. rw (c .before .before .before .before .before .enum-told4 .given .1) (c .before .before .put3 .ensures))
     (λ c. search needs)
-    returns-5
+    (λ c. rw (c .before .before .before .before .before .enum-told5 .given .1) (c .before .before .put4 .ensures))
     (λ c. search needs)
-    returns-6
+    (λ c. rw (c .before .before .before .before .before .before .before .convention .given .1, ← c .before .before .before .before .before .regparm-name .ensures) (c .before .before .put5 .ensures))
     (λ c. search needs)
-    returns-7
+    (λ c. rw (c .before .before .before .before .before .enum-told6 .given .1) (c .before .before .put6 .ensures))
     (λ c. search needs)
-    returns-8)
+    (λ c. rw (c .before .before .before .before .before .enum-told7 .given .1) (c .before .before .put7 .ensures)))
