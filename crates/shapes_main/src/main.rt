@@ -17,7 +17,7 @@ const WORD: usize = 8;
 
 const RECORD: usize = 6;
 
-const MOST_PIECES: u64 = 64;
+const MOST_HELD: u64 = 64;
 
 // The lines of a shape, and how many of them come before those of the eightbytes and before those of the layouts.
 const LINES: usize = 23;
@@ -62,7 +62,7 @@ fn shape_of(head: [u64; 6]) -> Shape {
 fn answer(shape: Shape, count: u64) -> bool {
     let mut bytes = [0u8; 3072];
     let mut words = [0u64; 384];
-    if count > MOST_PIECES {
+    if count > MOST_HELD {
         io::write_all(STDOUT_FILENO, b"too many\n");
         return false;
     }
@@ -138,7 +138,7 @@ fn put_word(out: &mut [u64], at: usize, word: u64) -> usize
 }
 
 fn print(shape: Shape, pieces: &[u64]) -> bool {
-    let mut each = [0u64; MOST_PIECES as usize * slots::SLOT];
+    let mut each = [0u64; MOST_HELD as usize * slots::SLOT];
     let mut out = [0u8; 16384];
     slot_writing::put_pieces(pieces, &mut each);
     let n = lines(shape, pieces, &each, &mut out);

@@ -23,17 +23,17 @@ ghost use Rattle.sheet_records.specs.Known.{dueOf};
 ghost use Rattle.sheet_records.specs.Reading as spec;
 
 // First words, as far as they are told apart.
-const FRESH: u64 = 0;
+const FIRST_FRESH: u64 = 0;
 
-const MARK: u64 = 1;
+const FIRST_MARK: u64 = 1;
 
-const RETURN: u64 = 2;
+const FIRST_RETURN: u64 = 2;
 
-const ARGUMENT: u64 = 3;
+const FIRST_ARGUMENT: u64 = 3;
 
-const VARIADIC_ARGUMENT: u64 = 4;
+const FIRST_VARIADIC_ARGUMENT: u64 = 4;
 
-const PIECE: u64 = 5;
+const FIRST_PIECE: u64 = 5;
 
 // The largest flags of an aggregate.
 const MOST_FLAGS: u64 = 3;
@@ -76,7 +76,7 @@ fn read_piece(reader: Reader, record: Record, pieces: &mut [u64]) -> Reading
 {
     let due = reader.due;
     let at = due.words;
-    if record.first != PIECE {
+    if record.first != FIRST_PIECE {
         return no_more(reader);
     }
     let piece = Piece {
@@ -121,13 +121,13 @@ fn piece_read(reader: Reader, words: usize) -> Reading
 fn read_head(reader: Reader, record: Record) -> Reading
     ensures { λ r. ⌜ r ≡ spec.headAnswer reader «record» ⌝ }
 {
-    if record.first == FRESH {
+    if record.first == FIRST_FRESH {
         return ready(reader, Operation::Fresh(record.second));
     }
-    if (record.first > VARIADIC_ARGUMENT) | !reader.opened {
+    if (record.first > FIRST_VARIADIC_ARGUMENT) | !reader.opened {
         return no_more(reader);
     }
-    if record.first == MARK {
+    if record.first == FIRST_MARK {
         return ready(reader, Operation::Mark);
     }
     read_value(reader, record)
@@ -191,10 +191,10 @@ fn read_aggregate(reader: Reader, record: Record) -> Reading
 fn operation_of(first: u64, arg: Arg) -> Operation
     ensures { λ r. ⌜ r ≡ spec.operationOf first arg ⌝ }
 {
-    if first == RETURN {
+    if first == FIRST_RETURN {
         return Operation::Return(arg);
     }
-    if first == ARGUMENT {
+    if first == FIRST_ARGUMENT {
         return Operation::Argument(arg);
     }
     Operation::VariadicArgument(arg)
