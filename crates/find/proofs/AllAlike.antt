@@ -1,4 +1,4 @@
--- The laws of the test, each with what the code looked at as premises: what fails decides, and where nothing fails the slots are found; and
+-- The laws of `homogeneous`, each with what the code looked at as premises: what fails decides, and where nothing fails the slots are found; and
 -- what float slots of one format are.
 use Prim.Native.Nat.{ℕ, suc, _-_, _*_, _/_, _≤_, _<_}
 use mathlib.Core.Path.{_≡_, refl, ap, sym, subst}
