@@ -159,7 +159,7 @@ fn cleanup_from(code: u8) -> Cleanup
     }
 }
 
-// The numbers of their cases, as a row has them and as they leave: each is read back by the function above.
+// The numbers of these cases, as a row has them and as they leave; the functions above read them back.
 
 pub fn return_pointer_number(pointer: ReturnPointer) -> u64
     ensures { λ r. ⌜ r ≡ returnPointerCode pointer ⌝ }
