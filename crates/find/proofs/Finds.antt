@@ -1,5 +1,5 @@
 -- What a search has found, where it found anything: a slot for each piece, how many, and how many of them are floats.
-use Prim.Native.Nat.{ℕ, _≤_, _<_}
+use Prim.Native.Nat.{ℕ, _≤_}
 use mathlib.Core.Path.{_≡_, refl, _∙_}
 use mathlib.Core.List.{List, [], _∷_}
 use mathlib.Core.Bool.{Bool, true, false, _&&_, _||_}
@@ -37,10 +37,10 @@ same-kind p (q ∷ qs) e =
     let k = both-true (eqb (q .kind) (p .kind)) (eqb (q .size) (p .size)) (b .0) in
     rw (k .0, same-kind p qs (a .1))
 
-all-of : (kind : ℕ) (ps : List Piece) → isAllOf kind ps ≡ true → (allOf kind ps ≡ true) × (0 < length ps)
+all-of : (kind : ℕ) (ps : List Piece) → isAllOf kind ps ≡ true → allOf kind ps ≡ true
 unfolding isAllOf
 all-of kind [] e = absurd (let z : _≡_ {A = ℕ} 0 1 = cc in omega arith)
-all-of kind (p ∷ ps) e = (e, omega arith)
+all-of kind (p ∷ ps) e = e
 
 -- ---- homogeneous
 
@@ -50,14 +50,13 @@ module _ (limit : ℕ) (shape : Shape) where
     piece : Piece
     slots : ss ≡ floatsAt (piece .kind) ps
     fields : Fields limit shape piece ps
-    some : 0 < length ps
 
   first : (ps : List Piece) (ss : List Slot) → homogeneous limit shape ps ≡ found ss → First ps ss
   unfolding homogeneous
   first [] ss e = absurd (not-found ss e)
   first (p ∷ ps) ss e =
       let x = found-if (isHomogeneous limit shape p (p ∷ ps)) (floatsAt (p .kind) (p ∷ ps)) ss e in
-      record { piece = p; slots = x .1; fields = fields limit shape p (p ∷ ps) (x .0); some = omega arith }
+      record { piece = p; slots = x .1; fields = fields limit shape p (p ∷ ps) (x .0) }
 
   module _ (ps : List Piece) (ss : List Slot) (e : homogeneous limit shape ps ≡ found ss) where
     pub homogeneous-slots : ss ≡ eachPiece ps
@@ -104,7 +103,7 @@ module _ (shape : Shape) (ps : List Piece) (ss : List Slot) (e : x87Stack shape 
   parts = both-true (isAllOf x87-extended ps) (eqb (length ps) 1 || eqb (length ps) 2 && shape .complex) (holds .0)
 
   pub x87-slots : ss ≡ eachPiece ps
-  x87-slots = holds .1 ∙ at-each x87-extended ps refl (all-of x87-extended ps (parts .0) .0)
+  x87-slots = holds .1 ∙ at-each x87-extended ps refl (all-of x87-extended ps (parts .0))
 
   pub x87-few : length ss ≤ 2
   x87-few = rw (holds .1, length-at) (one-or-two (length ps) (shape .complex) (parts .1))
