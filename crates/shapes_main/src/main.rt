@@ -176,7 +176,7 @@ fn line(
 ) -> usize {
     let a = put_text(out, at, number);
     let b = put_answer(out, a, number, shape, pieces, each);
-    put_byte(out, b, b'\n')
+    append(out, b, b"\n")
 }
 
 fn put_answer(
@@ -358,14 +358,6 @@ fn before(word: usize) -> u8 {
 fn put_number(out: &mut [u8], at: usize, byte: u8, n: u64) -> usize {
     let mut digits = [0u8; 20];
     let count = io::decimal(n, &mut digits);
-    let to = put_byte(out, at, byte);
+    let to = append(out, at, &[byte]);
     append(out, to, &digits[..count])
-}
-
-fn put_byte(out: &mut [u8], at: usize, byte: u8) -> usize {
-    if at < out.len() {
-        out[at] = byte;
-        return at + 1;
-    }
-    at
 }

@@ -258,24 +258,16 @@ fn put_attribute(out: &mut [u8], at: usize, convention: u64) -> usize {
 
 // Text behind a space.
 fn put_name(out: &mut [u8], at: usize, name: &[u8]) -> usize {
-    let to = put_byte(out, at, b' ');
+    let to = append(out, at, b" ");
     if name.len() == 0 {
-        return put_byte(out, to, b'-');
+        return append(out, to, b"-");
     }
     append(out, to, name)
 }
 
-fn put_byte(out: &mut [u8], at: usize, byte: u8) -> usize {
-    if at < out.len() {
-        out[at] = byte;
-        return at + 1;
-    }
-    at
-}
-
 // A line is far shorter than what this leaves free.
 fn end_line(out: &mut [u8], at: usize) -> usize {
-    let to = put_byte(out, at, b'\n');
+    let to = append(out, at, b"\n");
     if to < 65000 {
         return to;
     }
