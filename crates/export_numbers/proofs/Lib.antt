@@ -1,2 +1,1 @@
-pub mod Handed
 mod Unique

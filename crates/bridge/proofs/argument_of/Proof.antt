@@ -1,7 +1,5 @@
 -- `argument_of` answers what the call's method answers, and leaves what that leaves in the buffer.
 use borrow.Author.Needs.{needs}
-use Rattle.classify.specs.Answers.{argumentAnswer, argumentWritten}
-use Rattle.bridge.proofs.Laws.{asked}
 use Rattle.bridge.proofs.argument_of.Statement.{statement}
 use Rattle.bridge.proofs.argument_of.Tie as tie
 
@@ -12,4 +10,4 @@ argument-of-spec =
     (λ c κs. search needs)
     (λ c κs. search needs)
     (λ c. search needs)
-    (λ c. search (asked argumentAnswer argumentWritten)))
+    (λ c. record { answers = cc; writes = cc }))

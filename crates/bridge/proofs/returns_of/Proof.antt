@@ -1,7 +1,5 @@
 -- `returns_of` answers what the call's method answers, and leaves what that leaves in the buffer.
 use borrow.Author.Needs.{needs}
-use Rattle.classify.specs.Answers.{returnsAnswer, returnsWritten}
-use Rattle.bridge.proofs.Laws.{asked}
 use Rattle.bridge.proofs.returns_of.Statement.{statement}
 use Rattle.bridge.proofs.returns_of.Tie as tie
 
@@ -12,4 +10,4 @@ returns-of-spec =
     (λ c κs. search needs)
     (λ c κs. search needs)
     (λ c. search needs)
-    (λ c. search (asked returnsAnswer returnsWritten)))
+    (λ c. record { answers = cc; writes = cc }))

@@ -1,7 +1,5 @@
 -- `variadic_argument_of` answers what the call's method answers, and leaves what that leaves in the buffer.
 use borrow.Author.Needs.{needs}
-use Rattle.classify.specs.Answers.{variadicArgumentAnswer, variadicArgumentWritten}
-use Rattle.bridge.proofs.Laws.{asked}
 use Rattle.bridge.proofs.variadic_argument_of.Statement.{statement}
 use Rattle.bridge.proofs.variadic_argument_of.Tie as tie
 
@@ -12,4 +10,4 @@ variadic-argument-of-spec =
     (λ c κs. search needs)
     (λ c κs. search needs)
     (λ c. search needs)
-    (λ c. search (asked variadicArgumentAnswer variadicArgumentWritten)))
+    (λ c. record { answers = cc; writes = cc }))

@@ -1,7 +1,5 @@
 -- `barkpaddle_argument_aggregate` hands on what the operation answers and writes.
 use borrow.Author.Needs.{needs}
-use Rattle.classify.specs.Answers.{argumentAnswer, argumentWritten}
-use Rattle.export_numbers.proofs.Handed.{handed}
 use Rattle.export_arguments.proofs.barkpaddle_argument_aggregate.Statement.{statement}
 use Rattle.export_arguments.proofs.barkpaddle_argument_aggregate.Tie as tie
 
@@ -13,4 +11,4 @@ barkpaddle-argument-aggregate-spec =
     (λ c κs. search needs)
     (λ c κs. search needs)
     (λ c. search needs)
-    (λ c. search (handed argumentAnswer argumentWritten)))
+    (λ c. record { answers = cc; writes = cc }))

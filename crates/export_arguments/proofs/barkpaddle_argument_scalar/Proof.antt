@@ -1,7 +1,5 @@
 -- `barkpaddle_argument_scalar` hands on what the operation answers and writes.
 use borrow.Author.Needs.{needs}
-use Rattle.classify.specs.Answers.{argumentAnswer, argumentWritten}
-use Rattle.export_numbers.proofs.Handed.{handed}
 use Rattle.export_arguments.proofs.barkpaddle_argument_scalar.Statement.{statement}
 use Rattle.export_arguments.proofs.barkpaddle_argument_scalar.Tie as tie
 
@@ -12,4 +10,4 @@ barkpaddle-argument-scalar-spec =
     (λ c κs. search needs)
     (λ c κs. search needs)
     (λ c. search needs)
-    (λ c. search (handed argumentAnswer argumentWritten)))
+    (λ c. record { answers = cc; writes = cc }))

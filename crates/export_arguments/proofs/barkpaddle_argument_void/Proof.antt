@@ -1,7 +1,8 @@
 -- `barkpaddle_argument_void` hands on what the call answers where nothing travels.
+use mathlib.Core.Path.{refl}
 use mathlib.Core.Bool.{false}
 use borrow.Author.Needs.{needs}
-use Rattle.export_numbers.proofs.Handed.{nothing-handed}
+use Rattle.classify.proofs.Operations.{by-void}
 use Rattle.export_arguments.proofs.barkpaddle_argument_void.Statement.{statement}
 use Rattle.export_arguments.proofs.barkpaddle_argument_void.Tie as tie
 
@@ -11,4 +12,4 @@ barkpaddle-argument-void-spec =
     (tie.spec
     (λ c κs. search needs)
     (λ c κs. search needs)
-    (λ c. search (nothing-handed false false)))
+    (λ c. by-void false false _ _ _ _ _ refl cc))

@@ -1,7 +1,5 @@
 -- `barkpaddle_variadic` hands on what `variadic` answers.
 use borrow.Author.Needs.{needs}
-use Rattle.classify.specs.Answers.{variadicAnswer}
-use Rattle.export_numbers.proofs.Handed.{started}
 use Rattle.export_arguments.proofs.barkpaddle_variadic.Statement.{statement}
 use Rattle.export_arguments.proofs.barkpaddle_variadic.Tie as tie
 
@@ -11,4 +9,4 @@ barkpaddle-variadic-spec =
     (tie.spec
     (λ c κs. search needs)
     (λ c κs. search needs)
-    (λ c. search (started variadicAnswer)))
+    (λ c. cc))

@@ -1,7 +1,5 @@
 -- `barkpaddle_return_aggregate` hands on what the operation answers and writes.
 use borrow.Author.Needs.{needs}
-use Rattle.classify.specs.Answers.{returnsAnswer, returnsWritten}
-use Rattle.export_numbers.proofs.Handed.{handed}
 use Rattle.export_returns.proofs.barkpaddle_return_aggregate.Statement.{statement}
 use Rattle.export_returns.proofs.barkpaddle_return_aggregate.Tie as tie
 
@@ -13,4 +11,4 @@ barkpaddle-return-aggregate-spec =
     (λ c κs. search needs)
     (λ c κs. search needs)
     (λ c. search needs)
-    (λ c. search (handed returnsAnswer returnsWritten)))
+    (λ c. record { answers = cc; writes = cc }))

@@ -1,7 +1,5 @@
 -- `barkpaddle_return_scalar` hands on what the operation answers and writes.
 use borrow.Author.Needs.{needs}
-use Rattle.classify.specs.Answers.{returnsAnswer, returnsWritten}
-use Rattle.export_numbers.proofs.Handed.{handed}
 use Rattle.export_returns.proofs.barkpaddle_return_scalar.Statement.{statement}
 use Rattle.export_returns.proofs.barkpaddle_return_scalar.Tie as tie
 
@@ -12,4 +10,4 @@ barkpaddle-return-scalar-spec =
     (λ c κs. search needs)
     (λ c κs. search needs)
     (λ c. search needs)
-    (λ c. search (handed returnsAnswer returnsWritten)))
+    (λ c. record { answers = cc; writes = cc }))

@@ -1,7 +1,8 @@
 -- `barkpaddle_return_void` hands on what the call answers where nothing travels.
+use mathlib.Core.Path.{refl}
 use mathlib.Core.Bool.{true, false}
 use borrow.Author.Needs.{needs}
-use Rattle.export_numbers.proofs.Handed.{nothing-handed}
+use Rattle.classify.proofs.Operations.{by-void}
 use Rattle.export_returns.proofs.barkpaddle_return_void.Statement.{statement}
 use Rattle.export_returns.proofs.barkpaddle_return_void.Tie as tie
 
@@ -11,4 +12,4 @@ barkpaddle-return-void-spec =
     (tie.spec
     (λ c κs. search needs)
     (λ c κs. search needs)
-    (λ c. search (nothing-handed true false)))
+    (λ c. by-void true false _ _ _ _ _ refl cc))

@@ -1,7 +1,5 @@
 -- `barkpaddle_in_memory` hands on what `in_memory` answers.
 use borrow.Author.Needs.{needs}
-use Rattle.classify.specs.Answers.{inMemoryAnswer}
-use Rattle.export_questions.proofs.Handed.{in-memory-aligned}
 use Rattle.export_questions.proofs.alignment.barkpaddle_in_memory.Statement.{statement}
 use Rattle.export_questions.proofs.alignment.barkpaddle_in_memory.Tie as tie
 
@@ -12,4 +10,4 @@ barkpaddle-in-memory-spec =
     (λ c κs. search needs)
     (λ c κs. search needs)
     (λ c κs. search needs)
-    (λ c. in-memory-aligned _ _ (c .before .before .call-from .ensures) _ _ (c .before .shape-from .ensures) _ inMemoryAnswer _ (c .in-memory .ensures)))
+    (λ c. cc))

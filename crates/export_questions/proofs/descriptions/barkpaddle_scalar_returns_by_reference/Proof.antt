@@ -1,7 +1,5 @@
 -- `barkpaddle_scalar_returns_by_reference` hands on what `scalar_returns_by_reference` answers.
-use mathlib.Core.Path.{_∙_, ap}
 use borrow.Author.Needs.{needs}
-use Rattle.export_questions.specs.Answers.{yesTold}
 use Rattle.export_questions.proofs.descriptions.barkpaddle_scalar_returns_by_reference.Statement.{statement}
 use Rattle.export_questions.proofs.descriptions.barkpaddle_scalar_returns_by_reference.Tie as tie
 
@@ -11,4 +9,4 @@ barkpaddle-scalar-returns-by-reference-spec =
     (tie.spec
     (λ c κs. search needs)
     (λ c κs. search needs)
-    (λ c. c .yes-or-no .ensures ∙ ap yesTold (c .before .scalar-returns-by-reference .ensures)))
+    (λ c. cc))

@@ -1,7 +1,5 @@
 -- `barkpaddle_wide_integer_returns_in` hands on what `wide_integer_returns_in` answers.
-use mathlib.Core.Path.{ap}
 use borrow.Author.Needs.{needs}
-use Rattle.export_questions.specs.Answers.{formatTold}
 use Rattle.export_questions.proofs.descriptions.barkpaddle_wide_integer_returns_in.Statement.{statement}
 use Rattle.export_questions.proofs.descriptions.barkpaddle_wide_integer_returns_in.Tie as tie
 
@@ -10,4 +8,4 @@ barkpaddle-wide-integer-returns-in-spec =
     tie.close
     (tie.spec
     (λ c κs. search needs)
-    (λ c. ap formatTold (c .wide-integer-returns-in .ensures)))
+    (λ c. cc))

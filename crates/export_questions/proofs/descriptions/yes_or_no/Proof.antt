@@ -1,7 +1,5 @@
 -- `yes_or_no` says an answer as a number.
-use mathlib.Core.Path.{ap}
 use borrow.Author.Needs.{needs}
-use Rattle.export_numbers.specs.Numbers.{told}
 use Rattle.export_questions.proofs.descriptions.yes_or_no.Statement.{statement}
 use Rattle.export_questions.proofs.descriptions.yes_or_no.Tie as tie
 
@@ -10,4 +8,4 @@ yes-or-no-spec =
     tie.close
     (tie.spec
     (λ c κs. search needs)
-    (λ c. ap (told _) (c .one-if .ensures .0)))
+    (λ c. cc))

@@ -1,7 +1,5 @@
 -- `barkpaddle_attribute` hands on what `attribute` answers and writes.
-use mathlib.Core.Path.{ap}
 use borrow.Author.Needs.{needs}
-use Rattle.export_questions.specs.Answers.{lengthTold}
 use Rattle.export_questions.proofs.lookups.barkpaddle_attribute.Statement.{statement}
 use Rattle.export_questions.proofs.lookups.barkpaddle_attribute.Tie as tie
 
@@ -11,4 +9,4 @@ barkpaddle-attribute-spec =
     (tie.spec
     (λ c κs. search needs)
     (λ c. search needs)
-    (λ c. (ap lengthTold (c .before .before .attribute .ensures .0), c .before .before .attribute .ensures .1)))
+    (λ c. (cc, cc)))

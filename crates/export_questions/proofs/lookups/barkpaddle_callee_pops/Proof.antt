@@ -1,7 +1,5 @@
 -- `barkpaddle_callee_pops` says what `callee_pops` answers as a number.
-use mathlib.Core.Path.{_∙_, ap}
 use borrow.Author.Needs.{needs}
-use Rattle.shape.specs.Numbers.{oneIf}
 use Rattle.export_questions.proofs.lookups.barkpaddle_callee_pops.Statement.{statement}
 use Rattle.export_questions.proofs.lookups.barkpaddle_callee_pops.Tie as tie
 
@@ -11,4 +9,4 @@ barkpaddle-callee-pops-spec =
     (tie.spec
     (λ c κs. search needs)
     (λ c κs. search needs)
-    (λ c. c .one-if .ensures .0 ∙ ap oneIf (c .before .callee-pops .ensures)))
+    (λ c. cc))

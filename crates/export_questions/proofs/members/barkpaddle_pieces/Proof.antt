@@ -1,7 +1,5 @@
 -- `barkpaddle_pieces` hands on what `pieces` answers and writes.
-use mathlib.Core.Path.{ap}
 use borrow.Author.Needs.{needs}
-use Rattle.export_questions.specs.Answers.{countTold}
 use Rattle.export_questions.proofs.members.barkpaddle_pieces.Statement.{statement}
 use Rattle.export_questions.proofs.members.barkpaddle_pieces.Tie as tie
 
@@ -11,4 +9,4 @@ barkpaddle-pieces-spec =
     (tie.spec
     (λ c κs. search needs)
     (λ c. search needs)
-    (λ c. (ap countTold (c .before .before .pieces .ensures .0), c .before .before .pieces .ensures .1)))
+    (λ c. (cc, cc)))

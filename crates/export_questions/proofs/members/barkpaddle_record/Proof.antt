@@ -1,6 +1,5 @@
 -- `barkpaddle_record` says what `record` answers in numbers.
 use borrow.Author.Needs.{needs}
-use Rattle.export_questions.proofs.Handed.{recorded}
 use Rattle.export_questions.proofs.members.barkpaddle_record.Statement.{statement}
 use Rattle.export_questions.proofs.members.barkpaddle_record.Tie as tie
 
@@ -11,4 +10,4 @@ barkpaddle-record-spec =
     (λ c κs. search needs)
     (λ c κs. search needs)
     (λ c κs. search needs)
-    (λ c. recorded _ _ (c .before .before .before .«record» .ensures) _ (c .before .one-if .ensures .0) _ (c .one-if2 .ensures .0)))
+    (λ c. cc))
