@@ -1,1 +1,2 @@
+pub mod ReadBack
 mod Unique
