@@ -15,7 +15,6 @@ use Rattle.slots.specs.Cut.{upTo, cut}
 use Rattle.find.specs.Find.{foundIf, floatsAt, allSame, isHomogeneous, homogeneous}
 use Rattle.abis.specs.Abis.{described, descriptions}
 use Rattle.spend.specs.declared.Left.{Left}
-use Rattle.spend.specs.Spending.{wantOf}
 use Rattle.find.specs.Matches.{matches}
 use Rattle.classify.specs.Pass.{direct, pieces, reference, memory}
 use Rattle.classify.specs.Classify.{Passed, passed, counts, shortOf, slotsInRegisters, travel, apply, afterScalar, argument, returns}
@@ -134,7 +133,7 @@ pub record ScalarExamples : Type 0 where
   pub ninth-float : ScalarExample (scalar double 8 8) (floating precision.double) 8 0 (counts 8 0) (passing stack (state 0 8))
 
 pub scalar-examples : ScalarExamples
-unfolding argument classify.scalar afterScalar wantOf described descriptions stageC
+unfolding argument classify.scalar afterScalar classify.registers described descriptions stageC
 scalar-examples =
     record {
       even = record { row-is = refl; standard-is = refl; same = refl };

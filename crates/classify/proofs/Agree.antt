@@ -51,6 +51,7 @@ use Rattle.classify.specs.Classify.{Passed, passed, leaves, less, lessBo
 use Rattle.classify.specs.Spending as spending
 use Rattle.classify.specs.Spending.{Chosen, chosen, returnChoice, argumentChoice, variadicArgumentChoice}
 use Rattle.classify.specs.Parts.{argClasses}
+use Rattle.classify.proofs.Registers.{registers-wanted}
 use Rattle.classify.proofs.Sources.{source-slots, floats-cut}
 
 -- what a decision of the rules comes to, against what the Rust answers
@@ -203,12 +204,13 @@ module _ (arg : args.Arg) (ps : List Piece) (left : Left) where
       unfolding rust.scalar lone.scalarArgument sourceSlots
       scalar-argument s =
           let want : ℕ = rules.wantOf (s .size) (D .banks .«integer_width») in
-          by-test (isByReference (D .scalars) (s .size)) _ _ _ _ (λ _. takes-integers reference _ 1 refl refl)
+          rw (registers-wanted (s .size) (D .banks .«integer_width»))
+          (by-test (isByReference (D .scalars) (s .size)) _ _ _ _ (λ _. takes-integers reference _ 1 refl refl)
           (λ _. by-test (isFloat (s .kind) && eqb (s .kind) (D .scalars .«in_memory»)) _ _ _ _ (λ _. spends-nothing direct _ refl refl)
           (λ _. by-test ((D .scalars .«wide_integer_in_memory» && eqb (s .kind) integer) && ltb 1 want) _ _ _ _ (λ _. all-passed)
           (λ _. by-test (marked left && isFloat (s .kind)) _ _ _ _
           (λ _. in-pieces _ (made.cutSlots (s .size) (D .banks .«integer_width»)) _ _ (min want I) 0 refl refl (omega arith))
-          (λ _. in-registers s want))))
+          (λ _. in-registers s want)))))
 
       -- a scalar that comes back
       scalar-return : (s : Scalar) → Chooses (rust.returnedScalar D left s) (chosen (lone.scalarReturn (D .scalars) (D .«return_pointer») left s) when)
@@ -275,7 +277,8 @@ module _ (arg : args.Arg) (ps : List Piece) (left : Left) where
     travels D ByReference short shape false ss es = takes-integers when reference _ 1 refl refl
     travels D InMemory short shape returning ss es = spends-nothing when memory _ refl refl
     travels D InMemoryAndSpend short shape true ss es = spends-nothing when memory _ refl refl
-    travels D InMemoryAndSpend short shape false ss es = takes-integers when memory _ _ refl refl
+    travels D InMemoryAndSpend short shape false ss es =
+        rw (registers-wanted (shape .size) (D .banks .«integer_width»)) (takes-integers when memory _ _ refl refl)
 
 -- ---- the walk over the rules
 

@@ -44,11 +44,10 @@ use Rattle.find.proofs.Finds.{homogeneous-few, pair-few, x87-few, lone-one, mod
 use Rattle.eightbytes.proofs.Found.{at-most}
 use Rattle.spend.specs.declared.Left.{Left}
 use Rattle.spend.specs.Ways.{marked, withMark}
-use Rattle.spend.specs.Spending.{wantOf}
 use Rattle.find.specs.Matches.{isOneOf, matches}
 use Rattle.classify.specs.declared.Call.{Call}
 use Rattle.classify.specs.Pass.{pieces, passSlots}
-use Rattle.classify.specs.Classify.{Passed, passed, leaves, lessBoth, isIntegersOnly, scalar, integerCostOf, floatCostOf, shortOf, slotsInRegisters, travelIn, travel, orRest, tried, apply, returnedScalar, returns, argument, inMemoryAlways, variadicBy, variadicArgument}
+use Rattle.classify.specs.Classify.{Passed, passed, leaves, lessBoth, isIntegersOnly, registers, scalar, integerCostOf, floatCostOf, shortOf, slotsInRegisters, travelIn, travel, orRest, tried, apply, returnedScalar, returns, argument, inMemoryAlways, variadicBy, variadicArgument}
 use Rattle.classify.specs.Answers.{leftRefusal, argRefusal, checked, rowRefusal, refusalBy, refusalOf}
 use Rattle.classify.proofs.Accepted.{sound, call-checked}
 use Rattle.classify.proofs.Sources.{none-found, floats-cut}
@@ -312,7 +311,7 @@ module _ (D : Description) (left : Left) where
   scalar-few s h wide-enough =
       pick (isByReference (D .scalars) (s .size)) _ _ (λ _. omega arith)
       (pick (isFloat (s .kind) && eqb (s .kind) (D .scalars .«in_memory»)) _ _ (λ _. omega arith)
-      (pick ((D .scalars .«wide_integer_in_memory» && eqb (s .kind) integer) && ltb 1 (wantOf (s .size) (D .banks .«integer_width»))) _ _ (λ _. omega arith)
+      (pick ((D .scalars .«wide_integer_in_memory» && eqb (s .kind) integer) && ltb 1 (registers (s .size) (D .banks .«integer_width»))) _ _ (λ _. omega arith)
       (pick (marked left && isFloat (s .kind)) _ _
       (λ e. few-cut (s .size) (D .banks .«integer_width») (omega (arith, wide-enough (both-true (marked left) (isFloat (s .kind)) e .0))))
       (omega arith))))

@@ -1,5 +1,6 @@
 pub mod Steps
 pub mod Sources
+pub mod Registers
 pub mod Agree
 pub mod Accepted
 pub mod Ends

@@ -2,7 +2,7 @@
 -- travels, its slots, and the counts left as the Rust computes them. Subtraction stops at 0, as the Rust's saturating one does. What is passed
 -- over and given is not here: that is spend/specs/Spending.antt, spend_scalar/specs/Spending.antt and Spending.antt beside this file, and a theorem
 -- has the two agree. Most reasons stand there, too, and at the fields of descriptions (describe/src/lib.rt).
-use Prim.Native.Nat.{ℕ, _-_, _%_}
+use Prim.Native.Nat.{ℕ, _+_, _-_, _/_, _%_, max}
 use mathlib.Core.List.{List, [], _∷_}
 use mathlib.Core.Bool.{Bool, true, false, _&&_, _||_, not, cond}
 use mathlib.Core.Option.{Option}
@@ -13,7 +13,7 @@ use Rattle.shape.specs.declared.Arg as args
 use Rattle.shape.specs.declared.Piece.{Piece}
 use Rattle.shape.specs.declared.Scalar.{Scalar}
 use Rattle.shape.specs.declared.Shape.{Shape}
-use Rattle.shape.specs.Numbers.{integer}
+use Rattle.shape.specs.Numbers.{integer, oneIf}
 use Rattle.shape.specs.Questions.{isFloat}
 use Rattle.slots.specs.declared.Slot.{Slot}
 use Rattle.slots.specs.Words.{integerSlot, floatSlot}
@@ -33,7 +33,6 @@ use Rattle.describe.specs.Description.{Description}
 use Rattle.describe.specs.Questions.{isByReference, returnsByReference}
 use Rattle.spend.specs.declared.Left.{Left}
 use Rattle.spend.specs.Ways.{no-mark, marked, withMark}
-use Rattle.spend.specs.Spending.{wantOf}
 use Rattle.find.specs.Matches.{matches}
 use Rattle.classify.specs.Pass.{Pass, ignore, direct, pieces, reference, memory}
 
@@ -79,6 +78,17 @@ isIntegersOnly UnnamedIntegers = false
 abbrev pub variadic : Description → Left → Left
 variadic D left = cond (isIntegersOnly (D .variadic)) (withMark left) left
 
+-- ---- registers, which stands further down in the Rust
+
+-- a division that rounds up: one more where something is left over
+abbrev pub divCeil : ℕ → ℕ → ℕ
+divCeil n d = n / d + oneIf (ltb 0 (n % d))
+
+-- how many registers of a width a value of a size takes, which is at least one. The Rust has the count in 32 bits, and no size of the domain comes
+-- near their end
+unfoldable pub registers : ℕ → ℕ → ℕ
+registers size width = max (divCeil size (max width 1)) 1
+
 -- ---- scalar
 
 -- an integer that wants several registers: an even register first, and one that doesn't fit then may spend what is left (C.10, C.13)
@@ -104,7 +114,7 @@ afterScalar D left s want =
 
 unfoldable pub scalar : Description → Left → Scalar → Passed
 scalar D left s =
-    let want : ℕ = wantOf (s .size) (D .banks .«integer_width») in
+    let want : ℕ = registers (s .size) (D .banks .«integer_width») in
     cond (isByReference (D .scalars) (s .size)) (passed reference (less 1 left))
     (cond (isFloat (s .kind) && eqb (s .kind) (D .scalars .«in_memory»)) (passed direct left)
     (cond ((D .scalars .«wide_integer_in_memory» && eqb (s .kind) integer) && ltb 1 want)
@@ -148,7 +158,7 @@ abbrev pub travelIn : Travel → Description → Left → Short → List Slot �
 travelIn Ignore D left short ss shape returning = some (passed ignore left)
 travelIn InMemory D left short ss shape returning = some (passed memory left)
 travelIn InMemoryAndSpend D left short ss shape returning =
-    some (passed memory (cond returning left (less (wantOf (shape .size) (D .banks .«integer_width»)) left)))
+    some (passed memory (cond returning left (less (registers (shape .size) (D .banks .«integer_width»)) left)))
 travelIn ByReference D left short ss shape returning =
     some (passed reference (cond (not returning || isFirst (D .«return_pointer»)) (less 1 left) left))
 travelIn AsFound D left short ss shape returning = slotsInRegisters (D .banks .shared) left short ss returning

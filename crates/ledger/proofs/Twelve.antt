@@ -22,5 +22,5 @@ use Rattle.classify.specs.Answers as answers
 use Rattle.ledger.specs.Twelve.{twelve, answeredTo, expected}
 
 pub twelve-calls : map answeredTo twelve ≡ map expected twelve
-unfolding scalarRefusal pieceRefusal piecesRefusal listRefusal shapeRefusal allOf isAllOf piecesOf upTo cut floatsIn wordsOf putAt written abis.descriptions described foundIf floatsAt allSame isHomogeneous homogeneous pieceSlot fitsOne floatPair x87Stack loneFloat class.code class.same class.merge eight.cover eight.mark fits eight.classesAfter eight.spoiled eight.mend eight.settled eight.classified eight.slotsFrom eight.slotsFound eight.eightbytes rules.wantOf lone.skipOf lone.integerArgument lone.scalarInRegisters lone.scalarArgument rules.whenShort rules.inSlots rules.travelOf matches rust.afterScalar rust.scalar rust.shortOf rust.slotsInRegisters rust.travel rust.apply rust.returns rust.argument spending.byRules spending.scalarBy spending.aggregateBy spending.returnChoice spending.argumentChoice answers.leftRefusal answers.argRefusal answers.checked answers.rowRefusal answers.refusalBy answers.answerTo answers.writtenTo answers.returnsAnswerBy answers.returnsWrittenBy answers.argumentAnswerBy answers.argumentWrittenBy answers.returnsAnswer answers.returnsWritten answers.argumentAnswer answers.argumentWritten
+unfolding scalarRefusal pieceRefusal piecesRefusal listRefusal shapeRefusal allOf isAllOf piecesOf upTo cut floatsIn wordsOf putAt written abis.descriptions described foundIf floatsAt allSame isHomogeneous homogeneous pieceSlot fitsOne floatPair x87Stack loneFloat class.code class.same class.merge eight.cover eight.mark fits eight.classesAfter eight.spoiled eight.mend eight.settled eight.classified eight.slotsFrom eight.slotsFound eight.eightbytes rules.wantOf lone.skipOf lone.integerArgument lone.scalarInRegisters lone.scalarArgument rules.whenShort rules.inSlots rules.travelOf matches rust.registers rust.afterScalar rust.scalar rust.shortOf rust.slotsInRegisters rust.travel rust.apply rust.returns rust.argument spending.byRules spending.scalarBy spending.aggregateBy spending.returnChoice spending.argumentChoice answers.leftRefusal answers.argRefusal answers.checked answers.rowRefusal answers.refusalBy answers.answerTo answers.writtenTo answers.returnsAnswerBy answers.returnsWrittenBy answers.argumentAnswerBy answers.argumentWrittenBy answers.returnsAnswer answers.returnsWritten answers.argumentAnswer answers.argumentWritten
 twelve-calls = refl
