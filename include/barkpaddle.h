@@ -20,6 +20,8 @@
  *
  * Numbers to come. Later versions may add refusals, ways, kinds, conventions, descriptions and the codes of a description's fields; those
  * that are here keep their meaning. A program that meets a number it doesn't know should treat it as one that it can't handle.
+ *
+ * Names. Behind BARKPADDLE_ a macro's name has that of its group, but for refusals and limits. Comments leave BARKPADDLE_ out.
  */
 #ifndef BARKPADDLE_H
 #define BARKPADDLE_H
@@ -30,20 +32,53 @@
 extern "C" {
 #endif
 
+/* ---- the version ---- */
+
+/* The version of this header: one number, raised with each change of the header. A program that may be linked to an archive that was made
+ * elsewhere holds it against barkpaddle_version() before it asks anything else. Where they differ the archive goes with another header, and
+ * its answers aren't to be read by this one: link the archive that tools/staticlib makes beside this header. */
+#define BARKPADDLE_VERSION UINT64_C(1)
+
+/* The version of the header that the archive goes with. Refuses nothing. */
+uint64_t barkpaddle_version(void);
+
 /* ---- numbers ---- */
 
 /* "None", from an entry that looks something up. */
 #define BARKPADDLE_NONE UINT64_MAX
 
-/* The descriptions are numbered from 0 (REFERENCE 5.5 has all thirty). */
-#define BARKPADDLE_DESCRIPTIONS UINT64_C(30)
-#define BARKPADDLE_SYSV_AMD64 UINT64_C(0)
-#define BARKPADDLE_AAPCS64 UINT64_C(1)
-#define BARKPADDLE_DARWIN_ARM64 UINT64_C(2)
-#define BARKPADDLE_WINDOWS_ARM64 UINT64_C(3)
-#define BARKPADDLE_WINDOWS_X64 UINT64_C(4)
-#define BARKPADDLE_RISCV_LP64D UINT64_C(5)
-#define BARKPADDLE_I386_SYSV UINT64_C(6)
+/* The descriptions, numbered from 0 (REFERENCE 5.5); barkpaddle_name answers their names in full. REG_STRUCT is -freg-struct-return. */
+#define BARKPADDLE_ABI_COUNT UINT64_C(30)
+#define BARKPADDLE_ABI_SYSV_AMD64 UINT64_C(0)
+#define BARKPADDLE_ABI_AAPCS64 UINT64_C(1)
+#define BARKPADDLE_ABI_DARWIN_ARM64 UINT64_C(2)
+#define BARKPADDLE_ABI_WINDOWS_ARM64 UINT64_C(3)
+#define BARKPADDLE_ABI_WINDOWS_X64 UINT64_C(4)
+#define BARKPADDLE_ABI_RISCV_LP64D UINT64_C(5)
+#define BARKPADDLE_ABI_I386_SYSV UINT64_C(6)
+#define BARKPADDLE_ABI_I386_SYSV_REGPARM_1 UINT64_C(7)
+#define BARKPADDLE_ABI_I386_SYSV_REGPARM_2 UINT64_C(8)
+#define BARKPADDLE_ABI_I386_SYSV_REGPARM_3 UINT64_C(9)
+#define BARKPADDLE_ABI_I386_SYSV_REG_STRUCT UINT64_C(10)
+#define BARKPADDLE_ABI_I386_SYSV_REGPARM_1_REG_STRUCT UINT64_C(11)
+#define BARKPADDLE_ABI_I386_SYSV_REGPARM_2_REG_STRUCT UINT64_C(12)
+#define BARKPADDLE_ABI_I386_SYSV_REGPARM_3_REG_STRUCT UINT64_C(13)
+#define BARKPADDLE_ABI_I386_SYSV_STDCALL UINT64_C(14)
+#define BARKPADDLE_ABI_I386_SYSV_REGPARM_1_STDCALL UINT64_C(15)
+#define BARKPADDLE_ABI_I386_SYSV_REGPARM_2_STDCALL UINT64_C(16)
+#define BARKPADDLE_ABI_I386_SYSV_REGPARM_3_STDCALL UINT64_C(17)
+#define BARKPADDLE_ABI_I386_SYSV_REG_STRUCT_STDCALL UINT64_C(18)
+#define BARKPADDLE_ABI_I386_SYSV_REGPARM_1_REG_STRUCT_STDCALL UINT64_C(19)
+#define BARKPADDLE_ABI_I386_SYSV_REGPARM_2_REG_STRUCT_STDCALL UINT64_C(20)
+#define BARKPADDLE_ABI_I386_SYSV_REGPARM_3_REG_STRUCT_STDCALL UINT64_C(21)
+#define BARKPADDLE_ABI_I386_SYSV_FASTCALL UINT64_C(22)
+#define BARKPADDLE_ABI_I386_SYSV_REG_STRUCT_FASTCALL UINT64_C(23)
+#define BARKPADDLE_ABI_I386_MINGW UINT64_C(24)
+#define BARKPADDLE_ABI_I386_MSVC UINT64_C(25)
+#define BARKPADDLE_ABI_I386_MINGW_STDCALL UINT64_C(26)
+#define BARKPADDLE_ABI_I386_MINGW_FASTCALL UINT64_C(27)
+#define BARKPADDLE_ABI_I386_MSVC_STDCALL UINT64_C(28)
+#define BARKPADDLE_ABI_I386_MSVC_FASTCALL UINT64_C(29)
 
 /* Refusals. */
 #define BARKPADDLE_ACCEPTED UINT64_C(0)
@@ -56,20 +91,20 @@ extern "C" {
 #define BARKPADDLE_NO_ROOM UINT64_C(7)   /* the result doesn't fit the buffer */
 
 /* Kinds of scalars, pieces and slots. Those but the integer's are also called formats. */
-#define BARKPADDLE_INTEGER UINT64_C(0)
-#define BARKPADDLE_SINGLE UINT64_C(1)
-#define BARKPADDLE_DOUBLE UINT64_C(2)
-#define BARKPADDLE_X87_EXTENDED UINT64_C(3)
-#define BARKPADDLE_QUAD UINT64_C(4)
-/* "No format", in a description's fields and in barkpaddle_wide_integer_returns_in. */
-#define BARKPADDLE_NO_FORMAT UINT64_C(0)
+#define BARKPADDLE_KIND_INTEGER UINT64_C(0)
+#define BARKPADDLE_KIND_SINGLE UINT64_C(1)
+#define BARKPADDLE_KIND_DOUBLE UINT64_C(2)
+#define BARKPADDLE_KIND_X87_EXTENDED UINT64_C(3)
+#define BARKPADDLE_KIND_QUAD UINT64_C(4)
+/* No format, in a description's fields and in barkpaddle_wide_integer_returns_in, which never have the integer's number. */
+#define BARKPADDLE_KIND_NO_FORMAT UINT64_C(0)
 
 /* Ways in which a value travels. */
-#define BARKPADDLE_IGNORE UINT64_C(0)    /* nothing travels */
-#define BARKPADDLE_DIRECT UINT64_C(1)    /* the value itself, in the registers that it was given, or on the stack */
-#define BARKPADDLE_PIECES UINT64_C(2)    /* its bytes, in the slots that were written */
-#define BARKPADDLE_REFERENCE UINT64_C(3) /* the address of a copy, or of the place for a result */
-#define BARKPADDLE_MEMORY UINT64_C(4)    /* its bytes, in the argument area */
+#define BARKPADDLE_WAY_IGNORE UINT64_C(0)    /* nothing travels */
+#define BARKPADDLE_WAY_DIRECT UINT64_C(1)    /* the value itself, in the registers that it was given, or on the stack */
+#define BARKPADDLE_WAY_PIECES UINT64_C(2)    /* its bytes, in the slots that were written */
+#define BARKPADDLE_WAY_REFERENCE UINT64_C(3) /* the address of a copy, or of the place for a result */
+#define BARKPADDLE_WAY_MEMORY UINT64_C(4)    /* its bytes, in the argument area */
 
 /* The words of a scalar; of a piece, which is a scalar inside an aggregate; and of a slot, which is one register's worth of one. */
 #define BARKPADDLE_SCALAR_KIND 0
@@ -88,7 +123,7 @@ extern "C" {
 #define BARKPADDLE_SLOT_SIZE 2 /* 0 for a float: its kind says it */
 #define BARKPADDLE_SLOT_WORDS 3
 
-/* No result needs more slots than this, so a buffer of BARKPADDLE_MOST_SLOT_WORDS words is never too small. */
+/* No result needs more slots than this, so a buffer of MOST_SLOT_WORDS words is never too small. */
 #define BARKPADDLE_MOST_SLOTS 8
 #define BARKPADDLE_MOST_SLOT_WORDS (BARKPADDLE_MOST_SLOTS * BARKPADDLE_SLOT_WORDS)
 
@@ -108,54 +143,54 @@ extern "C" {
 #define BARKPADDLE_MOST_NAME_BYTES 64
 
 /* Architectures. */
-#define BARKPADDLE_X86 UINT64_C(0)
-#define BARKPADDLE_X86_64 UINT64_C(1)
-#define BARKPADDLE_AARCH64 UINT64_C(2)
-#define BARKPADDLE_RISCV64 UINT64_C(3)
-#define BARKPADDLE_OTHER_ARCHITECTURE UINT64_C(4)
+#define BARKPADDLE_ARCH_X86 UINT64_C(0)
+#define BARKPADDLE_ARCH_X86_64 UINT64_C(1)
+#define BARKPADDLE_ARCH_AARCH64 UINT64_C(2)
+#define BARKPADDLE_ARCH_RISCV64 UINT64_C(3)
+#define BARKPADDLE_ARCH_OTHER UINT64_C(4)
 
 /* Systems. */
-#define BARKPADDLE_WINDOWS UINT64_C(0)
-#define BARKPADDLE_MACOS UINT64_C(1)
-#define BARKPADDLE_OTHER_DARWIN UINT64_C(2)
-#define BARKPADDLE_OTHER_SYSTEM UINT64_C(3)
+#define BARKPADDLE_SYSTEM_WINDOWS UINT64_C(0)
+#define BARKPADDLE_SYSTEM_MACOS UINT64_C(1)
+#define BARKPADDLE_SYSTEM_OTHER_DARWIN UINT64_C(2)
+#define BARKPADDLE_SYSTEM_OTHER UINT64_C(3)
 
 /* Conventions. */
-#define BARKPADDLE_TARGET UINT64_C(0) /* the target's own */
-#define BARKPADDLE_MS UINT64_C(1)
-#define BARKPADDLE_SYSV UINT64_C(2)
-#define BARKPADDLE_STDCALL UINT64_C(3)
-#define BARKPADDLE_FASTCALL UINT64_C(4)
-#define BARKPADDLE_NO_CALLEE_SAVED UINT64_C(5)
-#define BARKPADDLE_PRESERVE_NONE UINT64_C(6)
-#define BARKPADDLE_REGPARM(n) (UINT64_C(256) + (n)) /* n from 0 to 255 */
+#define BARKPADDLE_CONVENTION_TARGET UINT64_C(0) /* the target's own */
+#define BARKPADDLE_CONVENTION_MS UINT64_C(1)
+#define BARKPADDLE_CONVENTION_SYSV UINT64_C(2)
+#define BARKPADDLE_CONVENTION_STDCALL UINT64_C(3)
+#define BARKPADDLE_CONVENTION_FASTCALL UINT64_C(4)
+#define BARKPADDLE_CONVENTION_NO_CALLEE_SAVED UINT64_C(5)
+#define BARKPADDLE_CONVENTION_PRESERVE_NONE UINT64_C(6)
+#define BARKPADDLE_CONVENTION_REGPARM(n) (UINT64_C(256) + (n)) /* n from 0 to 255 */
 
-/* A description's fields (REFERENCE 5.4). */
-#define BARKPADDLE_FIRST_ARGUMENT UINT64_C(0) /* return_pointer */
-#define BARKPADDLE_FIRST_ARGUMENT_POPPED UINT64_C(1)
-#define BARKPADDLE_DEDICATED UINT64_C(2)
+/* A description's fields, each by its own name (REFERENCE 5.4). */
+#define BARKPADDLE_RETURN_POINTER_FIRST_ARGUMENT UINT64_C(0)
+#define BARKPADDLE_RETURN_POINTER_FIRST_ARGUMENT_POPPED UINT64_C(1)
+#define BARKPADDLE_RETURN_POINTER_DEDICATED UINT64_C(2)
 
-#define BARKPADDLE_SAME_AS_FIXED UINT64_C(0) /* variadic */
-#define BARKPADDLE_ALWAYS_MEMORY UINT64_C(1)
-#define BARKPADDLE_BOTH_BANKS UINT64_C(2)
-#define BARKPADDLE_INTEGERS_ONLY UINT64_C(3)
-#define BARKPADDLE_UNNAMED_INTEGERS UINT64_C(4)
+#define BARKPADDLE_VARIADIC_SAME_AS_FIXED UINT64_C(0)
+#define BARKPADDLE_VARIADIC_ALWAYS_MEMORY UINT64_C(1)
+#define BARKPADDLE_VARIADIC_BOTH_BANKS UINT64_C(2)
+#define BARKPADDLE_VARIADIC_INTEGERS_ONLY UINT64_C(3)
+#define BARKPADDLE_VARIADIC_UNNAMED_INTEGERS UINT64_C(4)
 
-#define BARKPADDLE_REGISTER_SIZED UINT64_C(0) /* stack_args */
-#define BARKPADDLE_PACKED UINT64_C(1)
+#define BARKPADDLE_STACK_ARGS_REGISTER_SIZED UINT64_C(0)
+#define BARKPADDLE_STACK_ARGS_PACKED UINT64_C(1)
 
-#define BARKPADDLE_UNSPECIFIED UINT64_C(0) /* narrow */
-#define BARKPADDLE_TO_INT UINT64_C(1)
-#define BARKPADDLE_ARGS_TO_INT UINT64_C(2)
+#define BARKPADDLE_NARROW_UNSPECIFIED UINT64_C(0)
+#define BARKPADDLE_NARROW_TO_INT UINT64_C(1)
+#define BARKPADDLE_NARROW_ARGS_TO_INT UINT64_C(2)
 
-#define BARKPADDLE_SPARE_BITS UINT64_C(0) /* bit_ints */
-#define BARKPADDLE_UNTAUGHT UINT64_C(1)
+#define BARKPADDLE_BIT_INTS_SPARE_BITS UINT64_C(0)
+#define BARKPADDLE_BIT_INTS_UNTAUGHT UINT64_C(1)
 
-#define BARKPADDLE_CALLER UINT64_C(0) /* cleanup */
-#define BARKPADDLE_CALLEE UINT64_C(1)
+#define BARKPADDLE_CLEANUP_CALLER UINT64_C(0)
+#define BARKPADDLE_CLEANUP_CALLEE UINT64_C(1)
 
 /* A rule's test. The number beside it is a limit, four sizes (below), or 0 where the test has none. */
-#define BARKPADDLE_NO_RULE UINT64_C(0) /* past the end of the list */
+#define BARKPADDLE_TEST_NO_RULE UINT64_C(0) /* past the end of the list */
 #define BARKPADDLE_TEST_ANYTHING UINT64_C(1)
 #define BARKPADDLE_TEST_EMPTY UINT64_C(2)
 #define BARKPADDLE_TEST_SIZE_ONE_OF UINT64_C(3)  /* four sizes */
@@ -168,7 +203,7 @@ extern "C" {
 #define BARKPADDLE_TEST_COMPLEX_FLOAT UINT64_C(10)
 #define BARKPADDLE_TEST_EIGHTBYTES UINT64_C(11) /* a limit in bytes */
 /* Size `i`, from 0 to 3, of the four in a test's number: two bits each, the first lowest, for 1, 2, 4 and 8. */
-#define BARKPADDLE_SIZE_ONE_OF(number, i) (UINT64_C(1) << (((number) >> (2 * (i))) & 3))
+#define BARKPADDLE_TEST_SIZE(number, i) (UINT64_C(1) << (((number) >> (2 * (i))) & 3))
 
 /* How an aggregate travels where the test matched. */
 #define BARKPADDLE_TRAVEL_IGNORE UINT64_C(0)
@@ -271,7 +306,7 @@ typedef struct barkpaddle_rule {
  * kind, size, offset, alignment. Void has nothing to check.
  *
  * `words` are an aggregate's pieces, `words_length` words of them. Slots go to the front of `slots`, which has `slots_length` words and so
- * room for a third as many slots, rounded down; ways other than PIECES write nothing. NO_ROOM judges what the result needs.
+ * room for a third as many slots, rounded down; ways other than WAY_PIECES write nothing. NO_ROOM judges what the result needs.
  */
 
 /* The start of a call on a description: both banks whole, no mark. Refuses BAD_ABI. */
@@ -311,7 +346,7 @@ barkpaddle_answer barkpaddle_variadic_argument_aggregate(
     uint64_t abi, uint64_t integer, uint64_t float_, uint64_t integers_only, uint64_t size, uint64_t align, uint64_t complex_,
     uint64_t floating, const uint64_t *words, uint64_t words_length, uint64_t *slots, uint64_t slots_length);
 
-/* What a fixed argument that travels as MEMORY is aligned to in the argument area (REFERENCE 9.7). Refuses like
+/* What a fixed argument that travels as WAY_MEMORY is aligned to in the argument area (REFERENCE 9.7). Refuses like
  * barkpaddle_argument_aggregate, but never NO_ROOM. */
 barkpaddle_told barkpaddle_in_memory(
     uint64_t abi, uint64_t integer, uint64_t float_, uint64_t integers_only, uint64_t size, uint64_t align, uint64_t complex_,
@@ -321,15 +356,15 @@ barkpaddle_told barkpaddle_in_memory(
  *
  * A call that is kept in one place and updated there. It starts as barkpaddle_fresh says:
  *
- *     barkpaddle_call call = barkpaddle_fresh(BARKPADDLE_SYSV_AMD64).next;
+ *     barkpaddle_call call = barkpaddle_fresh(BARKPADDLE_ABI_SYSV_AMD64).next;
  *
  * Each entry is lent the call and stores the next one in its place. It answers and refuses what the entry above that takes the same call
  * and the same value answers and refuses, and writes the same slots. It is the same call in both forms, and they can be mixed. A refused
  * operation leaves the call and the slots as they were.
  *
- * What is asked has a form, and the fields that the form doesn't read may hold anything: VOID reads none, SCALAR kind, size and align,
- * AGGREGATE size, align, complex_ and floating. An aggregate's pieces are `words`, which no other form looks at. A form of another number
- * is refused BAD_KIND, after BAD_ABI and BAD_CALL.
+ * What is asked has a form, and the fields that the form doesn't read may hold anything: FORM_VOID reads none, FORM_SCALAR kind, size and
+ * align, FORM_AGGREGATE size, align, complex_ and floating. An aggregate's pieces are `words`, which no other form looks at. A form of
+ * another number is refused BAD_KIND, after BAD_ABI and BAD_CALL.
  *
  * `call` has to point to a call. Neither it nor what `slots` points to may overlap anything else that is lent.
  */
@@ -372,8 +407,8 @@ barkpaddle_record_shape barkpaddle_record(const uint64_t *words, uint64_t words_
 /* Its fields. Refuses BAD_ABI; every other field is 0 then. */
 barkpaddle_description_fields barkpaddle_description(uint64_t abi);
 
-/* Rule `index`, from 0, of its list for returns and of its list for arguments. Past the end of the list the test is NO_RULE and the other
- * fields are 0. Refuses BAD_ABI. */
+/* Rule `index`, from 0, of its list for returns and of its list for arguments. Past the end of the list the test is TEST_NO_RULE and the
+ * other fields are 0. Refuses BAD_ABI. */
 barkpaddle_rule barkpaddle_return_rule(uint64_t abi, uint64_t index);
 barkpaddle_rule barkpaddle_argument_rule(uint64_t abi, uint64_t index);
 
@@ -382,7 +417,7 @@ barkpaddle_told barkpaddle_name(uint64_t abi, uint8_t *name, uint64_t name_lengt
 
 /* Questions about a scalar of a size (REFERENCE 5.7). Each refuses BAD_ABI, then BAD_SIZE. The first two answer yes or no: does it travel
  * as the address of a copy; does it come back through an address that the caller passes. The third answers the format in which an
- * integer comes back that would be by reference otherwise, or NO_FORMAT. */
+ * integer comes back that would be by reference otherwise, or KIND_NO_FORMAT. */
 barkpaddle_told barkpaddle_scalar_is_by_reference(uint64_t abi, uint64_t size);
 barkpaddle_told barkpaddle_scalar_returns_by_reference(uint64_t abi, uint64_t size);
 barkpaddle_told barkpaddle_wide_integer_returns_in(uint64_t abi, uint64_t size);

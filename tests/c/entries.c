@@ -14,28 +14,84 @@
 
 #include "barkpaddle.h"
 
-/* C99 has no static assertion: an array of -1 items isn't compiled. */
+/* C99 and C++98 have no static assertion: an array of -1 items isn't compiled. */
 #define HOLDS(name, fact) typedef char name[(fact) ? 1 : -1]
 
-/* The structs are laid out as the library has them. */
-HOLDS(call_has_32_bytes, sizeof(barkpaddle_call) == 32);
-HOLDS(call_abi_at_0, offsetof(barkpaddle_call, abi) == 0);
-HOLDS(call_integer_at_8, offsetof(barkpaddle_call, integer) == 8);
-HOLDS(call_float_at_16, offsetof(barkpaddle_call, float_) == 16);
-HOLDS(call_mark_at_24, offsetof(barkpaddle_call, integers_only) == 24);
-HOLDS(call_mark_is_a_word, sizeof(((barkpaddle_call *)0)->integers_only) == 8);
-HOLDS(outcome_has_7_words, sizeof(barkpaddle_outcome) == 7 * 8);
-HOLDS(outcome_refusal_at_0, offsetof(barkpaddle_outcome, refusal) == 0);
-HOLDS(outcome_way_at_8, offsetof(barkpaddle_outcome, way) == 8);
-HOLDS(outcome_integers_passed_at_16, offsetof(barkpaddle_outcome, integers_passed) == 16);
-HOLDS(outcome_integers_given_at_24, offsetof(barkpaddle_outcome, integers_given) == 24);
-HOLDS(outcome_floats_passed_at_32, offsetof(barkpaddle_outcome, floats_passed) == 32);
-HOLDS(outcome_floats_given_at_40, offsetof(barkpaddle_outcome, floats_given) == 40);
-HOLDS(outcome_slots_at_48, offsetof(barkpaddle_outcome, slots) == 48);
-HOLDS(answer_has_11_words, sizeof(barkpaddle_answer) == 11 * 8);
-HOLDS(answer_next_at_0, offsetof(barkpaddle_answer, next) == 0);
-HOLDS(answer_outcome_at_32, offsetof(barkpaddle_answer, outcome) == 32);
-HOLDS(what_has_6_words, sizeof(barkpaddle_what) == 6 * 8);
+/* Every struct of the header has so many words, and each of its fields is the word of this number. */
+#define WORDS(type, count) HOLDS(type##_words, sizeof(barkpaddle_##type) == 8 * (count))
+#define WORD(type, field, at) \
+    HOLDS(type##_##field, offsetof(barkpaddle_##type, field) == 8 * (at) && sizeof(((barkpaddle_##type *)0)->field) == 8)
+
+WORDS(call, 4);
+WORD(call, abi, 0);
+WORD(call, integer, 1);
+WORD(call, float_, 2);
+WORD(call, integers_only, 3);
+
+WORDS(outcome, 7);
+WORD(outcome, refusal, 0);
+WORD(outcome, way, 1);
+WORD(outcome, integers_passed, 2);
+WORD(outcome, integers_given, 3);
+WORD(outcome, floats_passed, 4);
+WORD(outcome, floats_given, 5);
+WORD(outcome, slots, 6);
+
+/* an answer's two fields are structs themselves */
+WORDS(answer, 11);
+HOLDS(answer_next, offsetof(barkpaddle_answer, next) == 0);
+HOLDS(answer_next_is_a_call, sizeof(((barkpaddle_answer *)0)->next) == sizeof(barkpaddle_call));
+HOLDS(answer_outcome, offsetof(barkpaddle_answer, outcome) == 8 * 4);
+HOLDS(answer_outcome_is_one, sizeof(((barkpaddle_answer *)0)->outcome) == sizeof(barkpaddle_outcome));
+
+WORDS(told, 2);
+WORD(told, refusal, 0);
+WORD(told, value, 1);
+
+WORDS(record_shape, 5);
+WORD(record_shape, refusal, 0);
+WORD(record_shape, size, 1);
+WORD(record_shape, align, 2);
+WORD(record_shape, complex_, 3);
+WORD(record_shape, floating, 4);
+
+WORDS(description_fields, 21);
+WORD(description_fields, refusal, 0);
+WORD(description_fields, integer, 1);
+WORD(description_fields, float_, 2);
+WORD(description_fields, shared, 3);
+WORD(description_fields, integer_width, 4);
+WORD(description_fields, float_width, 5);
+WORD(description_fields, in_memory, 6);
+WORD(description_fields, wide_integer_is_all_or_nothing, 7);
+WORD(description_fields, wide_integer_starts_even, 8);
+WORD(description_fields, wide_integer_drains, 9);
+WORD(description_fields, wide_is_by_reference, 10);
+WORD(description_fields, wide_integer_returns_in, 11);
+WORD(description_fields, wide_integer_in_memory, 12);
+WORD(description_fields, decimal_in_integers, 13);
+WORD(description_fields, quad_returns_by_reference, 14);
+WORD(description_fields, return_pointer, 15);
+WORD(description_fields, variadic, 16);
+WORD(description_fields, stack_args, 17);
+WORD(description_fields, narrow, 18);
+WORD(description_fields, bit_ints, 19);
+WORD(description_fields, cleanup, 20);
+
+WORDS(rule, 5);
+WORD(rule, refusal, 0);
+WORD(rule, test, 1);
+WORD(rule, number, 2);
+WORD(rule, travel, 3);
+WORD(rule, short_, 4);
+
+WORDS(what, 6);
+WORD(what, form, 0);
+WORD(what, kind, 1);
+WORD(what, size, 2);
+WORD(what, align, 3);
+WORD(what, complex_, 4);
+WORD(what, floating, 5);
 
 static unsigned long passed;
 static unsigned long failed;
@@ -363,21 +419,21 @@ static void twelve(void)
     static const uint64_t n11[] = {1, 0, 0, 1, 0, 0}, s11[] = {0, 0, 8};
     static const uint64_t n12[] = {1, 0, 0, 0, 0, 0}, n12b[] = {0, 0, 1, 0, 0, 0};
 
-    LINE("call 1", ARGUMENT, call_of(0, 6, 8, 0), aggregate(16, 8, int8_double, 8), BARKPADDLE_PIECES, n1, s1);
-    BARE("call 2", ARGUMENT, call_of(0, 1, 8, 0), aggregate(16, 8, two_int8, 8), BARKPADDLE_MEMORY, n2);
-    BARE("call 3", ARGUMENT, call_of(0, 1, 8, 0), scalar(0, 16, 16), BARKPADDLE_DIRECT, n2);
-    BARE("call 4, argument", ARGUMENT, call_of(0, 6, 8, 0), aggregate(16, 16, one_x87, 4), BARKPADDLE_MEMORY, n4);
-    LINE("call 4, return", RETURN, call_of(0, 6, 8, 0), aggregate(16, 16, one_x87, 4), BARKPADDLE_PIECES, n4, s4);
-    LINE("call 5", ARGUMENT, call_of(0, 6, 8, 0), aggregate(12, 4, singles, 12), BARKPADDLE_PIECES, n5, s5);
-    BARE("call 6, row 1", ARGUMENT, call_of(1, 7, 8, 0), scalar(0, 16, 16), BARKPADDLE_DIRECT, n6);
-    BARE("call 6, row 2", ARGUMENT, call_of(2, 7, 8, 0), scalar(0, 16, 16), BARKPADDLE_DIRECT, n6b);
-    BARE("call 7", ARGUMENT, call_of(1, 8, 8, 0), aggregate(20, 4, singles, 20), BARKPADDLE_REFERENCE, n7);
-    BARE("call 8", ARGUMENT, call_of(1, 8, 2, 0), aggregate(24, 8, doubles, 12), BARKPADDLE_MEMORY, n8);
-    BARE("call 9", ARGUMENT, call_of(4, 4, 0, 0), aggregate(0, 1, NULL, 0), BARKPADDLE_REFERENCE, n9);
-    LINE("call 10", ARGUMENT, call_of(4, 0, 0, 0), aggregate(8, 8, NULL, 0), BARKPADDLE_PIECES, n10, s10);
-    LINE("call 11", ARGUMENT, call_of(5, 2, 0, 0), aggregate(8, 4, single_int4, 8), BARKPADDLE_PIECES, n11, s11);
-    BARE("call 12, scalar", ARGUMENT, call_of(9, 1, 0, 0), scalar(0, 8, 8), BARKPADDLE_DIRECT, n12);
-    BARE("call 12, aggregate", ARGUMENT, call_of(9, 1, 0, 0), aggregate(8, 4, int4_single, 8), BARKPADDLE_MEMORY, n12b);
+    LINE("call 1", ARGUMENT, call_of(0, 6, 8, 0), aggregate(16, 8, int8_double, 8), BARKPADDLE_WAY_PIECES, n1, s1);
+    BARE("call 2", ARGUMENT, call_of(0, 1, 8, 0), aggregate(16, 8, two_int8, 8), BARKPADDLE_WAY_MEMORY, n2);
+    BARE("call 3", ARGUMENT, call_of(0, 1, 8, 0), scalar(0, 16, 16), BARKPADDLE_WAY_DIRECT, n2);
+    BARE("call 4, argument", ARGUMENT, call_of(0, 6, 8, 0), aggregate(16, 16, one_x87, 4), BARKPADDLE_WAY_MEMORY, n4);
+    LINE("call 4, return", RETURN, call_of(0, 6, 8, 0), aggregate(16, 16, one_x87, 4), BARKPADDLE_WAY_PIECES, n4, s4);
+    LINE("call 5", ARGUMENT, call_of(0, 6, 8, 0), aggregate(12, 4, singles, 12), BARKPADDLE_WAY_PIECES, n5, s5);
+    BARE("call 6, row 1", ARGUMENT, call_of(1, 7, 8, 0), scalar(0, 16, 16), BARKPADDLE_WAY_DIRECT, n6);
+    BARE("call 6, row 2", ARGUMENT, call_of(2, 7, 8, 0), scalar(0, 16, 16), BARKPADDLE_WAY_DIRECT, n6b);
+    BARE("call 7", ARGUMENT, call_of(1, 8, 8, 0), aggregate(20, 4, singles, 20), BARKPADDLE_WAY_REFERENCE, n7);
+    BARE("call 8", ARGUMENT, call_of(1, 8, 2, 0), aggregate(24, 8, doubles, 12), BARKPADDLE_WAY_MEMORY, n8);
+    BARE("call 9", ARGUMENT, call_of(4, 4, 0, 0), aggregate(0, 1, NULL, 0), BARKPADDLE_WAY_REFERENCE, n9);
+    LINE("call 10", ARGUMENT, call_of(4, 0, 0, 0), aggregate(8, 8, NULL, 0), BARKPADDLE_WAY_PIECES, n10, s10);
+    LINE("call 11", ARGUMENT, call_of(5, 2, 0, 0), aggregate(8, 4, single_int4, 8), BARKPADDLE_WAY_PIECES, n11, s11);
+    BARE("call 12, scalar", ARGUMENT, call_of(9, 1, 0, 0), scalar(0, 8, 8), BARKPADDLE_WAY_DIRECT, n12);
+    BARE("call 12, aggregate", ARGUMENT, call_of(9, 1, 0, 0), aggregate(8, 4, int4_single, 8), BARKPADDLE_WAY_MEMORY, n12b);
 }
 
 /* Cases beside the table, by the lines that the original prints for them. */
@@ -397,46 +453,46 @@ static void beside_the_twelve(void)
     uint64_t mark;
     value v;
 
-    BARE("seven words evenly", ARGUMENT, call_of(1, 7, 8, 0), scalar(0, 56, 16), BARKPADDLE_DIRECT, seven_passed);
-    BARE("seven words", ARGUMENT, call_of(2, 7, 8, 0), scalar(0, 56, 16), BARKPADDLE_DIRECT, seven_given);
-    BARE("fastcall, wide", ARGUMENT, call_of(22, 2, 0, 0), scalar(0, 8, 8), BARKPADDLE_DIRECT, fastcall_passed);
-    BARE("fastcall, record", ARGUMENT, call_of(22, 2, 0, 0), aggregate(8, 4, NULL, 0), BARKPADDLE_MEMORY, fastcall_given);
+    BARE("seven words evenly", ARGUMENT, call_of(1, 7, 8, 0), scalar(0, 56, 16), BARKPADDLE_WAY_DIRECT, seven_passed);
+    BARE("seven words", ARGUMENT, call_of(2, 7, 8, 0), scalar(0, 56, 16), BARKPADDLE_WAY_DIRECT, seven_given);
+    BARE("fastcall, wide", ARGUMENT, call_of(22, 2, 0, 0), scalar(0, 8, 8), BARKPADDLE_WAY_DIRECT, fastcall_passed);
+    BARE("fastcall, record", ARGUMENT, call_of(22, 2, 0, 0), aggregate(8, 4, NULL, 0), BARKPADDLE_WAY_MEMORY, fastcall_given);
 
     /* any number but 0 is the mark; it comes back as it was */
     for (mark = 1; mark != 0; mark <<= 1) {
-        LINE("a marked call", ARGUMENT, call_of(3, 8, 8, mark), scalar(2, 8, 8), BARKPADDLE_PIECES, marked, one_int);
-        LINE("a marked call, after the dots", AFTER_DOTS, call_of(3, 8, 8, mark), scalar(2, 8, 8), BARKPADDLE_PIECES, marked, one_int);
-        BARE("a marked call's return", RETURN, call_of(3, 8, 8, mark), scalar(2, 8, 8), BARKPADDLE_DIRECT, no_pointer);
+        LINE("a marked call", ARGUMENT, call_of(3, 8, 8, mark), scalar(2, 8, 8), BARKPADDLE_WAY_PIECES, marked, one_int);
+        LINE("a marked call, after the dots", AFTER_DOTS, call_of(3, 8, 8, mark), scalar(2, 8, 8), BARKPADDLE_WAY_PIECES, marked, one_int);
+        BARE("a marked call's return", RETURN, call_of(3, 8, 8, mark), scalar(2, 8, 8), BARKPADDLE_WAY_DIRECT, no_pointer);
     }
-    LINE("eight slots", ARGUMENT, call_of(3, 8, 8, 1), scalar(4, 64, 16), BARKPADDLE_PIECES, all_given, eight_ints);
-    BARE("a float without size", ARGUMENT, call_of(3, 8, 8, 1), scalar(1, 0, 0), BARKPADDLE_PIECES, marked);
-    BARE("after the dots, no mark", AFTER_DOTS, call_of(3, 8, 8, 0), scalar(2, 8, 8), BARKPADDLE_DIRECT, float_given);
+    LINE("eight slots", ARGUMENT, call_of(3, 8, 8, 1), scalar(4, 64, 16), BARKPADDLE_WAY_PIECES, all_given, eight_ints);
+    BARE("a float without size", ARGUMENT, call_of(3, 8, 8, 1), scalar(1, 0, 0), BARKPADDLE_WAY_PIECES, marked);
+    BARE("after the dots, no mark", AFTER_DOTS, call_of(3, 8, 8, 0), scalar(2, 8, 8), BARKPADDLE_WAY_DIRECT, float_given);
 
-    BARE("a large return", RETURN, call_of(0, 6, 8, 0), aggregate(100, 8, NULL, 0), BARKPADDLE_REFERENCE, pointer);
-    BARE("a dedicated pointer", RETURN, call_of(1, 8, 8, 0), aggregate(100, 8, NULL, 0), BARKPADDLE_REFERENCE, no_pointer);
-    LINE("a wide integer's return", RETURN, call_of(4, 4, 0, 0), scalar(0, 16, 16), BARKPADDLE_PIECES, wide_return, quad_slot);
-    BARE("a Quad's return", RETURN, call_of(4, 4, 0, 0), scalar(4, 16, 16), BARKPADDLE_REFERENCE, quad_pointer);
-    BARE("a scalar's return", RETURN, call_of(0, 6, 8, 0), scalar(0, 8, 8), BARKPADDLE_DIRECT, fresh_0);
+    BARE("a large return", RETURN, call_of(0, 6, 8, 0), aggregate(100, 8, NULL, 0), BARKPADDLE_WAY_REFERENCE, pointer);
+    BARE("a dedicated pointer", RETURN, call_of(1, 8, 8, 0), aggregate(100, 8, NULL, 0), BARKPADDLE_WAY_REFERENCE, no_pointer);
+    LINE("a wide integer's return", RETURN, call_of(4, 4, 0, 0), scalar(0, 16, 16), BARKPADDLE_WAY_PIECES, wide_return, quad_slot);
+    BARE("a Quad's return", RETURN, call_of(4, 4, 0, 0), scalar(4, 16, 16), BARKPADDLE_WAY_REFERENCE, quad_pointer);
+    BARE("a scalar's return", RETURN, call_of(0, 6, 8, 0), scalar(0, 8, 8), BARKPADDLE_WAY_DIRECT, fresh_0);
 
-    BARE("row 2, scalar after the dots", AFTER_DOTS, call_of(2, 5, 8, 0), scalar(0, 16, 16), BARKPADDLE_DIRECT, after_dots);
-    BARE("row 2, record after the dots", AFTER_DOTS, call_of(2, 5, 8, 0), aggregate(16, 8, NULL, 0), BARKPADDLE_MEMORY, after_dots);
-    BARE("row 2, large after the dots", AFTER_DOTS, call_of(2, 5, 8, 0), aggregate(17, 8, NULL, 0), BARKPADDLE_REFERENCE, after_dots);
-    BARE("row 2, void after the dots", AFTER_DOTS, call_of(2, 5, 8, 0), nothing, BARKPADDLE_IGNORE, after_dots);
-    LINE("row 5 after the dots", AFTER_DOTS, call_of(5, 8, 8, 0), scalar(2, 8, 8), BARKPADDLE_PIECES, marked, one_int);
+    BARE("row 2, scalar after the dots", AFTER_DOTS, call_of(2, 5, 8, 0), scalar(0, 16, 16), BARKPADDLE_WAY_DIRECT, after_dots);
+    BARE("row 2, record after the dots", AFTER_DOTS, call_of(2, 5, 8, 0), aggregate(16, 8, NULL, 0), BARKPADDLE_WAY_MEMORY, after_dots);
+    BARE("row 2, large after the dots", AFTER_DOTS, call_of(2, 5, 8, 0), aggregate(17, 8, NULL, 0), BARKPADDLE_WAY_REFERENCE, after_dots);
+    BARE("row 2, void after the dots", AFTER_DOTS, call_of(2, 5, 8, 0), nothing, BARKPADDLE_WAY_IGNORE, after_dots);
+    LINE("row 5 after the dots", AFTER_DOTS, call_of(5, 8, 8, 0), scalar(2, 8, 8), BARKPADDLE_WAY_PIECES, marked, one_int);
 
-    BARE("void argument", ARGUMENT, call_of(0, 6, 8, 0), nothing, BARKPADDLE_IGNORE, fresh_0);
-    BARE("void return", RETURN, call_of(0, 6, 8, 0), nothing, BARKPADDLE_IGNORE, fresh_0);
-    BARE("an empty record", ARGUMENT, call_of(0, 6, 8, 0), aggregate(0, 1, NULL, 0), BARKPADDLE_IGNORE, fresh_0);
+    BARE("void argument", ARGUMENT, call_of(0, 6, 8, 0), nothing, BARKPADDLE_WAY_IGNORE, fresh_0);
+    BARE("void return", RETURN, call_of(0, 6, 8, 0), nothing, BARKPADDLE_WAY_IGNORE, fresh_0);
+    BARE("an empty record", ARGUMENT, call_of(0, 6, 8, 0), aggregate(0, 1, NULL, 0), BARKPADDLE_WAY_IGNORE, fresh_0);
 
     /* the complex and the floating mark: any number but 0 sets them (row 22's FloatingMode, row 9's ComplexFloat return) */
     for (mark = 1; mark != 0; mark <<= 1) {
         v = aggregate(8, 4, singles, 8);
         v.complex_ = mark;
-        BARE("a complex on fastcall", ARGUMENT, call_of(22, 2, 0, 0), v, BARKPADDLE_MEMORY, complex_drain);
-        LINE("a complex back", RETURN, call_of(22, 2, 0, 0), v, BARKPADDLE_PIECES, complex_drain, complex_slots);
+        BARE("a complex on fastcall", ARGUMENT, call_of(22, 2, 0, 0), v, BARKPADDLE_WAY_MEMORY, complex_drain);
+        LINE("a complex back", RETURN, call_of(22, 2, 0, 0), v, BARKPADDLE_WAY_PIECES, complex_drain, complex_slots);
         v = aggregate(8, 4, NULL, 0);
         v.floating = mark;
-        BARE("a floating mode on fastcall", ARGUMENT, call_of(22, 2, 0, 0), v, BARKPADDLE_MEMORY, complex_drain);
+        BARE("a floating mode on fastcall", ARGUMENT, call_of(22, 2, 0, 0), v, BARKPADDLE_WAY_MEMORY, complex_drain);
     }
 }
 
@@ -467,19 +523,19 @@ static void refusals_of(enum operation operation)
     }
 
     /* 2: each bank's start passes, one above it doesn't; the mark belongs to row 3 alone */
-    for (i = 0; i < BARKPADDLE_DESCRIPTIONS; i++) {
+    for (i = 0; i < BARKPADDLE_ABI_COUNT; i++) {
         barkpaddle_call start = barkpaddle_fresh(i).next;
 
         check_refused("BAD_CALL, integers", operation, call_of(i, start.integer + 1, start.float_, 0), bad, 24, BARKPADDLE_BAD_CALL);
         check_refused("BAD_CALL, floats", operation, call_of(i, start.integer, start.float_ + 1, 0), nothing, 24, BARKPADDLE_BAD_CALL);
         check_refused("BAD_CALL, most", operation, call_of(i, UINT64_MAX, 0, 0), scalar(9, 9, 9), 24, BARKPADDLE_BAD_CALL);
-        if (i != BARKPADDLE_WINDOWS_ARM64) {
+        if (i != BARKPADDLE_ABI_WINDOWS_ARM64) {
             check_refused("BAD_CALL, mark", operation, call_of(i, 0, 0, 1), nothing, 24, BARKPADDLE_BAD_CALL);
             check_refused("BAD_CALL, any mark", operation, call_of(i, 0, 0, UINT64_C(1) << 63), bad, 24, BARKPADDLE_BAD_CALL);
         }
         fill();
         a = perform(operation, call_of(i, start.integer, start.float_, 0), nothing, NULL, 0);
-        check_answer("a whole call", a, 0, BARKPADDLE_IGNORE, call_of(i, start.integer, start.float_, 0), no_spending, 0);
+        check_answer("a whole call", a, 0, BARKPADDLE_WAY_IGNORE, call_of(i, start.integer, start.float_, 0), no_spending, 0);
     }
 
     /* 3: whole pieces, at most 1,024; before the shape's size */
@@ -493,7 +549,7 @@ static void refusals_of(enum operation operation)
         check_refused("BAD_LIST, many", operation, call_of(0, 6, 8, 0), aggregate(64, 8, many_words, n), 24, BARKPADDLE_BAD_LIST);
     a = perform(operation, call_of(0, 6, 8, 0), aggregate(8, 8, many_words, 4096), lent, ROOM);
     check_number("1,024 pieces", "refusal", BARKPADDLE_ACCEPTED, a.outcome.refusal);
-    check_number("1,024 pieces", "way", BARKPADDLE_PIECES, a.outcome.way);
+    check_number("1,024 pieces", "way", BARKPADDLE_WAY_PIECES, a.outcome.way);
 
     /* the shape's size, its alignment, then the pieces from the first, each by kind, size, offset, alignment */
     check_refused("the shape's size", operation, call_of(0, 6, 8, 0), aggregate(16777217, 4097, all_wrong, 4), 24, BARKPADDLE_BAD_SIZE);
@@ -538,7 +594,7 @@ static barkpaddle_answer mark_both_ways(const char *place, barkpaddle_call *kept
 {
     barkpaddle_call before = *kept;
     barkpaddle_answer a = barkpaddle_variadic(before.abi, before.integer, before.float_, before.integers_only);
-    int sets = a.outcome.refusal == BARKPADDLE_ACCEPTED && before.abi == BARKPADDLE_WINDOWS_ARM64;
+    int sets = a.outcome.refusal == BARKPADDLE_ACCEPTED && before.abi == BARKPADDLE_ABI_WINDOWS_ARM64;
 
     check_stored(place, a, barkpaddle_bridge_variadic(kept), &before, kept);
     check_number(place, "the mark that is set or handed on", sets ? 1 : before.integers_only, a.next.integers_only);
@@ -557,12 +613,12 @@ static void starts(void)
     static const uint64_t floats[] = {8, 8, 8, 8, 0, 8};
     uint64_t i;
 
-    for (i = 0; i < BARKPADDLE_DESCRIPTIONS; i++) {
+    for (i = 0; i < BARKPADDLE_ABI_COUNT; i++) {
         barkpaddle_call c = call_of(i, integers[i], i < COUNT(floats) ? floats[i] : 0, 0);
         barkpaddle_call marked = c;
 
         check_answer("fresh", barkpaddle_fresh(i), 0, 0, c, no_spending, 0);
-        marked.integers_only = i == BARKPADDLE_WINDOWS_ARM64;
+        marked.integers_only = i == BARKPADDLE_ABI_WINDOWS_ARM64;
         check_answer("variadic", mark(c), 0, 0, marked, no_spending, 0);
         if (marked.integers_only)
             check_answer("variadic twice", mark(call_of(i, c.integer, c.float_, 6)), 0, 0, marked, no_spending, 0);
@@ -628,16 +684,16 @@ static void forms_of(enum operation operation)
 static void lent_calls(void)
 {
     static const uint64_t slots[] = {0, 0, 8, 2, 8, 0};
-    barkpaddle_call kept = barkpaddle_fresh(BARKPADDLE_SYSV_AMD64).next;
+    barkpaddle_call kept = barkpaddle_fresh(BARKPADDLE_ABI_SYSV_AMD64).next;
     barkpaddle_what what = what_of(aggregate(16, 8, NULL, 0));
-    barkpaddle_what word = what_of(scalar(BARKPADDLE_INTEGER, 8, 8));
+    barkpaddle_what word = what_of(scalar(BARKPADDLE_KIND_INTEGER, 8, 8));
     barkpaddle_outcome outcome;
     uint64_t i;
 
     fill();
     outcome = barkpaddle_bridge_argument(&kept, what, int8_double, COUNT(int8_double), lent, ROOM);
     check_number("lent record", "refusal", BARKPADDLE_ACCEPTED, outcome.refusal);
-    check_number("lent record", "way", BARKPADDLE_PIECES, outcome.way);
+    check_number("lent record", "way", BARKPADDLE_WAY_PIECES, outcome.way);
     check_number("lent record", "integers_passed", 0, outcome.integers_passed);
     check_number("lent record", "integers_given", 1, outcome.integers_given);
     check_number("lent record", "floats_passed", 0, outcome.floats_passed);
@@ -647,26 +703,26 @@ static void lent_calls(void)
     for (i = 0; i < 4; i++) {
         check_number("lent record", "integers left", 5 - i, kept.integer);
         outcome = barkpaddle_bridge_argument(&kept, word, NULL, 0, NULL, 0);
-        check_number("lent word", "way", BARKPADDLE_DIRECT, outcome.way);
+        check_number("lent word", "way", BARKPADDLE_WAY_DIRECT, outcome.way);
         check_number("lent word", "integers_given", 1, outcome.integers_given);
     }
     outcome = barkpaddle_bridge_argument(&kept, what, two_int8, COUNT(two_int8), NULL, 0);
     check_number("the call that broke", "refusal", BARKPADDLE_ACCEPTED, outcome.refusal);
-    check_number("the call that broke", "way", BARKPADDLE_MEMORY, outcome.way);
+    check_number("the call that broke", "way", BARKPADDLE_WAY_MEMORY, outcome.way);
     check_number("the call that broke", "integers left", 1, kept.integer);
     check_number("the call that broke", "floats left", 7, kept.float_);
     what.size = 100;
     outcome = barkpaddle_bridge_returns(&kept, what, NULL, 0, NULL, 0);
-    check_number("a pointer for a result", "way", BARKPADDLE_REFERENCE, outcome.way);
+    check_number("a pointer for a result", "way", BARKPADDLE_WAY_REFERENCE, outcome.way);
     check_number("a pointer for a result", "integers left", 0, kept.integer);
 
-    kept = call_of(BARKPADDLE_WINDOWS_ARM64, 8, 8, 0);
+    kept = call_of(BARKPADDLE_ABI_WINDOWS_ARM64, 8, 8, 0);
     outcome = barkpaddle_bridge_variadic(&kept);
     check_number("lent mark", "refusal", BARKPADDLE_ACCEPTED, outcome.refusal);
     check_number("lent mark", "integers_only", 1, kept.integers_only);
     fill();
-    outcome = barkpaddle_bridge_variadic_argument(&kept, what_of(scalar(BARKPADDLE_DOUBLE, 8, 8)), NULL, 0, lent, 3);
-    check_number("after the lent mark", "way", BARKPADDLE_PIECES, outcome.way);
+    outcome = barkpaddle_bridge_variadic_argument(&kept, what_of(scalar(BARKPADDLE_KIND_DOUBLE, 8, 8)), NULL, 0, lent, 3);
+    check_number("after the lent mark", "way", BARKPADDLE_WAY_PIECES, outcome.way);
     check_number("after the lent mark", "integers left", 7, kept.integer);
     check_number("after the lent mark", "floats left", 8, kept.float_);
     check_lent("after the lent mark", slots, 3);
@@ -676,19 +732,19 @@ static void lent_calls(void)
 static void one_call_in_both_forms(void)
 {
     static const uint64_t given[] = {0, 1, 0, 0};
-    barkpaddle_answer a = barkpaddle_fresh(BARKPADDLE_SYSV_AMD64);
-    barkpaddle_outcome expected = outcome_of(BARKPADDLE_ACCEPTED, BARKPADDLE_DIRECT, given, 0);
-    barkpaddle_what word = what_of(scalar(BARKPADDLE_INTEGER, 8, 8));
+    barkpaddle_answer a = barkpaddle_fresh(BARKPADDLE_ABI_SYSV_AMD64);
+    barkpaddle_outcome expected = outcome_of(BARKPADDLE_ACCEPTED, BARKPADDLE_WAY_DIRECT, given, 0);
+    barkpaddle_what word = what_of(scalar(BARKPADDLE_KIND_INTEGER, 8, 8));
     uint64_t left;
 
     for (left = 6; left > 0; left -= 2) {
         barkpaddle_call *kept = &a.next;
 
         check_outcome("lent an answer's call", expected, barkpaddle_bridge_argument(kept, word, NULL, 0, NULL, 0));
-        check_call("lent an answer's call", call_of(BARKPADDLE_SYSV_AMD64, left - 1, 8, 0), *kept);
-        a = barkpaddle_argument_scalar(kept->abi, kept->integer, kept->float_, kept->integers_only, BARKPADDLE_INTEGER, 8, 8, NULL, 0);
+        check_call("lent an answer's call", call_of(BARKPADDLE_ABI_SYSV_AMD64, left - 1, 8, 0), *kept);
+        a = barkpaddle_argument_scalar(kept->abi, kept->integer, kept->float_, kept->integers_only, BARKPADDLE_KIND_INTEGER, 8, 8, NULL, 0);
         check_outcome("a lent call's numbers", expected, a.outcome);
-        check_call("a lent call's numbers", call_of(BARKPADDLE_SYSV_AMD64, left - 2, 8, 0), a.next);
+        check_call("a lent call's numbers", call_of(BARKPADDLE_ABI_SYSV_AMD64, left - 2, 8, 0), a.next);
     }
 }
 
@@ -699,24 +755,24 @@ static void one_call_in_both_forms(void)
 static void mark_of_two(void)
 {
     static const uint64_t given[] = {0, 1, 0, 0}, slot[] = {0, 0, 8};
-    const barkpaddle_call marked = call_of(BARKPADDLE_WINDOWS_ARM64, 8, 8, 2), next = call_of(BARKPADDLE_WINDOWS_ARM64, 7, 8, 2);
-    const barkpaddle_call bad = call_of(BARKPADDLE_SYSV_AMD64, 6, 8, 2);
-    const barkpaddle_outcome in_an_integer = outcome_of(BARKPADDLE_ACCEPTED, BARKPADDLE_PIECES, given, 1);
+    const barkpaddle_call marked = call_of(BARKPADDLE_ABI_WINDOWS_ARM64, 8, 8, 2), next = call_of(BARKPADDLE_ABI_WINDOWS_ARM64, 7, 8, 2);
+    const barkpaddle_call bad = call_of(BARKPADDLE_ABI_SYSV_AMD64, 6, 8, 2);
+    const barkpaddle_outcome in_an_integer = outcome_of(BARKPADDLE_ACCEPTED, BARKPADDLE_WAY_PIECES, given, 1);
     const barkpaddle_outcome bad_size = outcome_of(BARKPADDLE_BAD_SIZE, 0, no_spending, 0);
     const barkpaddle_outcome bad_call = outcome_of(BARKPADDLE_BAD_CALL, 0, no_spending, 0);
-    barkpaddle_what what = what_of(scalar(BARKPADDLE_DOUBLE, 8, 8)), wide = what_of(scalar(BARKPADDLE_DOUBLE, 65, 8));
+    barkpaddle_what what = what_of(scalar(BARKPADDLE_KIND_DOUBLE, 8, 8)), wide = what_of(scalar(BARKPADDLE_KIND_DOUBLE, 65, 8));
     barkpaddle_call kept;
     barkpaddle_answer a;
 
     fill();
-    a = barkpaddle_argument_scalar(BARKPADDLE_WINDOWS_ARM64, 8, 8, 2, BARKPADDLE_DOUBLE, 8, 8, lent, ROOM);
+    a = barkpaddle_argument_scalar(BARKPADDLE_ABI_WINDOWS_ARM64, 8, 8, 2, BARKPADDLE_KIND_DOUBLE, 8, 8, lent, ROOM);
     check_outcome("a mark of 2", in_an_integer, a.outcome);
     check_call("a mark of 2", next, a.next);
     check_lent("a mark of 2", slot, COUNT(slot));
-    a = barkpaddle_argument_scalar(BARKPADDLE_WINDOWS_ARM64, 8, 8, 2, BARKPADDLE_DOUBLE, 65, 8, NULL, 0);
+    a = barkpaddle_argument_scalar(BARKPADDLE_ABI_WINDOWS_ARM64, 8, 8, 2, BARKPADDLE_KIND_DOUBLE, 65, 8, NULL, 0);
     check_outcome("a mark of 2, a refused value", bad_size, a.outcome);
     check_call("a mark of 2, a refused value", marked, a.next);
-    a = barkpaddle_argument_scalar(BARKPADDLE_SYSV_AMD64, 6, 8, 2, BARKPADDLE_DOUBLE, 8, 8, NULL, 0);
+    a = barkpaddle_argument_scalar(BARKPADDLE_ABI_SYSV_AMD64, 6, 8, 2, BARKPADDLE_KIND_DOUBLE, 8, 8, NULL, 0);
     check_outcome("a mark of 2, a refused call", bad_call, a.outcome);
     check_call("a mark of 2, a refused call", bad, a.next);
 
@@ -822,7 +878,7 @@ static barkpaddle_call spoilt(barkpaddle_call c)
 {
     switch (below(4)) {
     case 0:
-        c.abi = below(2) ? BARKPADDLE_DESCRIPTIONS + below(3) : c.abi + (UINT64_C(1) << 32);
+        c.abi = below(2) ? BARKPADDLE_ABI_COUNT + below(3) : c.abi + (UINT64_C(1) << 32);
         break;
     case 1:
         c.integer = 9 + below(3);
@@ -848,7 +904,7 @@ static void history(void)
     uint64_t i;
 
     for (n = 0; n < OPERATIONS; n++) {
-        uint64_t row = n / CALL_LASTS % BARKPADDLE_DESCRIPTIONS;
+        uint64_t row = n / CALL_LASTS % BARKPADDLE_ABI_COUNT;
         uint64_t which = below(10);
         uint64_t refusal;
         uint64_t way;
@@ -1012,7 +1068,6 @@ static void check_fields(const char *place, uint64_t abi, const uint64_t expecte
     uint64_t got[21];
     size_t i;
 
-    check_number(place, "the size of the fields", sizeof got, sizeof fields);
     memcpy(got, &fields, sizeof got);
     for (i = 0; i < COUNT(got); i++)
         check_number(place, "a field", expected[i], got[i]);
@@ -1055,16 +1110,16 @@ static void descriptions(void)
         "row 0, argument 1", barkpaddle_argument_rule(0, 1), 0, BARKPADDLE_TEST_EIGHTBYTES, 16, BARKPADDLE_TRAVEL_AS_FOUND,
         BARKPADDLE_SHORT_MEMORY);
     check_rule("row 0, argument 2", barkpaddle_argument_rule(0, 2), 0, BARKPADDLE_TEST_ANYTHING, 0, BARKPADDLE_TRAVEL_IN_MEMORY, 0);
-    check_rule("row 0, argument 3", barkpaddle_argument_rule(0, 3), 0, BARKPADDLE_NO_RULE, 0, 0, 0);
+    check_rule("row 0, argument 3", barkpaddle_argument_rule(0, 3), 0, BARKPADDLE_TEST_NO_RULE, 0, 0, 0);
     check_rule(
         "row 5, argument 1", barkpaddle_argument_rule(5, 1), 0, BARKPADDLE_TEST_FLOAT_PAIR, 0, BARKPADDLE_TRAVEL_AS_FOUND,
         BARKPADDLE_SHORT_TRY_NEXT_RULE);
     check_number("row 4, argument 0", "test", BARKPADDLE_TEST_SIZE_ONE_OF, barkpaddle_argument_rule(4, 0).test);
     for (i = 0; i < 4; i++)
-        check_number("row 4, argument 0", "a size", sizes[i], BARKPADDLE_SIZE_ONE_OF(barkpaddle_argument_rule(4, 0).number, i));
+        check_number("row 4, argument 0", "a size", sizes[i], BARKPADDLE_TEST_SIZE(barkpaddle_argument_rule(4, 0).number, i));
     for (i = 0; i < COUNT(past_end); i++) {
-        check_rule("past the end, return", barkpaddle_return_rule(0, past_end[i]), 0, BARKPADDLE_NO_RULE, 0, 0, 0);
-        check_rule("past the end, argument", barkpaddle_argument_rule(29, past_end[i]), 0, BARKPADDLE_NO_RULE, 0, 0, 0);
+        check_rule("past the end, return", barkpaddle_return_rule(0, past_end[i]), 0, BARKPADDLE_TEST_NO_RULE, 0, 0, 0);
+        check_rule("past the end, argument", barkpaddle_argument_rule(29, past_end[i]), 0, BARKPADDLE_TEST_NO_RULE, 0, 0, 0);
     }
 
     check_told("by reference", barkpaddle_scalar_is_by_reference(4, 16), 0, 1);
@@ -1074,8 +1129,8 @@ static void descriptions(void)
     check_told("returns by reference", barkpaddle_scalar_returns_by_reference(6, 16), 0, 1);
     check_told("returns by reference", barkpaddle_scalar_returns_by_reference(6, 15), 0, 0);
     check_told("returns by reference", barkpaddle_scalar_returns_by_reference(6, UINT64_MAX), BARKPADDLE_BAD_SIZE, 0);
-    check_told("returns in", barkpaddle_wide_integer_returns_in(4, 16), 0, BARKPADDLE_QUAD);
-    check_told("returns in", barkpaddle_wide_integer_returns_in(4, 4), 0, BARKPADDLE_NO_FORMAT);
+    check_told("returns in", barkpaddle_wide_integer_returns_in(4, 16), 0, BARKPADDLE_KIND_QUAD);
+    check_told("returns in", barkpaddle_wide_integer_returns_in(4, 4), 0, BARKPADDLE_KIND_NO_FORMAT);
     check_told("returns in", barkpaddle_wide_integer_returns_in(4, 65), BARKPADDLE_BAD_SIZE, 0);
 
     for (i = 0; i < COUNT(numbers_past); i++) {
@@ -1108,14 +1163,41 @@ static void check_name(uint64_t abi, const char *name)
     }
 }
 
+/* Each macro's description has the name of REFERENCE 5.5. */
 static void names(void)
 {
     uint64_t i;
 
-    check_name(0, "SysV AMD64");
-    check_name(9, "i386 SysV regparm(3)");
-    check_name(21, "i386 SysV stdcall regparm(3) -freg-struct-return");
-    check_name(29, "i386 Windows fastcall (MSVC)");
+    check_name(BARKPADDLE_ABI_SYSV_AMD64, "SysV AMD64");
+    check_name(BARKPADDLE_ABI_AAPCS64, "AAPCS64");
+    check_name(BARKPADDLE_ABI_DARWIN_ARM64, "Darwin arm64");
+    check_name(BARKPADDLE_ABI_WINDOWS_ARM64, "Windows arm64");
+    check_name(BARKPADDLE_ABI_WINDOWS_X64, "Windows x64");
+    check_name(BARKPADDLE_ABI_RISCV_LP64D, "RISC-V LP64D");
+    check_name(BARKPADDLE_ABI_I386_SYSV, "i386 SysV");
+    check_name(BARKPADDLE_ABI_I386_SYSV_REGPARM_1, "i386 SysV regparm(1)");
+    check_name(BARKPADDLE_ABI_I386_SYSV_REGPARM_2, "i386 SysV regparm(2)");
+    check_name(BARKPADDLE_ABI_I386_SYSV_REGPARM_3, "i386 SysV regparm(3)");
+    check_name(BARKPADDLE_ABI_I386_SYSV_REG_STRUCT, "i386 SysV -freg-struct-return");
+    check_name(BARKPADDLE_ABI_I386_SYSV_REGPARM_1_REG_STRUCT, "i386 SysV regparm(1) -freg-struct-return");
+    check_name(BARKPADDLE_ABI_I386_SYSV_REGPARM_2_REG_STRUCT, "i386 SysV regparm(2) -freg-struct-return");
+    check_name(BARKPADDLE_ABI_I386_SYSV_REGPARM_3_REG_STRUCT, "i386 SysV regparm(3) -freg-struct-return");
+    check_name(BARKPADDLE_ABI_I386_SYSV_STDCALL, "i386 SysV stdcall");
+    check_name(BARKPADDLE_ABI_I386_SYSV_REGPARM_1_STDCALL, "i386 SysV stdcall regparm(1)");
+    check_name(BARKPADDLE_ABI_I386_SYSV_REGPARM_2_STDCALL, "i386 SysV stdcall regparm(2)");
+    check_name(BARKPADDLE_ABI_I386_SYSV_REGPARM_3_STDCALL, "i386 SysV stdcall regparm(3)");
+    check_name(BARKPADDLE_ABI_I386_SYSV_REG_STRUCT_STDCALL, "i386 SysV stdcall -freg-struct-return");
+    check_name(BARKPADDLE_ABI_I386_SYSV_REGPARM_1_REG_STRUCT_STDCALL, "i386 SysV stdcall regparm(1) -freg-struct-return");
+    check_name(BARKPADDLE_ABI_I386_SYSV_REGPARM_2_REG_STRUCT_STDCALL, "i386 SysV stdcall regparm(2) -freg-struct-return");
+    check_name(BARKPADDLE_ABI_I386_SYSV_REGPARM_3_REG_STRUCT_STDCALL, "i386 SysV stdcall regparm(3) -freg-struct-return");
+    check_name(BARKPADDLE_ABI_I386_SYSV_FASTCALL, "i386 SysV fastcall");
+    check_name(BARKPADDLE_ABI_I386_SYSV_REG_STRUCT_FASTCALL, "i386 SysV fastcall -freg-struct-return");
+    check_name(BARKPADDLE_ABI_I386_MINGW, "i386 Windows (mingw)");
+    check_name(BARKPADDLE_ABI_I386_MSVC, "i386 Windows (MSVC)");
+    check_name(BARKPADDLE_ABI_I386_MINGW_STDCALL, "i386 Windows stdcall (mingw)");
+    check_name(BARKPADDLE_ABI_I386_MINGW_FASTCALL, "i386 Windows fastcall (mingw)");
+    check_name(BARKPADDLE_ABI_I386_MSVC_STDCALL, "i386 Windows stdcall (MSVC)");
+    check_name(BARKPADDLE_ABI_I386_MSVC_FASTCALL, "i386 Windows fastcall (MSVC)");
     fill_bytes();
     for (i = 0; i < COUNT(numbers_past); i++) {
         check_told("name, BAD_ABI", barkpaddle_name(30 + numbers_past[i], lent_bytes, sizeof lent_bytes), BARKPADDLE_BAD_ABI, 0);
@@ -1156,62 +1238,70 @@ static void lookups(void)
     uint64_t i;
     uint64_t yes;
 
-    check_number("for_target", "x86-64 Linux", 0, barkpaddle_for_target(BARKPADDLE_X86_64, BARKPADDLE_OTHER_SYSTEM, 0));
-    check_number("for_target", "x86-64 Windows", 4, barkpaddle_for_target(BARKPADDLE_X86_64, BARKPADDLE_WINDOWS, 1));
-    check_number("for_target", "Arm macOS", 2, barkpaddle_for_target(BARKPADDLE_AARCH64, BARKPADDLE_MACOS, 0));
-    check_number("for_target", "Arm Windows", 3, barkpaddle_for_target(BARKPADDLE_AARCH64, BARKPADDLE_WINDOWS, 0));
-    check_number("for_target", "RISC-V", 5, barkpaddle_for_target(BARKPADDLE_RISCV64, BARKPADDLE_OTHER_SYSTEM, 0));
-    check_number("for_target", "another", BARKPADDLE_NONE, barkpaddle_for_target(BARKPADDLE_OTHER_ARCHITECTURE, 3, 0));
-    check_number("for_target", "x86 mingw", 24, barkpaddle_for_target(BARKPADDLE_X86, BARKPADDLE_WINDOWS, 0));
+    check_number("for_target", "x86-64 Linux", 0, barkpaddle_for_target(BARKPADDLE_ARCH_X86_64, BARKPADDLE_SYSTEM_OTHER, 0));
+    check_number("for_target", "x86-64 Windows", 4, barkpaddle_for_target(BARKPADDLE_ARCH_X86_64, BARKPADDLE_SYSTEM_WINDOWS, 1));
+    check_number("for_target", "Arm macOS", 2, barkpaddle_for_target(BARKPADDLE_ARCH_AARCH64, BARKPADDLE_SYSTEM_MACOS, 0));
+    check_number("for_target", "Arm Windows", 3, barkpaddle_for_target(BARKPADDLE_ARCH_AARCH64, BARKPADDLE_SYSTEM_WINDOWS, 0));
+    check_number("for_target", "RISC-V", 5, barkpaddle_for_target(BARKPADDLE_ARCH_RISCV64, BARKPADDLE_SYSTEM_OTHER, 0));
+    check_number("for_target", "another", BARKPADDLE_NONE, barkpaddle_for_target(BARKPADDLE_ARCH_OTHER, 3, 0));
+    check_number("for_target", "x86 mingw", 24, barkpaddle_for_target(BARKPADDLE_ARCH_X86, BARKPADDLE_SYSTEM_WINDOWS, 0));
     for (yes = 1; yes != 0; yes <<= 1) {
-        check_number("for_target", "x86 MSVC", 25, barkpaddle_for_target(BARKPADDLE_X86, BARKPADDLE_WINDOWS, yes));
-        check_number("for_convention", "x86 MSVC", 28, barkpaddle_for_convention(BARKPADDLE_X86, 0, yes, BARKPADDLE_STDCALL));
-        check_number("asked", "MSVC", BARKPADDLE_STDCALL, barkpaddle_asked(BARKPADDLE_X86, 0, yes, (const uint8_t *)"stdcall", 7));
+        check_number("for_target", "x86 MSVC", 25, barkpaddle_for_target(BARKPADDLE_ARCH_X86, BARKPADDLE_SYSTEM_WINDOWS, yes));
+        check_number(
+            "for_convention", "x86 MSVC", 28, barkpaddle_for_convention(BARKPADDLE_ARCH_X86, 0, yes, BARKPADDLE_CONVENTION_STDCALL));
+        check_number(
+            "asked", "MSVC", BARKPADDLE_CONVENTION_STDCALL, barkpaddle_asked(BARKPADDLE_ARCH_X86, 0, yes, (const uint8_t *)"stdcall", 7));
     }
 
-    check_number("for_convention", "ms", 4, barkpaddle_for_convention(BARKPADDLE_X86_64, 3, 0, BARKPADDLE_MS));
-    check_number("for_convention", "sysv", 0, barkpaddle_for_convention(BARKPADDLE_X86_64, 0, 0, BARKPADDLE_SYSV));
-    check_number("for_convention", "fastcall", 22, barkpaddle_for_convention(BARKPADDLE_X86, 3, 0, BARKPADDLE_FASTCALL));
-    check_number("for_convention", "regparm(3)", 9, barkpaddle_for_convention(BARKPADDLE_X86, 3, 0, BARKPADDLE_REGPARM(3)));
-    check_number("for_convention", "regparm(4)", BARKPADDLE_NONE, barkpaddle_for_convention(BARKPADDLE_X86, 3, 0, BARKPADDLE_REGPARM(4)));
-    check_number("for_convention", "none", 0, barkpaddle_for_convention(BARKPADDLE_X86_64, 3, 0, BARKPADDLE_PRESERVE_NONE));
-    check_number("for_convention", "on Arm", BARKPADDLE_NONE, barkpaddle_for_convention(BARKPADDLE_AARCH64, 3, 0, BARKPADDLE_MS));
+    check_number("for_convention", "ms", 4, barkpaddle_for_convention(BARKPADDLE_ARCH_X86_64, 3, 0, BARKPADDLE_CONVENTION_MS));
+    check_number("for_convention", "sysv", 0, barkpaddle_for_convention(BARKPADDLE_ARCH_X86_64, 0, 0, BARKPADDLE_CONVENTION_SYSV));
+    check_number("for_convention", "fastcall", 22, barkpaddle_for_convention(BARKPADDLE_ARCH_X86, 3, 0, BARKPADDLE_CONVENTION_FASTCALL));
+    check_number("for_convention", "regparm(3)", 9, barkpaddle_for_convention(BARKPADDLE_ARCH_X86, 3, 0, BARKPADDLE_CONVENTION_REGPARM(3)));
+    check_number(
+        "for_convention", "regparm(4)", BARKPADDLE_NONE,
+        barkpaddle_for_convention(BARKPADDLE_ARCH_X86, 3, 0, BARKPADDLE_CONVENTION_REGPARM(4)));
+    check_number("for_convention", "none", 0, barkpaddle_for_convention(BARKPADDLE_ARCH_X86_64, 3, 0, BARKPADDLE_CONVENTION_PRESERVE_NONE));
+    check_number(
+        "for_convention", "on Arm", BARKPADDLE_NONE, barkpaddle_for_convention(BARKPADDLE_ARCH_AARCH64, 3, 0, BARKPADDLE_CONVENTION_MS));
 
-    check_number("asked", "ms_abi", BARKPADDLE_MS, asked(BARKPADDLE_X86_64, BARKPADDLE_OTHER_SYSTEM, "ms_abi"));
-    check_number("asked", "ms_abi on Windows", BARKPADDLE_TARGET, asked(BARKPADDLE_X86_64, BARKPADDLE_WINDOWS, "ms_abi"));
-    check_number("asked", "sysv_abi", BARKPADDLE_SYSV, asked(BARKPADDLE_X86_64, BARKPADDLE_WINDOWS, "sysv_abi"));
-    check_number("asked", "preserve_none", BARKPADDLE_PRESERVE_NONE, asked(BARKPADDLE_X86_64, BARKPADDLE_OTHER_DARWIN, "preserve_none"));
-    check_number("asked", "preserve_none", BARKPADDLE_NONE, asked(BARKPADDLE_X86_64, BARKPADDLE_MACOS, "preserve_none"));
-    check_number("asked", "cdecl", BARKPADDLE_TARGET, asked(BARKPADDLE_X86, 0, "cdecl"));
-    check_number("asked", "fastcall", BARKPADDLE_FASTCALL, asked(BARKPADDLE_X86, 0, "fastcall"));
-    check_number("asked", "Cdecl", BARKPADDLE_NONE, asked(BARKPADDLE_X86, 0, "Cdecl"));
-    check_number("asked", "cdec", BARKPADDLE_NONE, asked(BARKPADDLE_X86, 0, "cdec"));
-    check_number("asked", "cdeclx", BARKPADDLE_NONE, asked(BARKPADDLE_X86, 0, "cdeclx"));
-    check_number("asked", "a 0 behind", BARKPADDLE_NONE, barkpaddle_asked(BARKPADDLE_X86, 0, 0, (const uint8_t *)"cdecl", 6));
-    check_number("asked", "nothing", BARKPADDLE_NONE, barkpaddle_asked(BARKPADDLE_X86, 0, 0, NULL, 0));
-    check_number("asked", "on Arm", BARKPADDLE_NONE, asked(BARKPADDLE_AARCH64, 0, "cdecl"));
+    check_number("asked", "ms_abi", BARKPADDLE_CONVENTION_MS, asked(BARKPADDLE_ARCH_X86_64, BARKPADDLE_SYSTEM_OTHER, "ms_abi"));
+    check_number(
+        "asked", "ms_abi on Windows", BARKPADDLE_CONVENTION_TARGET, asked(BARKPADDLE_ARCH_X86_64, BARKPADDLE_SYSTEM_WINDOWS, "ms_abi"));
+    check_number("asked", "sysv_abi", BARKPADDLE_CONVENTION_SYSV, asked(BARKPADDLE_ARCH_X86_64, BARKPADDLE_SYSTEM_WINDOWS, "sysv_abi"));
+    check_number(
+        "asked", "preserve_none", BARKPADDLE_CONVENTION_PRESERVE_NONE,
+        asked(BARKPADDLE_ARCH_X86_64, BARKPADDLE_SYSTEM_OTHER_DARWIN, "preserve_none"));
+    check_number("asked", "preserve_none", BARKPADDLE_NONE, asked(BARKPADDLE_ARCH_X86_64, BARKPADDLE_SYSTEM_MACOS, "preserve_none"));
+    check_number("asked", "cdecl", BARKPADDLE_CONVENTION_TARGET, asked(BARKPADDLE_ARCH_X86, 0, "cdecl"));
+    check_number("asked", "fastcall", BARKPADDLE_CONVENTION_FASTCALL, asked(BARKPADDLE_ARCH_X86, 0, "fastcall"));
+    check_number("asked", "Cdecl", BARKPADDLE_NONE, asked(BARKPADDLE_ARCH_X86, 0, "Cdecl"));
+    check_number("asked", "cdec", BARKPADDLE_NONE, asked(BARKPADDLE_ARCH_X86, 0, "cdec"));
+    check_number("asked", "cdeclx", BARKPADDLE_NONE, asked(BARKPADDLE_ARCH_X86, 0, "cdeclx"));
+    check_number("asked", "a 0 behind", BARKPADDLE_NONE, barkpaddle_asked(BARKPADDLE_ARCH_X86, 0, 0, (const uint8_t *)"cdecl", 6));
+    check_number("asked", "nothing", BARKPADDLE_NONE, barkpaddle_asked(BARKPADDLE_ARCH_X86, 0, 0, NULL, 0));
+    check_number("asked", "on Arm", BARKPADDLE_NONE, asked(BARKPADDLE_ARCH_AARCH64, 0, "cdecl"));
 
-    check_attribute(BARKPADDLE_MS, "ms_abi");
-    check_attribute(BARKPADDLE_NO_CALLEE_SAVED, "no_callee_saved_registers");
-    check_attribute(BARKPADDLE_REGPARM(0), "regparm(0)");
-    check_attribute(BARKPADDLE_REGPARM(255), "regparm(3)");
+    check_attribute(BARKPADDLE_CONVENTION_MS, "ms_abi");
+    check_attribute(BARKPADDLE_CONVENTION_NO_CALLEE_SAVED, "no_callee_saved_registers");
+    check_attribute(BARKPADDLE_CONVENTION_REGPARM(0), "regparm(0)");
+    check_attribute(BARKPADDLE_CONVENTION_REGPARM(255), "regparm(3)");
     fill_bytes();
-    check_told("no attribute", barkpaddle_attribute(BARKPADDLE_TARGET, lent_bytes, 64), 0, BARKPADDLE_NONE);
-    check_told("no attribute", barkpaddle_attribute(BARKPADDLE_TARGET, NULL, 0), 0, BARKPADDLE_NONE);
+    check_told("no attribute", barkpaddle_attribute(BARKPADDLE_CONVENTION_TARGET, lent_bytes, 64), 0, BARKPADDLE_NONE);
+    check_told("no attribute", barkpaddle_attribute(BARKPADDLE_CONVENTION_TARGET, NULL, 0), 0, BARKPADDLE_NONE);
 
-    check_number("callee_pops", "stdcall", 1, barkpaddle_callee_pops(BARKPADDLE_STDCALL));
-    check_number("callee_pops", "fastcall", 1, barkpaddle_callee_pops(BARKPADDLE_FASTCALL));
-    check_number("callee_pops", "target", 0, barkpaddle_callee_pops(BARKPADDLE_TARGET));
-    check_number("callee_pops", "regparm", 0, barkpaddle_callee_pops(BARKPADDLE_REGPARM(3)));
+    check_number("callee_pops", "stdcall", 1, barkpaddle_callee_pops(BARKPADDLE_CONVENTION_STDCALL));
+    check_number("callee_pops", "fastcall", 1, barkpaddle_callee_pops(BARKPADDLE_CONVENTION_FASTCALL));
+    check_number("callee_pops", "target", 0, barkpaddle_callee_pops(BARKPADDLE_CONVENTION_TARGET));
+    check_number("callee_pops", "regparm", 0, barkpaddle_callee_pops(BARKPADDLE_CONVENTION_REGPARM(3)));
 
     /* codes that nobody knows, even where that part wouldn't be read */
     for (i = 0; i < COUNT(unknown); i++) {
         check_number("unknown", "architecture", BARKPADDLE_NONE, barkpaddle_for_target(unknown[i], 0, 0));
-        check_number("unknown", "system", BARKPADDLE_NONE, barkpaddle_for_target(BARKPADDLE_RISCV64, unknown[i], 0));
-        check_number("unknown", "convention", BARKPADDLE_NONE, barkpaddle_for_convention(BARKPADDLE_X86_64, 3, 0, unknown[i]));
-        check_number("unknown", "its system", BARKPADDLE_NONE, barkpaddle_for_convention(BARKPADDLE_X86_64, unknown[i], 0, 1));
+        check_number("unknown", "system", BARKPADDLE_NONE, barkpaddle_for_target(BARKPADDLE_ARCH_RISCV64, unknown[i], 0));
+        check_number("unknown", "convention", BARKPADDLE_NONE, barkpaddle_for_convention(BARKPADDLE_ARCH_X86_64, 3, 0, unknown[i]));
+        check_number("unknown", "its system", BARKPADDLE_NONE, barkpaddle_for_convention(BARKPADDLE_ARCH_X86_64, unknown[i], 0, 1));
         check_number("unknown", "asked there", BARKPADDLE_NONE, asked(unknown[i], 0, "cdecl"));
-        check_number("unknown", "asked on it", BARKPADDLE_NONE, asked(BARKPADDLE_X86, unknown[i], "cdecl"));
+        check_number("unknown", "asked on it", BARKPADDLE_NONE, asked(BARKPADDLE_ARCH_X86, unknown[i], "cdecl"));
         check_told("unknown attribute", barkpaddle_attribute(unknown[i], lent_bytes, 64), 0, BARKPADDLE_NONE);
         check_number("unknown", "pops", 0, barkpaddle_callee_pops(unknown[i]));
     }
@@ -1222,6 +1312,7 @@ static void lookups(void)
 
 int main(void)
 {
+    check_number("the archive", "version", BARKPADDLE_VERSION, barkpaddle_version());
     starts();
     twelve();
     beside_the_twelve();

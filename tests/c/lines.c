@@ -21,7 +21,7 @@ static void print_rule(uint64_t row, const char *list, uint64_t at, barkpaddle_r
 
     if (rule.test == BARKPADDLE_TEST_SIZE_ONE_OF)
         for (i = 0; i < 4; i++)
-            numbers[i] = BARKPADDLE_SIZE_ONE_OF(rule.number, i);
+            numbers[i] = BARKPADDLE_TEST_SIZE(rule.number, i);
     else
         numbers[0] = rule.number;
     /* the original's lines number the tests from 0 */
@@ -48,9 +48,9 @@ static void print_row(uint64_t row)
     printf(" %llu\n", (shown)d.quad_returns_by_reference);
     printf("row %llu others %llu %llu", (shown)row, (shown)d.return_pointer, (shown)d.variadic);
     printf(" %llu %llu %llu %llu\n", (shown)d.stack_args, (shown)d.narrow, (shown)d.bit_ints, (shown)d.cleanup);
-    for (i = 0; (rule = barkpaddle_return_rule(row, i)).test != BARKPADDLE_NO_RULE; i++)
+    for (i = 0; (rule = barkpaddle_return_rule(row, i)).test != BARKPADDLE_TEST_NO_RULE; i++)
         print_rule(row, "returns", i, rule);
-    for (i = 0; (rule = barkpaddle_argument_rule(row, i)).test != BARKPADDLE_NO_RULE; i++)
+    for (i = 0; (rule = barkpaddle_argument_rule(row, i)).test != BARKPADDLE_TEST_NO_RULE; i++)
         print_rule(row, "arguments", i, rule);
     for (i = 0; i <= BARKPADDLE_LARGEST_SCALAR; i++) {
         printf("row %llu questions %llu", (shown)row, (shown)i);
@@ -96,8 +96,8 @@ static void print_asked_about(uint64_t a, uint64_t s, uint64_t m, const char *na
 static void print_lookups(void)
 {
     static const uint64_t conventions[] = {
-        0, 1, 2, 3, 4, 5, 6, BARKPADDLE_REGPARM(0), BARKPADDLE_REGPARM(1), BARKPADDLE_REGPARM(2), BARKPADDLE_REGPARM(3),
-        BARKPADDLE_REGPARM(4), BARKPADDLE_REGPARM(255)};
+        0, 1, 2, 3, 4, 5, 6, BARKPADDLE_CONVENTION_REGPARM(0), BARKPADDLE_CONVENTION_REGPARM(1), BARKPADDLE_CONVENTION_REGPARM(2),
+        BARKPADDLE_CONVENTION_REGPARM(3), BARKPADDLE_CONVENTION_REGPARM(4), BARKPADDLE_CONVENTION_REGPARM(255)};
     static const char *const names[] = {"ms_abi", "sysv_abi", "no_callee_saved_registers", "preserve_none", "stdcall", "fastcall", "cdecl"};
     uint8_t name[BARKPADDLE_MOST_NAME_BYTES];
     uint64_t t;
@@ -242,7 +242,7 @@ int main(int count, char **arguments)
     uint64_t row;
 
     if (count == 2 && strcmp(arguments[1], "rows") == 0) {
-        for (row = 0; row < BARKPADDLE_DESCRIPTIONS; row++)
+        for (row = 0; row < BARKPADDLE_ABI_COUNT; row++)
             print_row(row);
         return 0;
     }

@@ -18,6 +18,7 @@ use Rattle.export_questions.proofs.descriptions.barkpaddle_name.Reads a
 use Rattle.export_questions.proofs.descriptions.barkpaddle_scalar_is_by_reference.Reads as scalar-is-by-reference
 use Rattle.export_questions.proofs.descriptions.barkpaddle_scalar_returns_by_reference.Reads as scalar-returns-by-reference
 use Rattle.export_questions.proofs.descriptions.barkpaddle_wide_integer_returns_in.Reads as wide-integer-returns-in
+use Rattle.export_questions.proofs.version.barkpaddle_version.Reads as version
 
 in-memory-decides : (κs : Lfts 1) → OneAnswer (in-memory.Post κs)
 in-memory-decides κs a r q s t p p′ = p ∙ sym p′
@@ -72,3 +73,6 @@ scalar-returns-by-reference-decides κs a r q s t p p′ = p ∙ sym p′
 
 wide-integer-returns-in-decides : (κs : Lfts 0) → OneAnswer (wide-integer-returns-in.Post κs)
 wide-integer-returns-in-decides κs a r q s t p p′ = p ∙ sym p′
+
+version-decides : (κs : Lfts 0) → OneAnswer (version.Post κs)
+version-decides κs a r q s t p p′ = p ∙ sym p′

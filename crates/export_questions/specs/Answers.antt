@@ -1,4 +1,5 @@
--- What the entries that ask answer, as numbers (REFERENCE 13.2 to 13.5).
+-- What the entries that ask answer, as numbers (REFERENCE 13.2 to 13.6).
+use Prim.Native.Nat.{ℕ}
 use Rattle.shape.specs.Numbers.{oneIf}
 use Rattle.text.specs.declared.Written.{Written}
 use Rattle.layouts.specs.declared.Placed.{Placed}
@@ -34,3 +35,7 @@ recordNumbers a =
       complex = oneIf (a .shape .complex);
       floating = oneIf (a .shape .floating);
     }
+
+-- the version of include/barkpaddle.h
+abbrev pub headerVersion : ℕ
+headerVersion = 1

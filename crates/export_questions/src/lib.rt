@@ -1,9 +1,10 @@
 // The exported entries that ask and change nothing of a call, in numbers and slices (REFERENCE 13.2 to 13.5): what a value in the argument area
-// is aligned to, pieces and records, descriptions, targets. Each answers what the function behind it answers.
+// is aligned to, pieces and records, descriptions, targets, the header's version. Each but the last answers what the function behind it answers.
 mod alignment;
 mod descriptions;
 mod lookups;
 mod members;
+mod version;
 
 pub use alignment::barkpaddle_in_memory;
 pub use descriptions::Description;
@@ -23,3 +24,4 @@ pub use lookups::barkpaddle_for_target;
 pub use members::RecordNumbers;
 pub use members::barkpaddle_pieces;
 pub use members::barkpaddle_record;
+pub use version::barkpaddle_version;
