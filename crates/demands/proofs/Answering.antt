@@ -1,42 +1,232 @@
--- An accepted operation with room for its slots is answered as the Rust answers.
-use Prim.Native.Nat.{ℕ, _/_, _≤_}
-use mathlib.Core.Path.{_≡_, refl}
-use mathlib.Core.List.{List}
+-- An operation is accepted just where its checks pass and its slots have room, and then it is answered as the Rust answers; and so is what is asked
+-- beside.
+use Prim.Native.Nat.{ℕ, zero, suc, _≤_, _<_, _/_}
+use mathlib.Core.Path.{_≡_, refl, ap}
+use mathlib.Core.Bool.{Bool, true, false, _&&_, not, cond}
+use mathlib.Core.List.{List, [], _∷_}
+use mathlib.Core.Option.{Option}
+use mathlib.Core.Option.Option.{none, some}
+use borrow.Author.Tests.{eqb-true, eqb-false, ne-eqb, le-leb, lt-leb, le-ltb}
+use lib.Dec.{eqb, leb}
 use lib.ListN.{length}
 use Rattle.shape.specs.declared.Arg.{Arg}
-use Rattle.shape.specs.Numbers.{accepted}
-use Rattle.shape.specs.Words.{piecesOf}
-use Rattle.slots.specs.Words.{slotSize}
-use Rattle.abis.specs.Abis.{described}
+use Rattle.shape.specs.declared.Arg.the-variants.{Aggregate}
+use Rattle.shape.specs.declared.Piece.{Piece}
+use Rattle.shape.specs.declared.Shape.{Shape}
+use Rattle.shape.specs.Numbers.{accepted, bad-abi, most-size, most-offset, oneIf}
+use Rattle.shape.specs.Words.{pieceSize, piecesOf, scalarsOf, putAt}
+use Rattle.checks.specs.Check.{orElse, listRefusal, piecesRefusal}
+use Rattle.slots.specs.Words.{slotSize, wordsOf, written}
+use Rattle.layouts.specs.Record.{roundUp, maxOf, largestAlign, isFloating, recorded, recordMade, recordAnswer}
+use Rattle.layouts.specs.Members.{membersRefusal, placed, piecesWords, piecesAnswer, piecesWritten}
+use Rattle.abis.specs.Abis.{described, description-count}
+use Rattle.abis.specs.Answers.{questionRefusal, askedYes, askedFormat, isByReferenceAnswer, returnsByReferenceAnswer, wideReturnsInAnswer, nameAnswer, nameWritten}
+use Rattle.describe.specs.Questions.{isByReference, returnsByReference, wideReturnsIn}
+use Rattle.text.specs.Text.{putAnswer}
+use Rattle.targets.specs.declared.codes.Convention.{Convention}
+use Rattle.targets.specs.Codes.{isTarget, isConvention, architectureOf, systemOf, conventionOf, codeOf, noneNumber}
+use Rattle.targets.specs.Followed.{forTarget, forConvention, calleePops}
+use Rattle.targets.specs.Answers.{numberOf, targetAnswer, conventionAnswer, popsAnswer}
+use Rattle.attributes.specs.Attributes.{asked}
+use Rattle.attributes.specs.Spellings.{attribute, spellingAnswer, spellingWritten}
+use Rattle.attributes.specs.Answers.{askedAnswer, attributeAnswer, attributeWritten}
+use Rattle.stack_align.specs.InMemory.{inMemory}
+use Rattle.spend.specs.declared.Spent.{Spent}
+use Rattle.spend.specs.Ways.{wayNumber, marked, withMark}
 use Rattle.classify.specs.declared.Call.{Call}
-use Rattle.classify.specs.Pass.{passSlots}
-use Rattle.classify.specs.Classify.{Passed, returns, argument, variadicArgument}
-use Rattle.classify.specs.Spending.{Chosen, returnChoice, argumentChoice, variadicArgumentChoice}
-use Rattle.classify.specs.Answers.{refusalOf, answerTo, writtenTo, returnsAnswerBy, returnsWrittenBy, argumentAnswerBy, argumentWrittenBy, variadicArgumentAnswerBy, variadicArgumentWrittenBy, returnsAnswer, returnsWritten, argumentAnswer, argumentWritten, variadicArgumentAnswer, variadicArgumentWritten}
-use Rattle.classify.proofs.Accepted.{accepted-where}
-use Rattle.demands.specs.Rust.{AsRust}
+use Rattle.classify.specs.declared.Outcome.{Outcome}
+use Rattle.classify.specs.Pass.{wayOf, passSlots}
+use Rattle.classify.specs.Classify as rust
+use Rattle.classify.specs.Classify.{Passed}
+use Rattle.classify.specs.Answers.{unmarked, rowRefusal, callRefusal, refusalOf, refused, done, orAnswer, callWith, answerTo, writtenTo, variadicAnswerBy, variadicAnswer, returnsAnswerBy, returnsWrittenBy, argumentAnswerBy, argumentWrittenBy, variadicArgumentAnswerBy, variadicArgumentWrittenBy, returnsAnswer, returnsWritten, argumentAnswer, argumentWritten, variadicArgumentAnswer, variadicArgumentWritten, freshAnswer, inMemoryAnswerBy, inMemoryAnswer}
+use Rattle.classify.proofs.Accepted.{accepted-so, accepted-where, sound}
+use Rattle.ledger.specs.Ledger.{Operation, mark, return, argument, variadic-argument, bufferOf, answerFor, writtenFor}
+use Rattle.export_numbers.specs.Numbers.{told}
+use Rattle.export_questions.specs.Answers.{alignTold, countTold, lengthTold, yesTold, formatTold}
+use Rattle.export_questions.specs.Descriptions.{fieldsOf, descriptionAnswer, ruleIn, returnRuleAnswer, argumentRuleAnswer}
+use Rattle.demands.specs.Refusals.{IsRefusal}
+use Rattle.demands.specs.Rust.{rustPasses, rulesSpend, Accepts, AsRust, recordAlign, recordSize}
+use Rattle.demands.proofs.Refusing.{operation-refused}
 
-module _ (c : Call) (arg : Arg) (words out : List ℕ) (z : refusalOf c arg words ≡ accepted) where
-  module _ (p : Passed) (k : Chosen) (h : length (passSlots (p .pass)) ≤ length out / slotSize) where
-    as-rust : AsRust c out p k (answerTo (refusalOf c arg words) c p (k .decision .spent) out) (writtenTo (refusalOf c arg words) p out)
-    as-rust =
-        let a = accepted-where (refusalOf c arg words) c p (k .decision .spent) out z h in
-        rw (a .answer, a .words-are) (record { not-refused = refl; way = refl; count = refl; slots = refl; left = refl; spent = refl })
+-- ---- an operation on a value
 
-  pub return-as-rust : length (passSlots (returns (described (c .abi)) (c .left) arg (piecesOf words) .pass)) ≤ length out / slotSize
-      → AsRust c out (returns (described (c .abi)) (c .left) arg (piecesOf words)) (returnChoice (described (c .abi)) (c .left) arg (piecesOf words))
-      (returnsAnswer c arg words out) (returnsWritten c arg words out)
-  unfolding returnsAnswer returnsWritten returnsAnswerBy returnsWrittenBy refusalOf
-  return-as-rust h = as-rust _ _ h
+module _ (c : Call) (arg : Arg) (words out : List ℕ) (p : Passed) (spent : Spent) where
+  abbrev Room : Type 0
+  Room = length (passSlots (p .pass)) ≤ length out / slotSize
 
-  pub argument-as-rust : length (passSlots (argument (described (c .abi)) (c .left) arg (piecesOf words) .pass)) ≤ length out / slotSize
-      → AsRust c out (argument (described (c .abi)) (c .left) arg (piecesOf words)) (argumentChoice (described (c .abi)) (c .left) arg (piecesOf words))
-      (argumentAnswer c arg words out) (argumentWritten c arg words out)
-  unfolding argumentAnswer argumentWritten argumentAnswerBy argumentWrittenBy refusalOf
-  argument-as-rust h = as-rust _ _ h
+  as-rust : (refusalOf c arg words ≡ accepted) × Room → AsRust c out p spent (answerTo (refusalOf c arg words) c p spent out) (writtenTo (refusalOf c arg words) p out)
+  as-rust z =
+      let a = accepted-where (refusalOf c arg words) c p spent out (z .0) (z .1) in
+      rw (a .answer, a .words-are) (record { not-refused = refl; way = refl; count = refl; slots = refl; left = refl; by-the-rules = refl })
 
-  pub variadic-argument-as-rust : length (passSlots (variadicArgument (described (c .abi)) (c .left) arg (piecesOf words) .pass)) ≤ length out / slotSize
-      → AsRust c out (variadicArgument (described (c .abi)) (c .left) arg (piecesOf words)) (variadicArgumentChoice (described (c .abi)) (c .left) arg (piecesOf words))
-      (variadicArgumentAnswer c arg words out) (variadicArgumentWritten c arg words out)
-  unfolding variadicArgumentAnswer variadicArgumentWritten variadicArgumentAnswerBy variadicArgumentWrittenBy refusalOf
-  variadic-argument-as-rust h = as-rust _ _ h
+  accepts : answerTo (refusalOf c arg words) c p spent out .outcome .refusal ≡ accepted → (refusalOf c arg words ≡ accepted) × Room
+  accepts h = let a = accepted-so (refusalOf c arg words) c p spent out h in (a .checks-pass, a .room)
+
+-- ---- the mark
+
+mark-as-rust : (c : Call) → Accepts mark c → AsRust c [] (rustPasses mark c) (rulesSpend mark c) (variadicAnswer c) []
+unfolding variadicAnswer variadicAnswerBy callRefusal written wordsOf putAt
+mark-as-rust c z =
+    rw z (record { not-refused = refl; way = refl; count = refl; slots = refl; left = refl; by-the-rules = refl })
+
+mark-accepts : (c : Call) → variadicAnswer c .outcome .refusal ≡ accepted → Accepts mark c
+unfolding variadicAnswer variadicAnswerBy callRefusal
+mark-accepts c = go (callRefusal c) (callWith (c .abi) (rust.variadic (described (c .abi)) (c .left)))
+  where
+    go : (n : ℕ) (next : Call) → orAnswer n c (done next) .outcome .refusal ≡ accepted → n ≡ accepted
+    go zero next h = refl
+    go (suc n) next h = h
+
+-- ---- any operation
+
+pub operation-as-rust : (op : Operation) (c : Call) → Accepts op c → AsRust c (bufferOf op) (rustPasses op c) (rulesSpend op c) (answerFor op c) (writtenFor op c)
+unfolding returnsAnswer returnsWritten returnsAnswerBy returnsWrittenBy argumentAnswer argumentWritten argumentAnswerBy argumentWrittenBy variadicArgumentAnswer variadicArgumentWritten variadicArgumentAnswerBy variadicArgumentWrittenBy refusalOf
+operation-as-rust mark c z = mark-as-rust c z
+operation-as-rust (return arg words out) c z = as-rust c arg words out _ _ z
+operation-as-rust (argument arg words out) c z = as-rust c arg words out _ _ z
+operation-as-rust (variadic-argument arg words out) c z = as-rust c arg words out _ _ z
+
+pub operation-accepts : (op : Operation) (c : Call) → answerFor op c .outcome .refusal ≡ accepted → Accepts op c
+unfolding returnsAnswer returnsAnswerBy argumentAnswer argumentAnswerBy variadicArgumentAnswer variadicArgumentAnswerBy refusalOf
+operation-accepts mark c h = mark-accepts c h
+operation-accepts (return arg words out) c h = accepts c arg words out _ _ h
+operation-accepts (argument arg words out) c h = accepts c arg words out _ _ h
+operation-accepts (variadic-argument arg words out) c h = accepts c arg words out _ _ h
+
+-- its way, as the number of REFERENCE 9, and 0 where it is refused
+pub operation-way : (op : Operation) (c : Call) → answerFor op c .outcome .way ≡ cond (eqb (answerFor op c .outcome .refusal) accepted) (wayNumber (wayOf (rustPasses op c .pass))) 0
+operation-way op c = go (eqb (answerFor op c .outcome .refusal) accepted) refl
+  where
+    go : (b : Bool) → eqb (answerFor op c .outcome .refusal) accepted ≡ b → answerFor op c .outcome .way ≡ cond b (wayNumber (wayOf (rustPasses op c .pass))) 0
+    go true e = operation-as-rust op c (operation-accepts op c (eqb-true (answerFor op c .outcome .refusal) accepted e)) .way
+    go false e = ap (λ (o : Outcome). o .way) (operation-refused op c (eqb-false (answerFor op c .outcome .refusal) accepted e) .rest-zero)
+
+-- ---- the start of a call, and its mark
+
+pub fresh-as-rust : (d : ℕ) → d < description-count → freshAnswer d ≡ done (callWith d (rust.call (described d)))
+unfolding freshAnswer
+fresh-as-rust d h = rw (lt-leb description-count d h) refl
+
+pub fresh-is-unmarked : (d : ℕ) → marked (freshAnswer d .next .left) ≡ false
+unfolding freshAnswer
+fresh-is-unmarked d = go (leb description-count d)
+  where
+    go : (b : Bool) → marked (cond b (refused (unmarked 0 0 0) bad-abi) (done (callWith d (rust.call (described d)))) .next .left) ≡ false
+    go true = refl
+    go false = refl
+
+pub mark-marks : (c : Call) → Accepts mark c → marked (variadicAnswer c .next .left) ≡ rust.isIntegersOnly (described (c .abi) .variadic)
+unfolding callRefusal
+mark-marks c z = rw (mark-as-rust c z .left) (go (rust.isIntegersOnly (described (c .abi) .variadic)) (sound (rowRefusal (c .abi)) (described (c .abi)) c z .1 .mark-used))
+  where
+    alone : (b : Bool) → b && true ≡ false → b ≡ false
+    alone true e = e
+    alone false e = refl
+
+    go : (b : Bool) → marked (c .left) && not b ≡ false → marked (cond b (withMark (c .left)) (c .left)) ≡ b
+    go true e = refl
+    go false e = alone (marked (c .left)) e
+
+-- ---- what is asked beside
+
+pub in-memory-as-rust : (c : Call) (shape : Shape) (words : List ℕ) → refusalOf c (Aggregate shape) words ≡ accepted
+    → alignTold (inMemoryAnswer c shape words) ≡ told accepted (inMemory (described (c .abi)) shape (piecesOf words))
+unfolding inMemoryAnswer inMemoryAnswerBy refusalOf
+in-memory-as-rust c shape words z = rw z refl
+
+pub pieces-as-rust : (members out : List ℕ) → membersRefusal members ≡ accepted → length (scalarsOf members) ≤ length out / pieceSize
+    → (countTold (piecesAnswer members out) ≡ told accepted (length (scalarsOf members))) × (piecesWritten members out ≡ putAt out 0 (piecesWords (placed 0 (scalarsOf members))))
+unfolding piecesAnswer piecesWritten
+pieces-as-rust members out z room = rw (z, le-leb (length (scalarsOf members)) (length out / pieceSize) room) (refl, refl)
+
+pub record-as-rust : (words : List ℕ) → orElse (listRefusal words) (piecesRefusal (piecesOf words)) ≡ accepted → IsRefusal (recordAlign (piecesOf words))
+    → recordSize (piecesOf words) ≤ most-offset
+    → recordAnswer words ≡ recorded accepted (recordSize (piecesOf words)) (recordAlign (piecesOf words)) (isFloating (recordSize (piecesOf words)) (piecesOf words))
+unfolding recordAnswer recordMade roundUp isFloating maxOf
+record-as-rust words z = rw z (go (piecesOf words))
+  where
+    go : (ps : List Piece) → (recordAlign ps ≡ 0 → ⊥) → recordSize ps ≤ most-offset → recordMade ps ≡ recorded accepted (recordSize ps) (recordAlign ps) (isFloating (recordSize ps) ps)
+    go [] a s = refl
+    go (p ∷ ps) a s = rw (ne-eqb (largestAlign (p ∷ ps)) 0 a, le-ltb most-offset (recordSize (p ∷ ps)) s) refl
+
+-- a lookup answers none to a code that isn't known, and the Rust's answer to one that is
+either-number : (b : Bool) (x : Option ℕ) → numberOf (cond b x none) ≡ cond b (numberOf x) noneNumber
+either-number true x = refl
+either-number false x = refl
+
+pub for-target-as-rust : (architecture system : ℕ) (msvc : Bool)
+    → targetAnswer architecture system msvc ≡ cond (isTarget architecture system) (numberOf (forTarget (architectureOf architecture) (systemOf system) msvc)) noneNumber
+unfolding targetAnswer
+for-target-as-rust architecture system msvc = either-number (isTarget architecture system) _
+
+pub for-convention-as-rust : (architecture system : ℕ) (msvc : Bool) (convention : ℕ)
+    → conventionAnswer architecture system msvc convention
+    ≡ cond (isTarget architecture system && isConvention convention) (numberOf (forConvention (conventionOf convention) (architectureOf architecture) (systemOf system) msvc)) noneNumber
+unfolding conventionAnswer
+for-convention-as-rust architecture system msvc convention = either-number (isTarget architecture system && isConvention convention) _
+
+pub callee-pops-as-rust : (convention : ℕ) → popsAnswer convention ≡ cond (isConvention convention) (calleePops (conventionOf convention)) false
+unfolding popsAnswer
+callee-pops-as-rust convention = go (isConvention convention) _
+  where
+    go : (b c : Bool) → b && c ≡ cond b c false
+    go true c = refl
+    go false c = refl
+
+pub asked-as-rust : (architecture system : ℕ) (msvc : Bool) (name : List ℕ)
+    → askedAnswer architecture system msvc name ≡ cond (isTarget architecture system) (codeOf (asked (architectureOf architecture) (systemOf system) name)) noneNumber
+unfolding askedAnswer
+asked-as-rust architecture system msvc name = go (isTarget architecture system) _
+  where
+    go : (b : Bool) (x : Option Convention) → codeOf (cond b x none) ≡ cond b (codeOf x) noneNumber
+    go true x = refl
+    go false x = refl
+
+-- a name is written where it fits
+written-fits : (name out : List ℕ) → length name ≤ length out → lengthTold (putAnswer name (length out)) ≡ told accepted (length name)
+unfolding putAnswer
+written-fits name out h = rw (le-leb (length name) (length out) h) refl
+
+pub attribute-as-rust : (convention : ℕ) (out name : List ℕ) → isConvention convention ≡ true → attribute (conventionOf convention) ≡ some name → length name ≤ length out
+    → (lengthTold (attributeAnswer convention (length out)) ≡ told accepted (length name)) × (attributeWritten convention out ≡ putAt out 0 name)
+unfolding spellingAnswer spellingWritten
+attribute-as-rust convention out name known e h = rw (known, e) (written-fits name out h, refl)
+
+-- none for a convention that has no attribute, and for a code that isn't known
+pub no-attribute-as-rust : (convention : ℕ) (out : List ℕ) → cond (isConvention convention) (attribute (conventionOf convention)) none ≡ none
+    → (lengthTold (attributeAnswer convention (length out)) ≡ told accepted noneNumber) × (attributeWritten convention out ≡ out)
+unfolding spellingAnswer spellingWritten
+no-attribute-as-rust convention out e = rw e (refl, refl)
+
+module _ (d : ℕ) (known : d < description-count) where
+  is-known : leb description-count d ≡ false
+  is-known = lt-leb description-count d known
+
+  pub name-as-rust : (out : List ℕ) → length (described d .name) ≤ length out
+      → (lengthTold (nameAnswer d (length out)) ≡ told accepted (length (described d .name))) × (nameWritten d out ≡ putAt out 0 (described d .name))
+  unfolding nameAnswer nameWritten
+  name-as-rust out h = rw is-known (written-fits (described d .name) out h, refl)
+
+  pub by-reference-as-rust : (size : ℕ) → size ≤ most-size → yesTold (isByReferenceAnswer d size) ≡ told accepted (oneIf (isByReference (described d .scalars) size))
+  unfolding isByReferenceAnswer questionRefusal askedYes
+  by-reference-as-rust size h = rw (is-known, le-ltb most-size size h) refl
+
+  pub returns-by-reference-as-rust : (size : ℕ) → size ≤ most-size → yesTold (returnsByReferenceAnswer d size) ≡ told accepted (oneIf (returnsByReference (described d .scalars) size))
+  unfolding returnsByReferenceAnswer questionRefusal askedYes
+  returns-by-reference-as-rust size h = rw (is-known, le-ltb most-size size h) refl
+
+  pub wide-returns-in-as-rust : (size : ℕ) → size ≤ most-size → formatTold (wideReturnsInAnswer d size) ≡ told accepted (wideReturnsIn (described d .scalars) size)
+  unfolding wideReturnsInAnswer questionRefusal askedFormat
+  wide-returns-in-as-rust size h = rw (is-known, le-ltb most-size size h) refl
+
+  pub description-as-rust : descriptionAnswer d ≡ fieldsOf (described d)
+  unfolding descriptionAnswer
+  description-as-rust = rw is-known refl
+
+  pub return-rule-as-rust : (i : ℕ) → returnRuleAnswer d i ≡ ruleIn (described d .returns) i
+  unfolding returnRuleAnswer
+  return-rule-as-rust i = rw is-known refl
+
+  pub argument-rule-as-rust : (i : ℕ) → argumentRuleAnswer d i ≡ ruleIn (described d .arguments) i
+  unfolding argumentRuleAnswer
+  argument-rule-as-rust i = rw is-known refl

@@ -1,171 +1,290 @@
--- What Barkpaddle promises, on one page: each statement in full, with the proof that it cites. Start here.
+-- What Barkpaddle promises, on one page, by the three demands: each statement in full, with the proof that it cites. Start here.
 --
--- The operations are the methods of `classify::Call`: `fresh`, `variadic` (the mark), `returns`, `argument` and `variadic_argument` (after the
--- dots). Each is a total function of its inputs, proved to answer exactly what its definition says, `freshAnswer`, `variadicAnswer`,
--- `returnsAnswer`, `argumentAnswer` and `variadicArgumentAnswer` of classify/specs/Answers.antt, and to leave the lent slot buffer as `returnsWritten`,
--- `argumentWritten` and `variadicArgumentWritten` say: so what is said of these definitions here is said of the code. That no second answer meets those
--- promises is in each crate's proofs/Unique.antt. The forms over a lent call (crate bridge) have their own lines below.
+-- Each statement about definitions has one about functions beside it. `Started` and `Performed` (specs/Performed.antt) name every function that starts
+-- a call or performs an operation on one, a method of `classify::Call`, an exported entry or one of a bridge, and say that an answer, and the words
+-- of the lent buffer afterwards, meet that function's contract as the checker reads it. What is asked beside has its definition here and its exported
+-- entry in Entries.antt (`in-memory-entry` of `in-memory-refused` and `in-memory-as-rust`, and so on); any other function promises the definition
+-- itself. That no second answer meets a promise is in each crate's proofs/Unique.antt. docs/PROMISES.md has each function with its statements.
 use Prim.Native.Nat.{ℕ, _/_, _≤_, _<_}
 use mathlib.Core.Path.{_≡_}
+use mathlib.Core.Bool.{Bool, true, false, _&&_, cond}
 use mathlib.Core.List.{List, [], map}
-use mathlib.Core.Option.Option.{some}
-use contract.Lifetimes.{Lfts}
-use denote.Ref.{now}
-use denote.Triple.Clauses.{AtExit}
-use borrow.Fn.World.{ArgsD}
+use mathlib.Core.Option.Option.{none, some}
+use lib.Dec.{eqb}
 use lib.ListN.{length, take}
-use Rattle.shape.specs.declared.Arg.{Arg}
 use Rattle.shape.specs.declared.Arg.the-variants.{Aggregate}
 use Rattle.shape.specs.declared.Shape.{Shape}
-use Rattle.shape.specs.Numbers.{accepted}
-use Rattle.shape.specs.Words.{piecesOf}
-use Rattle.slots.specs.declared.Slot.{Slot}
-use Rattle.slots.specs.Words.{slotSize}
-use Rattle.abis.specs.Abis.{described}
-use Rattle.spend.specs.Ways.{wayFrom}
+use Rattle.shape.specs.Numbers.{accepted, most-size, most-offset, oneIf}
+use Rattle.shape.specs.Words.{pieceSize, piecesOf, scalarsOf, putAt}
+use Rattle.checks.specs.Check.{orElse, listRefusal, piecesRefusal}
+use Rattle.layouts.specs.Record.{isFloating, recorded, recordAnswer}
+use Rattle.layouts.specs.Members.{membersRefusal, placed, piecesWords, piecesAnswer, piecesWritten}
+use Rattle.describe.specs.Questions.{isByReference, returnsByReference, wideReturnsIn}
+use Rattle.abis.specs.Abis.{described, description-count}
+use Rattle.abis.specs.Answers.{isByReferenceAnswer, returnsByReferenceAnswer, wideReturnsInAnswer, nameAnswer, nameWritten}
+use Rattle.targets.specs.Codes.{isTarget, isConvention, architectureOf, systemOf, conventionOf, codeOf, noneNumber}
+use Rattle.targets.specs.Followed.{forTarget, forConvention, calleePops}
+use Rattle.targets.specs.Answers.{numberOf, targetAnswer, conventionAnswer, popsAnswer}
+use Rattle.attributes.specs.Attributes.{asked}
+use Rattle.attributes.specs.Spellings.{attribute}
+use Rattle.attributes.specs.Answers.{askedAnswer, attributeAnswer, attributeWritten}
+use Rattle.spend.specs.Ways.{marked, wayNumber}
+use Rattle.stack_align.specs.InMemory.{inMemory}
 use Rattle.classify.specs.declared.Call.{Call}
-use Rattle.classify.specs.declared.Outcome.{Outcome}
 use Rattle.classify.specs.declared.Answer.{Answer}
-use Rattle.classify.specs.Pass.{passSlots}
+use Rattle.classify.specs.Pass.{wayOf}
 use Rattle.classify.specs.Classify as rust
-use Rattle.classify.specs.Spending as rules
-use Rattle.classify.specs.Answers.{refusalOf, variadicAnswer, returnsAnswer, returnsWritten, argumentAnswer, argumentWritten, variadicArgumentAnswer, variadicArgumentWritten}
-use Rattle.ledger.specs.Ledger.{Operation, history, Ledger}
-use Rattle.ledger.specs.Performed.{Started, AllPerformed}
+use Rattle.classify.specs.Answers.{unmarked, callWith, refusalOf, done, freshAnswer, variadicAnswer, inMemoryAnswer}
+use Rattle.ledger.specs.Ledger.{Operation, mark, return, argument, bufferOf, answerFor, writtenFor, history, Ledger}
 use Rattle.ledger.specs.Twelve.{twelve, answeredTo, expected}
-use Rattle.bridge.proofs.barkpaddle_bridge_variadic as on-mark
-use Rattle.bridge.proofs.barkpaddle_bridge_argument as on-value
-use Rattle.bridge.proofs.Promised.{Marks, Returns, Passes, PassesVariadic}
-use Rattle.bridge.proofs.Kept as kept
-use Rattle.bridge.proofs.Histories as lending
+use Rattle.ledger.proofs.Ledger.{ledger}
+use Rattle.ledger.proofs.Twelve as calls
 use Rattle.psabi.specs.Domain as psabi
 use Rattle.psabi.specs.Psabi.{psabiArgument, psabiResult}
 use Rattle.psabi.specs.Reading.{freeAt, results}
 use Rattle.psabi.proofs.Answers as row-0
 use Rattle.psabi.proofs.Answers.{Says}
 use Rattle.aapcs64.specs.Domain as aapcs64
-use Rattle.aapcs64.specs.Aapcs64.{parameter, result}
-use Rattle.aapcs64.specs.Reading.{mostNatural, stateOf, reads, readsResult, composite}
+use Rattle.aapcs64.specs.Reading.{mostNatural}
 use Rattle.aapcs64.proofs.Answered as row-1
-use Rattle.ledger.proofs.Ledger.{ledger}
-use Rattle.ledger.proofs.Performed.{ledger-performed}
-use Rattle.ledger.proofs.Twelve as calls
-use Rattle.demands.specs.Refusals.{Refused}
-use Rattle.demands.specs.Rust.{AsRust}
+use Rattle.export_numbers.specs.Numbers.{callFrom, shapeFrom, told}
+use Rattle.export_numbers.proofs.ReadBack as numbers
+use Rattle.export_questions.specs.Answers.{alignTold, countTold, lengthTold, yesTold, formatTold, recordNumbers}
+use Rattle.export_questions.specs.Descriptions.{noDescription, fieldsOf, descriptionAnswer, ruleIn, returnRuleAnswer, argumentRuleAnswer}
+use Rattle.demands.specs.Refusals.{refusalsOf, numberRefusals, inMemoryRefusals, memberRefusals, recordRefusals, nameRefusals, attributeRefusals, questionRefusals, IsRefusal, Refused, RefusedTold, RefusedAs, noRecord, noRule}
+use Rattle.demands.specs.Rust.{rustPasses, rulesSpend, Accepts, AsRust, recordAlign, recordSize}
+use Rattle.demands.specs.Standards.{SaysArgument, SaysResult}
+use Rattle.demands.specs.Performed.{Started, Performed, AllPerformed}
 use Rattle.demands.proofs.Refusing as refusing
 use Rattle.demands.proofs.Answering as answering
+use Rattle.demands.proofs.Performed as performing
 
--- ---- Demand 1: every entry answers every input, and a refusal is one of seven numbers and leaves everything as it was
+-- ---- Demand 1: every entry answers every input; a refusal is one of its numbers, all else is 0, and what was handed in or lent is as it was
 
--- `Refused` says: the refusal's number is at most 7, the call is the one that was handed in, every other number of the answer is 0, and the
--- buffer holds the words that it held
-pub return-refused : (c : Call) (arg : Arg) (words out : List ℕ) → (returnsAnswer c arg words out .outcome .refusal ≡ accepted → ⊥)
-    → Refused c out (returnsAnswer c arg words out) (returnsWritten c arg words out)
-return-refused = refusing.return-refused
+-- an operation on a call
+pub operation-refused : (op : Operation) (c : Call) → IsRefusal (answerFor op c .outcome .refusal)
+    → Refused (refusalsOf op) c (bufferOf op) (answerFor op c) (writtenFor op c)
+operation-refused = refusing.operation-refused
 
-pub argument-refused : (c : Call) (arg : Arg) (words out : List ℕ) → (argumentAnswer c arg words out .outcome .refusal ≡ accepted → ⊥)
-    → Refused c out (argumentAnswer c arg words out) (argumentWritten c arg words out)
-argument-refused = refusing.argument-refused
+-- the same, whichever function performed it
+pub performed-refused : (c : Call) (op : Operation) (a : Answer) (after : List ℕ) → Performed c op a after → IsRefusal (a .outcome .refusal)
+    → Refused (refusalsOf op) c (bufferOf op) a after
+performed-refused = performing.performed-refused
 
-pub variadic-argument-refused : (c : Call) (arg : Arg) (words out : List ℕ) → (variadicArgumentAnswer c arg words out .outcome .refusal ≡ accepted → ⊥)
-    → Refused c out (variadicArgumentAnswer c arg words out) (variadicArgumentWritten c arg words out)
-variadic-argument-refused = refusing.variadic-argument-refused
+-- a fresh call: every number but the refusal is 0, of the call too
+pub fresh-refused : (d : ℕ) → IsRefusal (freshAnswer d .outcome .refusal) → Refused numberRefusals (unmarked 0 0 0) [] (freshAnswer d) []
+fresh-refused = refusing.fresh-refused
 
-pub mark-refused : (c : Call) → (variadicAnswer c .outcome .refusal ≡ accepted → ⊥) → Refused c [] (variadicAnswer c) []
-mark-refused = refusing.mark-refused
+pub started-refused : (d : ℕ) (a : Answer) → Started d a → IsRefusal (a .outcome .refusal) → Refused numberRefusals (unmarked 0 0 0) [] a []
+started-refused = performing.started-refused
 
--- the same of the forms over a lent call: `Marks`, `Returns`, `Passes` and `PassesVariadic` are their contracts, and where the outcome refuses, the
--- call and the words behind the references are afterwards those that stood there
-pub lent-mark-refused : (κs : Lfts 1) (a : ArgsD on-mark.signature κs) (r : Outcome) (e : AtExit on-mark.ended κs) → Marks κs a r e
-    → (r .refusal ≡ accepted → ⊥) → now (e .0) ≡ now (a .0)
-lent-mark-refused = kept.variadic-refused
+-- what is asked beside; the lookups refuse nothing
+pub in-memory-refused : (c : Call) (shape : Shape) (words : List ℕ) → IsRefusal (inMemoryAnswer c shape words .refusal)
+    → RefusedTold inMemoryRefusals (alignTold (inMemoryAnswer c shape words)) [] []
+in-memory-refused = refusing.in-memory-refused
 
-module _ (κs : Lfts 3) (a : ArgsD on-value.signature κs) (r : Outcome) (e : AtExit on-value.ended κs) where
-  pub lent-return-refused : Returns κs a r e → (r .refusal ≡ accepted → ⊥) → (now (e .0) ≡ now (a .0)) × (now (e .1 .1 .1 .0) ≡ now (a .1 .1 .1 .0))
-  lent-return-refused = kept.returns-refused κs a r e
+pub pieces-refused : (members out : List ℕ) → IsRefusal (piecesAnswer members out .refusal)
+    → RefusedTold memberRefusals (countTold (piecesAnswer members out)) out (piecesWritten members out)
+pieces-refused = refusing.pieces-refused
 
-  pub lent-argument-refused : Passes κs a r e → (r .refusal ≡ accepted → ⊥) → (now (e .0) ≡ now (a .0)) × (now (e .1 .1 .1 .0) ≡ now (a .1 .1 .1 .0))
-  lent-argument-refused = kept.argument-refused κs a r e
+pub record-refused : (words : List ℕ) → IsRefusal (recordAnswer words .refusal)
+    → RefusedAs recordRefusals (recordAnswer words .refusal) (noRecord (recordAnswer words .refusal)) (recordNumbers (recordAnswer words))
+record-refused = refusing.record-refused
 
-  pub lent-variadic-argument-refused : PassesVariadic κs a r e → (r .refusal ≡ accepted → ⊥) → (now (e .0) ≡ now (a .0)) × (now (e .1 .1 .1 .0) ≡ now (a .1 .1 .1 .0))
-  lent-variadic-argument-refused = kept.variadic-argument-refused κs a r e
+pub name-refused : (d : ℕ) (out : List ℕ) → IsRefusal (nameAnswer d (length out) .refusal)
+    → RefusedTold nameRefusals (lengthTold (nameAnswer d (length out))) out (nameWritten d out)
+name-refused = refusing.name-refused
 
--- ---- Demand 2: what is accepted is answered as the Rust answers, with the counts of the spending rules
+pub attribute-refused : (convention : ℕ) (out : List ℕ) → IsRefusal (attributeAnswer convention (length out) .refusal)
+    → RefusedTold attributeRefusals (lengthTold (attributeAnswer convention (length out))) out (attributeWritten convention out)
+attribute-refused = refusing.attribute-refused
 
--- where the checks refuse nothing and the slots have room. `AsRust` says: the way, the slots at the front of the buffer with all later words as
--- they were, and the counts left are the Rust's; what is passed over and given is by the rules
-pub return-as-rust : (c : Call) (arg : Arg) (words out : List ℕ) → refusalOf c arg words ≡ accepted
-    → length (passSlots (rust.returns (described (c .abi)) (c .left) arg (piecesOf words) .pass)) ≤ length out / slotSize
-    → AsRust c out (rust.returns (described (c .abi)) (c .left) arg (piecesOf words)) (rules.returnChoice (described (c .abi)) (c .left) arg (piecesOf words))
-    (returnsAnswer c arg words out) (returnsWritten c arg words out)
-return-as-rust = answering.return-as-rust
+pub by-reference-refused : (d size : ℕ) → IsRefusal (isByReferenceAnswer d size .refusal) → RefusedTold questionRefusals (yesTold (isByReferenceAnswer d size)) [] []
+by-reference-refused = refusing.by-reference-refused
 
-pub argument-as-rust : (c : Call) (arg : Arg) (words out : List ℕ) → refusalOf c arg words ≡ accepted
-    → length (passSlots (rust.argument (described (c .abi)) (c .left) arg (piecesOf words) .pass)) ≤ length out / slotSize
-    → AsRust c out (rust.argument (described (c .abi)) (c .left) arg (piecesOf words)) (rules.argumentChoice (described (c .abi)) (c .left) arg (piecesOf words))
-    (argumentAnswer c arg words out) (argumentWritten c arg words out)
-argument-as-rust = answering.argument-as-rust
+pub returns-by-reference-refused : (d size : ℕ) → IsRefusal (returnsByReferenceAnswer d size .refusal)
+    → RefusedTold questionRefusals (yesTold (returnsByReferenceAnswer d size)) [] []
+returns-by-reference-refused = refusing.returns-by-reference-refused
 
-pub variadic-argument-as-rust : (c : Call) (arg : Arg) (words out : List ℕ) → refusalOf c arg words ≡ accepted
-    → length (passSlots (rust.variadicArgument (described (c .abi)) (c .left) arg (piecesOf words) .pass)) ≤ length out / slotSize
-    → AsRust c out (rust.variadicArgument (described (c .abi)) (c .left) arg (piecesOf words)) (rules.variadicArgumentChoice (described (c .abi)) (c .left) arg (piecesOf words))
-    (variadicArgumentAnswer c arg words out) (variadicArgumentWritten c arg words out)
-variadic-argument-as-rust = answering.variadic-argument-as-rust
+pub wide-returns-in-refused : (d size : ℕ) → IsRefusal (wideReturnsInAnswer d size .refusal) → RefusedTold questionRefusals (formatTold (wideReturnsInAnswer d size)) [] []
+wide-returns-in-refused = refusing.wide-returns-in-refused
+
+pub description-refused : (d : ℕ) → IsRefusal (descriptionAnswer d .refusal) → RefusedAs numberRefusals (descriptionAnswer d .refusal) noDescription (descriptionAnswer d)
+description-refused = refusing.description-refused
+
+pub return-rule-refused : (d i : ℕ) → IsRefusal (returnRuleAnswer d i .refusal) → RefusedAs numberRefusals (returnRuleAnswer d i .refusal) noRule (returnRuleAnswer d i)
+return-rule-refused = refusing.return-rule-refused
+
+pub argument-rule-refused : (d i : ℕ) → IsRefusal (argumentRuleAnswer d i .refusal) → RefusedAs numberRefusals (argumentRuleAnswer d i .refusal) noRule (argumentRuleAnswer d i)
+argument-rule-refused = refusing.argument-rule-refused
+
+-- ---- Demand 2: what is accepted is answered as the Rust answers, and on descriptions 0 and 1 as the standards say
+
+-- an operation is accepted only where its checks pass and its slots have room (`Accepts`)
+pub operation-accepts : (op : Operation) (c : Call) → answerFor op c .outcome .refusal ≡ accepted → Accepts op c
+operation-accepts = answering.operation-accepts
+
+-- and there always: the way, the slots at the front of the buffer, all later words as they were, and the counts left are the Rust's; what is passed
+-- over and given is by the rules
+pub operation-as-rust : (op : Operation) (c : Call) → Accepts op c → AsRust c (bufferOf op) (rustPasses op c) (rulesSpend op c) (answerFor op c) (writtenFor op c)
+operation-as-rust = answering.operation-as-rust
+
+-- the same, whichever function performed it
+pub performed-accepts : (c : Call) (op : Operation) (a : Answer) (after : List ℕ) → Performed c op a after → a .outcome .refusal ≡ accepted → Accepts op c
+performed-accepts = performing.performed-accepts
+
+pub performed-as-rust : (c : Call) (op : Operation) (a : Answer) (after : List ℕ) → Performed c op a after → Accepts op c
+    → AsRust c (bufferOf op) (rustPasses op c) (rulesSpend op c) a after
+performed-as-rust = performing.performed-as-rust
+
+-- the way of every answer is the number of the paper, 0 where it is refused
+pub performed-way : (c : Call) (op : Operation) (a : Answer) (after : List ℕ) → Performed c op a after
+    → a .outcome .way ≡ cond (eqb (a .outcome .refusal) accepted) (wayNumber (wayOf (rustPasses op c .pass))) 0
+performed-way = performing.performed-way
+
+-- a fresh call
+pub fresh-as-rust : (d : ℕ) → d < description-count → freshAnswer d ≡ done (callWith d (rust.call (described d)))
+fresh-as-rust = answering.fresh-as-rust
+
+pub started-as-rust : (d : ℕ) (a : Answer) → Started d a → d < description-count → a ≡ done (callWith d (rust.call (described d)))
+started-as-rust = performing.started-as-rust
+
+-- it isn't marked, and the mark marks it where the description has floats of such calls go in integer registers
+pub fresh-is-unmarked : (d : ℕ) → marked (freshAnswer d .next .left) ≡ false
+fresh-is-unmarked = answering.fresh-is-unmarked
+
+pub mark-marks : (c : Call) → Accepts mark c → marked (variadicAnswer c .next .left) ≡ rust.isIntegersOnly (described (c .abi) .variadic)
+mark-marks = answering.mark-marks
+
+-- what is asked beside
+pub in-memory-as-rust : (c : Call) (shape : Shape) (words : List ℕ) → refusalOf c (Aggregate shape) words ≡ accepted
+    → alignTold (inMemoryAnswer c shape words) ≡ told accepted (inMemory (described (c .abi)) shape (piecesOf words))
+in-memory-as-rust = answering.in-memory-as-rust
+
+pub pieces-as-rust : (members out : List ℕ) → membersRefusal members ≡ accepted → length (scalarsOf members) ≤ length out / pieceSize
+    → (countTold (piecesAnswer members out) ≡ told accepted (length (scalarsOf members))) × (piecesWritten members out ≡ putAt out 0 (piecesWords (placed 0 (scalarsOf members))))
+pieces-as-rust = answering.pieces-as-rust
+
+pub record-as-rust : (words : List ℕ) → orElse (listRefusal words) (piecesRefusal (piecesOf words)) ≡ accepted → (recordAlign (piecesOf words) ≡ 0 → ⊥)
+    → recordSize (piecesOf words) ≤ most-offset
+    → recordAnswer words ≡ recorded accepted (recordSize (piecesOf words)) (recordAlign (piecesOf words)) (isFloating (recordSize (piecesOf words)) (piecesOf words))
+record-as-rust = answering.record-as-rust
+
+pub name-as-rust : (d : ℕ) → d < description-count → (out : List ℕ) → length (described d .name) ≤ length out
+    → (lengthTold (nameAnswer d (length out)) ≡ told accepted (length (described d .name))) × (nameWritten d out ≡ putAt out 0 (described d .name))
+name-as-rust = answering.name-as-rust
+
+pub by-reference-as-rust : (d : ℕ) → d < description-count → (size : ℕ) → size ≤ most-size
+    → yesTold (isByReferenceAnswer d size) ≡ told accepted (oneIf (isByReference (described d .scalars) size))
+by-reference-as-rust = answering.by-reference-as-rust
+
+pub returns-by-reference-as-rust : (d : ℕ) → d < description-count → (size : ℕ) → size ≤ most-size
+    → yesTold (returnsByReferenceAnswer d size) ≡ told accepted (oneIf (returnsByReference (described d .scalars) size))
+returns-by-reference-as-rust = answering.returns-by-reference-as-rust
+
+pub wide-returns-in-as-rust : (d : ℕ) → d < description-count → (size : ℕ) → size ≤ most-size
+    → formatTold (wideReturnsInAnswer d size) ≡ told accepted (wideReturnsIn (described d .scalars) size)
+wide-returns-in-as-rust = answering.wide-returns-in-as-rust
+
+pub description-as-rust : (d : ℕ) → d < description-count → descriptionAnswer d ≡ fieldsOf (described d)
+description-as-rust = answering.description-as-rust
+
+pub return-rule-as-rust : (d : ℕ) → d < description-count → (i : ℕ) → returnRuleAnswer d i ≡ ruleIn (described d .returns) i
+return-rule-as-rust = answering.return-rule-as-rust
+
+pub argument-rule-as-rust : (d : ℕ) → d < description-count → (i : ℕ) → argumentRuleAnswer d i ≡ ruleIn (described d .arguments) i
+argument-rule-as-rust = answering.argument-rule-as-rust
+
+-- the lookups: none for a code that isn't known
+pub for-target-as-rust : (architecture system : ℕ) (msvc : Bool)
+    → targetAnswer architecture system msvc ≡ cond (isTarget architecture system) (numberOf (forTarget (architectureOf architecture) (systemOf system) msvc)) noneNumber
+for-target-as-rust = answering.for-target-as-rust
+
+pub for-convention-as-rust : (architecture system : ℕ) (msvc : Bool) (convention : ℕ)
+    → conventionAnswer architecture system msvc convention
+    ≡ cond (isTarget architecture system && isConvention convention) (numberOf (forConvention (conventionOf convention) (architectureOf architecture) (systemOf system) msvc)) noneNumber
+for-convention-as-rust = answering.for-convention-as-rust
+
+pub callee-pops-as-rust : (convention : ℕ) → popsAnswer convention ≡ cond (isConvention convention) (calleePops (conventionOf convention)) false
+callee-pops-as-rust = answering.callee-pops-as-rust
+
+pub asked-as-rust : (architecture system : ℕ) (msvc : Bool) (name : List ℕ)
+    → askedAnswer architecture system msvc name ≡ cond (isTarget architecture system) (codeOf (asked (architectureOf architecture) (systemOf system) name)) noneNumber
+asked-as-rust = answering.asked-as-rust
+
+pub attribute-as-rust : (convention : ℕ) (out name : List ℕ) → isConvention convention ≡ true → attribute (conventionOf convention) ≡ some name → length name ≤ length out
+    → (lengthTold (attributeAnswer convention (length out)) ≡ told accepted (length name)) × (attributeWritten convention out ≡ putAt out 0 name)
+attribute-as-rust = answering.attribute-as-rust
+
+pub no-attribute-as-rust : (convention : ℕ) (out : List ℕ) → cond (isConvention convention) (attribute (conventionOf convention)) none ≡ none
+    → (lengthTold (attributeAnswer convention (length out)) ≡ told accepted noneNumber) × (attributeWritten convention out ≡ out)
+no-attribute-as-rust = answering.no-attribute-as-rust
 
 -- description 0 equals the psABI on its domain: `Says` reads the answer and the buffer in the psABI's words, registers by name, and the call
 -- handed back as the registers that are free
 pub argument-is-psabi : (c : Call) (shape : Shape) (words out : List ℕ) → c .abi ≡ 0 → psabi.Domain shape (piecesOf words)
-    → argumentAnswer c (Aggregate shape) words out .outcome .refusal ≡ accepted
-    → Says (freeAt c) c (argumentAnswer c (Aggregate shape) words out) (argumentWritten c (Aggregate shape) words out)
+    → answerFor (argument (Aggregate shape) words out) c .outcome .refusal ≡ accepted
+    → Says (freeAt c) c (answerFor (argument (Aggregate shape) words out) c) (writtenFor (argument (Aggregate shape) words out) c)
     (psabiArgument (freeAt c) (shape .size) (piecesOf words))
-argument-is-psabi c shape words out e d h = row-0.argument-says c shape words out e d h
+argument-is-psabi = row-0.argument-says
 
 pub result-is-psabi : (c : Call) (shape : Shape) (words out : List ℕ) → c .abi ≡ 0 → psabi.Domain shape (piecesOf words)
-    → returnsAnswer c (Aggregate shape) words out .outcome .refusal ≡ accepted
-    → Says results c (returnsAnswer c (Aggregate shape) words out) (returnsWritten c (Aggregate shape) words out)
+    → answerFor (return (Aggregate shape) words out) c .outcome .refusal ≡ accepted
+    → Says results c (answerFor (return (Aggregate shape) words out) c) (writtenFor (return (Aggregate shape) words out) c)
     (psabiResult (freeAt c) (shape .size) (piecesOf words))
-result-is-psabi c shape words out e d h = row-0.result-says c shape words out e d h
+result-is-psabi = row-0.result-says
 
--- description 1 equals AAPCS64 on its domain, for every natural alignment that the shape's and its pieces' alignments allow: `reads` reads the
--- answer in the standard's words, x and v registers by number, and the counts left as NGRN and NSRN
+pub performed-argument-is-psabi : (c : Call) (shape : Shape) (words out : List ℕ) (a : Answer) (after : List ℕ) → c .abi ≡ 0 → psabi.Domain shape (piecesOf words)
+    → Performed c (argument (Aggregate shape) words out) a after → a .outcome .refusal ≡ accepted
+    → Says (freeAt c) c a after (psabiArgument (freeAt c) (shape .size) (piecesOf words))
+performed-argument-is-psabi = performing.argument-psabi
+
+pub performed-result-is-psabi : (c : Call) (shape : Shape) (words out : List ℕ) (a : Answer) (after : List ℕ) → c .abi ≡ 0 → psabi.Domain shape (piecesOf words)
+    → Performed c (return (Aggregate shape) words out) a after → a .outcome .refusal ≡ accepted
+    → Says results c a after (psabiResult (freeAt c) (shape .size) (piecesOf words))
+performed-result-is-psabi = performing.result-psabi
+
+-- description 1 equals AAPCS64 on its domain, for every natural alignment that the shape's and its pieces' alignments allow: `SaysArgument` and
+-- `SaysResult` read the answer in the standard's words, x and v registers by number, and the counts left as NGRN and NSRN
 pub argument-is-aapcs64 : (c : Call) → c .abi ≡ 1 → (shape : Shape) (words out : List ℕ) → aapcs64.Domain shape (piecesOf words)
-    → (natural : ℕ) → natural ≤ mostNatural shape (piecesOf words) → argumentAnswer c (Aggregate shape) words out .outcome .refusal ≡ accepted
-    → row-1.Answers (argumentAnswer c (Aggregate shape) words out) out (argumentWritten c (Aggregate shape) words out)
-    (λ (slots : List Slot).
-    reads (c .left) (wayFrom (argumentAnswer c (Aggregate shape) words out .outcome .way)) slots (argumentAnswer c (Aggregate shape) words out .next .left)
-    ≡ some (parameter (stateOf (c .left)) (composite natural shape (piecesOf words))))
-argument-is-aapcs64 c e shape words out d natural n h = row-1.argument-answered c e shape words out d natural n h
+    → (natural : ℕ) → natural ≤ mostNatural shape (piecesOf words) → answerFor (argument (Aggregate shape) words out) c .outcome .refusal ≡ accepted
+    → SaysArgument c shape words natural (answerFor (argument (Aggregate shape) words out) c) out (writtenFor (argument (Aggregate shape) words out) c)
+argument-is-aapcs64 = row-1.argument-answered
 
 pub result-is-aapcs64 : (c : Call) → c .abi ≡ 1 → (shape : Shape) (words out : List ℕ) → aapcs64.Domain shape (piecesOf words)
-    → (natural : ℕ) → natural ≤ mostNatural shape (piecesOf words) → returnsAnswer c (Aggregate shape) words out .outcome .refusal ≡ accepted
-    → row-1.Answers (returnsAnswer c (Aggregate shape) words out) out (returnsWritten c (Aggregate shape) words out)
-    (λ (slots : List Slot).
-    readsResult (described 1 .«return_pointer») (wayFrom (returnsAnswer c (Aggregate shape) words out .outcome .way)) slots (returnsAnswer c (Aggregate shape) words out .next .left)
-    ≡ some (result (stateOf (c .left)) (composite natural shape (piecesOf words))))
-result-is-aapcs64 c e shape words out d natural n h = row-1.returns-answered c e shape words out d natural n h
+    → (natural : ℕ) → natural ≤ mostNatural shape (piecesOf words) → answerFor (return (Aggregate shape) words out) c .outcome .refusal ≡ accepted
+    → SaysResult c shape words natural (answerFor (return (Aggregate shape) words out) c) out (writtenFor (return (Aggregate shape) words out) c)
+result-is-aapcs64 = row-1.returns-answered
 
--- Methods.antt beside this file says these four of the methods themselves: `argument-method-is-psabi`, `result-method-is-psabi`,
--- `argument-method-is-aapcs64`, `result-method-is-aapcs64`
+pub performed-argument-is-aapcs64 : (c : Call) (shape : Shape) (words out : List ℕ) (a : Answer) (after : List ℕ) → c .abi ≡ 1 → aapcs64.Domain shape (piecesOf words)
+    → (natural : ℕ) → natural ≤ mostNatural shape (piecesOf words) → Performed c (argument (Aggregate shape) words out) a after → a .outcome .refusal ≡ accepted
+    → SaysArgument c shape words natural a out after
+performed-argument-is-aapcs64 = performing.argument-aapcs64
+
+pub performed-result-is-aapcs64 : (c : Call) (shape : Shape) (words out : List ℕ) (a : Answer) (after : List ℕ) → c .abi ≡ 1 → aapcs64.Domain shape (piecesOf words)
+    → (natural : ℕ) → natural ≤ mostNatural shape (piecesOf words) → Performed c (return (Aggregate shape) words out) a after → a .outcome .refusal ≡ accepted
+    → SaysResult c shape words natural a out after
+performed-result-is-aapcs64 = performing.result-aapcs64
 
 -- ---- Demand 3: the ledger
 
 -- any description, any operations in any order, refused ones among them, after any number of them: `Ledger` has one clause for each sentence of
 -- REFERENCE 10
-pub every-register-once : (d : ℕ) → d < 30 → (ops : List Operation) (n : ℕ) → Ledger d (take n (history d ops))
+pub every-register-once : (d : ℕ) → d < description-count → (ops : List Operation) (n : ℕ) → Ledger d (take n (history d ops))
 every-register-once = ledger
 
--- the same of the methods themselves: `Started` and `AllPerformed` say that the answers meet the contracts of `fresh` and of each operation's
--- method, as the checker reads them
-pub every-register-once-performed : (d : ℕ) → d < 30 → (first : Answer) → Started d first → (ops : List Operation) (past : List Answer)
-    → AllPerformed (first .next) ops past → (n : ℕ) → Ledger d (take n past)
-every-register-once-performed = ledger-performed
+-- the same of the functions, each on the call that the one before handed back or left where it stands, through methods, exported entries and bridges
+-- in any mixture: their answers are those of the history
+pub every-register-once-performed : (d : ℕ) → d < description-count → (first : Answer) → Started d first → (ops : List Operation) (past : List Answer)
+    → AllPerformed (first .next) ops past → (past ≡ history d ops) × ((n : ℕ) → Ledger d (take n past))
+every-register-once-performed = performing.ledger-performed
 
--- and of one call that is lent to each operation in turn: `AllLent` says that each form's contract is met on the call as the one before left it.
--- The outcomes and the calls are those of a history, and its ledger holds
-pub every-register-once-lent : (d : ℕ) → d < 30 → (first : Answer) → Started d first → (ops : List lending.Operation) (past : List lending.After)
-    → lending.AllLent (first .next) ops past
-    → (past ≡ history d (map lending.operationOf ops)) × ((n : ℕ) → Ledger d (take n (history d (map lending.operationOf ops))))
-every-register-once-lent = lending.ledger-lent
+-- what an entry hands back in numbers the next one reads as it was: every number of a call, its mark too, and a record's shape
+pub call-read-back : (c : Call) → callFrom (c .abi) (c .left .integer) (c .left .float) (c .left .«integers_only») ≡ c
+call-read-back = numbers.call-read-back
+
+pub shape-read-back : (s : Shape) → shapeFrom (s .size) (s .align) (oneIf (s .complex)) (oneIf (s .floating)) ≡ s
+shape-read-back = numbers.shape-read-back
 
 -- ---- The table of twelve calls (REFERENCE 9.8)
 

@@ -1,4 +1,6 @@
 pub mod Demands
-pub mod Methods
+pub mod Entries
+mod OneOf
 mod Refusing
 mod Answering
+mod Performed

@@ -1,3 +1,5 @@
 pub mod Refusals
 pub mod Rust
-pub mod Methods
+pub mod Standards
+pub mod Performed
+pub mod Contracts

@@ -1,1 +1,1 @@
-// The demands, stated on one page and cited from their proofs: specs/Demands.antt and proofs/Lib.antt. There is no code here.
+// The demands, stated on one page with the proofs that each cites: proofs/Demands.antt, and Entries.antt beside it. There is no code here.

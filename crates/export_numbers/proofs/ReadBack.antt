@@ -1,5 +1,5 @@
 -- What one entry hands back, the next one reads as it was meant: a call from its four numbers, and a shape from a record's.
-use mathlib.Core.Path.{_≡_, refl, sym, ap, _∙_}
+use mathlib.Core.Path.{_≡_, refl}
 use mathlib.Core.Bool.{Bool, true, false}
 use Rattle.shape.specs.declared.Shape.{Shape}
 use Rattle.shape.specs.Numbers.{oneIf}

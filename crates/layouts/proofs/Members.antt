@@ -50,7 +50,7 @@ unfolding piecesWords
 length-words [] = refl
 length-words (p ∷ ps) = let h : length (piecesWords ps) ≡ 4 * length ps = length-words ps in omega arith
 
-room-words : (end : ℕ) (ss : List Scalar) → length (piecesWords (placed end ss)) ≡ 4 * length ss
+pub room-words : (end : ℕ) (ss : List Scalar) → length (piecesWords (placed end ss)) ≡ 4 * length ss
 room-words end ss = length-words (placed end ss) ∙ ap (λ (n : ℕ). 4 * n) (length-placed end ss)
 
 or-refused : (n : ℕ) → (n ≡ accepted → ⊥) → (rest : Placed) → _≡_ {A = Placed} (record { refusal = n; count = 0 }) (orPlaced n rest)

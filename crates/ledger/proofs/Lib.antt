@@ -2,4 +2,3 @@ pub mod Fair
 pub mod Registers
 pub mod Ledger
 pub mod Twelve
-pub mod Performed

@@ -17,7 +17,7 @@ use Rattle.spend.specs.Ways.{marked}
 use Rattle.classify.specs.declared.Call.{Call}
 use Rattle.classify.specs.declared.Answer.{Answer}
 use Rattle.classify.specs.Classify.{isIntegersOnly}
-use Rattle.classify.specs.Answers.{rowRefusal, callRefusalBy, variadicAnswerBy, returnsAnswerBy, argumentAnswerBy, variadicArgumentAnswerBy, freshAnswer, variadicAnswer, returnsAnswer, argumentAnswer, variadicArgumentAnswer}
+use Rattle.classify.specs.Answers.{rowRefusal, callRefusalBy, variadicAnswerBy, returnsAnswerBy, argumentAnswerBy, variadicArgumentAnswerBy, freshAnswer, variadicAnswer, returnsAnswer, returnsWritten, argumentAnswer, argumentWritten, variadicArgumentAnswer, variadicArgumentWritten}
 
 -- ---- a history
 
@@ -42,6 +42,19 @@ answerFor mark c = variadicAnswer c
 answerFor (return arg words out) c = returnsAnswer c arg words out
 answerFor (argument arg words out) c = argumentAnswer c arg words out
 answerFor (variadic-argument arg words out) c = variadicArgumentAnswer c arg words out
+
+-- the buffer that it is lent, none for the mark, and the words that it leaves there
+abbrev pub bufferOf : Operation → List ℕ
+bufferOf mark = []
+bufferOf (return arg words out) = out
+bufferOf (argument arg words out) = out
+bufferOf (variadic-argument arg words out) = out
+
+abbrev pub writtenFor : Operation → Call → List ℕ
+writtenFor mark c = []
+writtenFor (return arg words out) c = returnsWritten c arg words out
+writtenFor (argument arg words out) c = argumentWritten c arg words out
+writtenFor (variadic-argument arg words out) c = variadicArgumentWritten c arg words out
 
 -- the answers to a list of operations, each performed on the call that the one before handed back
 unfoldable pub answersBy : ℕ → Description → Call → List Operation → List Answer
