@@ -1,5 +1,7 @@
-//! Damaged sheets: good operations, one thing that stops the sheet, and more good operations, of
-//! which nothing may be read.
+//! `oracle generate`, damaged: good operations, one thing that stops the sheet, and more good
+//! operations, of which nothing may be read.
+
+use std::io::{self, Write};
 
 use crate::generate::{Generator, bad_description, past};
 use crate::random::Random;
@@ -8,8 +10,13 @@ use crate::records::{
 };
 use crate::values::{MOST_PIECES, Value};
 
+/// Writes a sheet of so many operations, which stops before it has had them all.
+pub fn write(out: &mut impl Write, seed: u64, count: u64) -> io::Result<()> {
+    out.write_all(&sheet(&mut Generator::new(seed), count))
+}
+
 /// A sheet of so many operations, the damage standing in the place of one of them.
-pub fn sheet(generator: &mut Generator, count: u64) -> Vec<u8> {
+fn sheet(generator: &mut Generator, count: u64) -> Vec<u8> {
     let before = generator.random.between(0, count.saturating_sub(1));
     let mut sheet = Vec::new();
     for _ in 0..before {

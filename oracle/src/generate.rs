@@ -1,4 +1,4 @@
-//! `oracle generate`: random sheets, good ones and damaged ones.
+//! `oracle generate`: random sheets that are good; damage.rs makes those that aren't.
 //!
 //! A good sheet never stops. Its calls follow a habit each, so that one runs a bank dry and
 //! another meets a full one; some begin with a run-up to a few registers left, where the rules
@@ -8,7 +8,6 @@
 
 use std::io::{self, Write};
 
-use crate::damage;
 use crate::numbers::{self, ROWS};
 use crate::random::Random;
 use crate::records::{self, AFTER_DOTS, ARGUMENT, FRESH, MARK, RETURN, Record};
@@ -18,21 +17,10 @@ use crate::values::{
     Scalar, Shape, Value,
 };
 
-#[derive(Debug, Clone, Copy, PartialEq, Eq)]
-pub enum Profile {
-    Good,
-    Damaged,
-}
-
-/// Writes a sheet of so many operations. A damaged one stops before it has had them all.
-pub fn write(out: &mut impl Write, seed: u64, count: u64, profile: Profile) -> io::Result<()> {
+/// Writes a sheet of so many operations.
+pub fn write(out: &mut impl Write, seed: u64, count: u64) -> io::Result<()> {
     let mut generator = Generator::new(seed);
-    match profile {
-        Profile::Good => {
-            (0..count).try_for_each(|_| out.write_all(&records::bytes(&generator.operation())))
-        }
-        Profile::Damaged => out.write_all(&damage::sheet(&mut generator, count)),
-    }
+    (0..count).try_for_each(|_| out.write_all(&records::bytes(&generator.operation())))
 }
 
 /// What the values of a call are, mostly.

@@ -3,8 +3,7 @@
 use std::io::{self, BufWriter, Read, Write};
 use std::process::ExitCode;
 
-use oracle::generate::{self, Profile};
-use oracle::{coverage, find, layouts, lookups, rows, shapes, sheet};
+use oracle::{coverage, damage, find, generate, layouts, lookups, rows, shapes, sheet};
 
 const USAGE: &str = "\
 usage: oracle rows                         every fact of the thirty descriptions
@@ -69,11 +68,9 @@ fn answer(out: &mut impl Write, words: &[&str]) -> Option<io::Result<()>> {
         ["shapes", seed, count] => shapes::write(out, number(seed)?, number(count)?),
         ["layouts", seed, count] => layouts::print(out, number(seed)?, number(count)?),
         ["generate", seed, count] | ["generate", seed, count, "good"] => {
-            generate::write(out, number(seed)?, number(count)?, Profile::Good)
+            generate::write(out, number(seed)?, number(count)?)
         }
-        ["generate", seed, count, "damaged"] => {
-            generate::write(out, number(seed)?, number(count)?, Profile::Damaged)
-        }
+        ["generate", seed, count, "damaged"] => damage::write(out, number(seed)?, number(count)?),
         _ => return None,
     })
 }

@@ -1,13 +1,13 @@
 //! Which rules a sheet decides by.
 
 use oracle::coverage;
-use oracle::generate::{self, Profile};
+use oracle::generate;
 use oracle::records::FRESH;
 
 /// The sheet that is stored beside callsheet.
 fn stored() -> Vec<u8> {
     let mut sheet = Vec::new();
-    generate::write(&mut sheet, 7, 50_000, Profile::Good).expect("a vector takes all");
+    generate::write(&mut sheet, 7, 50_000).expect("a vector takes all");
     sheet
 }
 

@@ -2,29 +2,35 @@
 
 use std::collections::HashSet;
 
-use oracle::generate::{self, Profile};
 use oracle::numbers::ROWS;
+use oracle::{damage, generate};
 
 use crate::common;
 
-fn sheet(seed: u64, count: u64, profile: Profile) -> Vec<u8> {
+fn good(seed: u64, count: u64) -> Vec<u8> {
     let mut sheet = Vec::new();
-    generate::write(&mut sheet, seed, count, profile).expect("a vector takes all that is written");
+    generate::write(&mut sheet, seed, count).expect("a vector takes all that is written");
+    sheet
+}
+
+fn damaged(seed: u64, count: u64) -> Vec<u8> {
+    let mut sheet = Vec::new();
+    damage::write(&mut sheet, seed, count).expect("a vector takes all that is written");
     sheet
 }
 
 #[test]
 fn the_same_seed_gives_the_same_sheet() {
-    for profile in [Profile::Good, Profile::Damaged] {
-        assert_eq!(sheet(5, 300, profile), sheet(5, 300, profile));
-        assert_ne!(sheet(5, 300, profile), sheet(6, 300, profile));
+    for sheet in [good, damaged] {
+        assert_eq!(sheet(5, 300), sheet(5, 300));
+        assert_ne!(sheet(5, 300), sheet(6, 300));
     }
 }
 
 #[test]
 fn a_good_sheet_has_a_line_for_each_operation() {
     for seed in 0..20 {
-        let printed = common::printed(&sheet(seed, 1_000, Profile::Good));
+        let printed = common::printed(&good(seed, 1_000));
         assert_eq!(printed.lines().count(), 1_000);
         assert!(!printed.contains("stop"));
     }
@@ -32,7 +38,7 @@ fn a_good_sheet_has_a_line_for_each_operation() {
 
 #[test]
 fn a_good_sheet_has_every_word_and_every_refusal() {
-    let printed = common::printed(&sheet(1, 20_000, Profile::Good));
+    let printed = common::printed(&good(1, 20_000));
     let words: HashSet<&str> = printed.lines().filter_map(|line| line.split(' ').next()).collect();
     let expected =
         ["fresh", "marked", "ignore", "direct", "pieces", "reference", "memory", "refused"];
@@ -44,7 +50,7 @@ fn a_good_sheet_has_every_word_and_every_refusal() {
 
 #[test]
 fn a_good_sheet_opens_every_row() {
-    let sheet = sheet(2, 20_000, Profile::Good);
+    let sheet = good(2, 20_000);
     let rows: HashSet<u64> = sheet
         .chunks(48)
         .filter(|record| record[..8] == [0; 8])
@@ -57,7 +63,7 @@ fn a_good_sheet_opens_every_row() {
 #[test]
 fn a_damaged_sheet_stops() {
     for seed in 0..2_000 {
-        let printed = common::printed(&sheet(seed, 12, Profile::Damaged));
+        let printed = common::printed(&damaged(seed, 12));
         assert!(printed.ends_with("stop\n"), "seed {seed} prints\n{printed}");
         assert_eq!(printed.matches("stop").count(), 1);
     }
