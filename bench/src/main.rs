@@ -16,8 +16,8 @@ use std::process::exit;
 use std::time::Instant;
 
 use original::Row;
-use sides::{ROOM, Refused, Side};
-use values::{ROWS, Value};
+use sides::{Asked, ROOM, Refused, Side};
+use values::ROWS;
 
 /// A place for a counter to cut.
 #[inline(never)]
@@ -27,14 +27,14 @@ extern "C" fn bench_mark() {
 }
 
 enum Cell<'a> {
-    Argument(&'static Row, u64, &'a Value),
+    Argument(&'static Row, u64, &'a Asked),
     Refused(&'a Refused),
 }
 
 impl Cell<'_> {
     fn name(&self) -> String {
         match self {
-            Self::Argument(_, row, value) => format!("{row}\t{}", value.name),
+            Self::Argument(_, row, asked) => format!("{row}\t{}", asked.value.name),
             Self::Refused(refused) => format!("refused\t{}", refused.name),
         }
     }
@@ -43,9 +43,9 @@ impl Cell<'_> {
     fn turns(&self, side: Side, turns: u64, slots: &mut [u64]) -> u64 {
         let mut sum: u64 = 0;
         match self {
-            Self::Argument(row, number, value) => {
+            Self::Argument(row, number, asked) => {
                 for _ in 0..turns {
-                    let said = side(black_box(*row), black_box(*number), black_box(value), slots);
+                    let said = side(black_box(*row), black_box(*number), black_box(asked), slots);
                     sum = sum.wrapping_add(black_box(said));
                 }
             }
@@ -62,12 +62,12 @@ impl Cell<'_> {
 fn main() {
     let arguments: Vec<String> = env::args().skip(1).collect();
     let words: Vec<&str> = arguments.iter().map(String::as_str).collect();
-    let values = values::all();
+    let asked = sides::asked();
     let refused = sides::refused();
     let mut cells: Vec<Cell<'_>> = Vec::new();
     for number in ROWS {
         let row = original::row(number);
-        cells.extend(values.iter().map(|value| Cell::Argument(row, number, value)));
+        cells.extend(asked.iter().map(|asked| Cell::Argument(row, number, asked)));
     }
     cells.extend(refused.iter().map(Cell::Refused));
     match *words {
@@ -98,7 +98,7 @@ fn named(side: &str) -> Side {
 }
 
 fn rust() -> Side {
-    original::SIDE.unwrap_or_else(|| {
+    sides::RUST.unwrap_or_else(|| {
         eprintln!("bench: built without the original");
         exit(2)
     })

@@ -1,16 +1,16 @@
-//! The original, as a side of its own.
+//! The original: what it takes, and a turn of it.
 
 use rucc_abi::{AbiDescription, Arg, Format, Kind, Pass, Piece, Scalar, Shape, Slot, abis};
 
-use crate::sides::Side;
-use crate::values::{Numbers, Value};
+use crate::values::Numbers;
+
+/// Whether it was built in.
+pub const HERE: bool = true;
 
 pub type Row = AbiDescription;
 
 /// The Rust's own form of a value. Its pieces are never given back.
 pub type Given = Arg<'static>;
-
-pub const SIDE: Option<Side> = Some(turn);
 
 pub fn row(number: u64) -> &'static Row {
     abis::DESCRIBED[number as usize]
@@ -42,10 +42,11 @@ fn scalar(number: u64, size: u64, align: u64) -> Scalar {
     Scalar { kind, size, align }
 }
 
-#[inline(never)]
-fn turn(row: &'static Row, _: u64, value: &Value, _: &mut [u64]) -> u64 {
+// In line, so that nothing stands between a side and the original.
+#[inline(always)]
+pub fn turn(row: &'static Row, given: &Given) -> u64 {
     let mut call = row.call();
-    let pass = call.argument(&value.given);
+    let pass = call.argument(given);
     let left = u64::from(call.integer_left()) + 16 * u64::from(call.float_left());
     let said = match &pass {
         Pass::Ignore => 0,

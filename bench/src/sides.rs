@@ -1,8 +1,8 @@
 //! The sides: each starts a call and asks for one argument, and answers a sum of all that was said,
 //! so that nothing is left out and both can be held against each other.
 
-use crate::original::Row;
-use crate::values::{Numbers, Value};
+use crate::original::{self, Given, Row};
+use crate::values::{self, Numbers, Value};
 
 /// The words of a slot: kind, offset, size.
 const SLOT_WORDS: usize = 3;
@@ -44,22 +44,42 @@ unsafe extern "C" {
     fn barkpaddle_argument_aggregate(abi: u64, integer: u64, float: u64, integers_only: u64, size: u64, align: u64, complex: u64, floating: u64, words: *const u64, words_length: u64, slots: *mut u64, slots_length: u64) -> Answer;
 }
 
+/// A value as each side takes it.
+pub struct Asked {
+    pub value: Value,
+    given: Given,
+}
+
+/// All that the sides are asked about.
+pub fn asked() -> Vec<Asked> {
+    let both = |value: Value| Asked { given: original::given(&value.numbers), value };
+    values::all().into_iter().map(both).collect()
+}
+
 /// One turn of one side.
-pub type Side = fn(&'static Row, u64, &Value, &mut [u64]) -> u64;
+pub type Side = fn(&'static Row, u64, &Asked, &mut [u64]) -> u64;
 
 /// Nothing: what the driver itself costs.
 #[inline(never)]
-pub fn none(_: &'static Row, number: u64, value: &Value, slots: &mut [u64]) -> u64 {
-    match &value.numbers {
+pub fn none(_: &'static Row, number: u64, asked: &Asked, slots: &mut [u64]) -> u64 {
+    match &asked.value.numbers {
         Numbers::Scalar { size, .. } => number + size + slots.len() as u64,
         Numbers::Aggregate { size, .. } => number + size,
     }
 }
 
+/// The original, where it was built in.
+pub const RUST: Option<Side> = if original::HERE { Some(rust) } else { None };
+
+#[inline(never)]
+fn rust(row: &'static Row, _: u64, asked: &Asked, _: &mut [u64]) -> u64 {
+    original::turn(row, &asked.given)
+}
+
 /// The library.
 #[inline(never)]
-pub fn ours(_: &'static Row, number: u64, value: &Value, slots: &mut [u64]) -> u64 {
-    let Answer { next, outcome } = argument(barkpaddle_fresh(number).next, value, slots);
+pub fn ours(_: &'static Row, number: u64, asked: &Asked, slots: &mut [u64]) -> u64 {
+    let Answer { next, outcome } = argument(barkpaddle_fresh(number).next, &asked.value, slots);
     let left = next.integer + 16 * next.float;
     let written = slots.chunks_exact(SLOT_WORDS).take(outcome.slots as usize);
     left + 256 * (outcome.way + written.map(|slot| 8 + slot[1]).sum::<u64>())
@@ -113,7 +133,7 @@ pub fn refused() -> Vec<Refused> {
     const TOO_MANY: Call = Call { integer: 7, ..CALL };
     let make = |name, refusal, call, value, room| Refused { name, refusal, call, value, room };
     let two = |change: fn(&mut Vec<u64>)| {
-        let mut values = crate::values::all();
+        let mut values = values::all();
         let mut value = values.swap_remove(4);
         let Numbers::Aggregate { words, .. } = &mut value.numbers else { panic!("two integers") };
         change(words);

@@ -1,7 +1,5 @@
 //! What both sides are asked about.
 
-use crate::original::{self, Given};
-
 /// A value as the numbers that the library takes.
 pub enum Numbers {
     Scalar { kind: u64, size: u64, align: u64 },
@@ -11,9 +9,6 @@ pub enum Numbers {
 pub struct Value {
     pub name: &'static str,
     pub numbers: Numbers,
-    /// What the original takes.
-    #[cfg_attr(not(feature = "original"), expect(dead_code))]
-    pub given: Given,
 }
 
 /// The rows that are measured.
@@ -49,14 +44,9 @@ pub fn all() -> Vec<Value> {
 }
 
 fn scalar(name: &'static str, kind: u64, size: u64) -> Value {
-    value(name, Numbers::Scalar { kind, size, align: size })
+    Value { name, numbers: Numbers::Scalar { kind, size, align: size } }
 }
 
 fn aggregate(name: &'static str, size: u64, align: u64, pieces: &[[u64; 4]]) -> Value {
-    value(name, Numbers::Aggregate { size, align, words: pieces.concat() })
-}
-
-fn value(name: &'static str, numbers: Numbers) -> Value {
-    let given = original::given(&numbers);
-    Value { name, numbers, given }
+    Value { name, numbers: Numbers::Aggregate { size, align, words: pieces.concat() } }
 }
