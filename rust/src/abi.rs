@@ -1,11 +1,14 @@
 //! What a description says (REFERENCE 5).
 
+use core::fmt;
 use core::iter::FusedIterator;
+use core::str;
 
+use crate::limits::MOST_NAME_BYTES;
 use crate::numbers::{
     BitInts, Cleanup, Kind, Narrow, Refusal, ReturnPointer, Short, StackArgs, Travel, Variadic,
 };
-use crate::raw;
+use crate::{entries, ffi};
 
 /// The number of a description of a calling convention.
 #[derive(Debug, Clone, Copy, PartialEq, Eq, Hash, PartialOrd, Ord)]
@@ -27,16 +30,62 @@ impl Abi {
     pub const WINDOWS_X64: Self = Self(4);
     /// RISC-V LP64D.
     pub const RISCV_LP64D: Self = Self(5);
-    /// i386 SysV. Those above are its kin, by [`crate::Target::abi_of`] or REFERENCE 5.5.
+    /// i386 SysV.
     pub const I386_SYSV: Self = Self(6);
+    /// i386 SysV regparm(1).
+    pub const I386_SYSV_REGPARM_1: Self = Self(7);
+    /// i386 SysV regparm(2).
+    pub const I386_SYSV_REGPARM_2: Self = Self(8);
+    /// i386 SysV regparm(3).
+    pub const I386_SYSV_REGPARM_3: Self = Self(9);
+    /// i386 SysV -freg-struct-return.
+    pub const I386_SYSV_REG_STRUCT: Self = Self(10);
+    /// i386 SysV regparm(1) -freg-struct-return.
+    pub const I386_SYSV_REGPARM_1_REG_STRUCT: Self = Self(11);
+    /// i386 SysV regparm(2) -freg-struct-return.
+    pub const I386_SYSV_REGPARM_2_REG_STRUCT: Self = Self(12);
+    /// i386 SysV regparm(3) -freg-struct-return.
+    pub const I386_SYSV_REGPARM_3_REG_STRUCT: Self = Self(13);
+    /// i386 SysV stdcall.
+    pub const I386_SYSV_STDCALL: Self = Self(14);
+    /// i386 SysV stdcall regparm(1).
+    pub const I386_SYSV_REGPARM_1_STDCALL: Self = Self(15);
+    /// i386 SysV stdcall regparm(2).
+    pub const I386_SYSV_REGPARM_2_STDCALL: Self = Self(16);
+    /// i386 SysV stdcall regparm(3).
+    pub const I386_SYSV_REGPARM_3_STDCALL: Self = Self(17);
+    /// i386 SysV stdcall -freg-struct-return.
+    pub const I386_SYSV_REG_STRUCT_STDCALL: Self = Self(18);
+    /// i386 SysV stdcall regparm(1) -freg-struct-return.
+    pub const I386_SYSV_REGPARM_1_REG_STRUCT_STDCALL: Self = Self(19);
+    /// i386 SysV stdcall regparm(2) -freg-struct-return.
+    pub const I386_SYSV_REGPARM_2_REG_STRUCT_STDCALL: Self = Self(20);
+    /// i386 SysV stdcall regparm(3) -freg-struct-return.
+    pub const I386_SYSV_REGPARM_3_REG_STRUCT_STDCALL: Self = Self(21);
+    /// i386 SysV fastcall.
+    pub const I386_SYSV_FASTCALL: Self = Self(22);
+    /// i386 SysV fastcall -freg-struct-return.
+    pub const I386_SYSV_REG_STRUCT_FASTCALL: Self = Self(23);
+    /// i386 Windows (mingw).
+    pub const I386_MINGW: Self = Self(24);
+    /// i386 Windows (MSVC).
+    pub const I386_MSVC: Self = Self(25);
+    /// i386 Windows stdcall (mingw).
+    pub const I386_MINGW_STDCALL: Self = Self(26);
+    /// i386 Windows fastcall (mingw).
+    pub const I386_MINGW_FASTCALL: Self = Self(27);
+    /// i386 Windows stdcall (MSVC).
+    pub const I386_MSVC_STDCALL: Self = Self(28);
+    /// i386 Windows fastcall (MSVC).
+    pub const I386_MSVC_FASTCALL: Self = Self(29);
 
     /// Its fields.
     ///
     /// # Errors
     ///
-    /// There is no such description; likewise below.
+    /// [`Refusal::BadAbi`] where there is no such description.
     pub fn description(self) -> Result<Description, Refusal> {
-        let fields = raw::barkpaddle_description(self.0);
+        let fields = ffi::barkpaddle_description(self.0);
         Refusal::check(fields.refusal)?;
         Ok(Description {
             integer: fields.integer,
@@ -66,27 +115,28 @@ impl Abi {
     ///
     /// # Errors
     ///
-    /// There is no such description.
+    /// [`Refusal::BadAbi`] where there is no such description.
     pub fn return_rules(self) -> Result<Rules, Refusal> {
-        self.rules(|abi, index| raw::barkpaddle_return_rule(abi, index))
+        self.rules(|abi, index| ffi::barkpaddle_return_rule(abi, index))
     }
 
     /// Its rules for aggregates that are arguments.
     ///
     /// # Errors
     ///
-    /// There is no such description.
+    /// [`Refusal::BadAbi`] where there is no such description.
     pub fn argument_rules(self) -> Result<Rules, Refusal> {
-        self.rules(|abi, index| raw::barkpaddle_argument_rule(abi, index))
+        self.rules(|abi, index| ffi::barkpaddle_argument_rule(abi, index))
     }
 
     /// Its name, at the front of `room`.
     ///
     /// # Errors
     ///
-    /// There is no such description, or no room.
+    /// [`Refusal::BadAbi`] where there is no such description, then [`Refusal::NoRoom`] where the
+    /// name doesn't fit `room`. One of [`MOST_NAME_BYTES`] is never too small.
     pub fn name(self, room: &mut [u8]) -> Result<&[u8], Refusal> {
-        let told = raw::name(self.0, room);
+        let told = entries::name(self.0, room);
         Refusal::check(told.refusal)?;
         Ok(&room[..told.value as usize])
     }
@@ -95,9 +145,10 @@ impl Abi {
     ///
     /// # Errors
     ///
-    /// There is no such description, or the size is above its limit; likewise below.
+    /// [`Refusal::BadAbi`] where there is no such description, then [`Refusal::BadSize`] where the
+    /// size is above a scalar's limit.
     pub fn scalar_is_by_reference(self, size: u64) -> Result<bool, Refusal> {
-        let told = raw::barkpaddle_scalar_is_by_reference(self.0, size);
+        let told = ffi::barkpaddle_scalar_is_by_reference(self.0, size);
         Refusal::check(told.refusal).map(|()| told.value != 0)
     }
 
@@ -105,9 +156,10 @@ impl Abi {
     ///
     /// # Errors
     ///
-    /// There is no such description, or the size is above its limit.
+    /// [`Refusal::BadAbi`] where there is no such description, then [`Refusal::BadSize`] where the
+    /// size is above a scalar's limit.
     pub fn scalar_returns_by_reference(self, size: u64) -> Result<bool, Refusal> {
-        let told = raw::barkpaddle_scalar_returns_by_reference(self.0, size);
+        let told = ffi::barkpaddle_scalar_returns_by_reference(self.0, size);
         Refusal::check(told.refusal).map(|()| told.value != 0)
     }
 
@@ -115,20 +167,32 @@ impl Abi {
     ///
     /// # Errors
     ///
-    /// There is no such description, or the size is above its limit.
+    /// [`Refusal::BadAbi`] where there is no such description, then [`Refusal::BadSize`] where the
+    /// size is above a scalar's limit.
     pub fn wide_integer_returns_in(self, size: u64) -> Result<Option<Kind>, Refusal> {
-        let told = raw::barkpaddle_wide_integer_returns_in(self.0, size);
+        let told = ffi::barkpaddle_wide_integer_returns_in(self.0, size);
         Refusal::check(told.refusal).map(|()| Kind::format(told.value))
     }
 
-    fn rules(self, read: fn(u64, u64) -> raw::RuleNumbers) -> Result<Rules, Refusal> {
+    fn rules(self, read: fn(u64, u64) -> ffi::Rule) -> Result<Rules, Refusal> {
         Refusal::check(read(self.0, 0).refusal)?;
         Ok(Rules { abi: self.0, next: 0, read })
     }
 }
 
+impl fmt::Display for Abi {
+    /// Its name, or its number where there is no such description.
+    fn fmt(&self, out: &mut fmt::Formatter<'_>) -> fmt::Result {
+        let mut room = [0; MOST_NAME_BYTES];
+        match self.name(&mut room).map(str::from_utf8) {
+            Ok(Ok(name)) => out.pad(name),
+            _ => write!(out, "description {}", self.0),
+        }
+    }
+}
+
 /// What a description says beside its name and its rules (REFERENCE 5.1, 5.2 and 5.4).
-#[derive(Debug, Clone, Copy, PartialEq, Eq)]
+#[derive(Debug, Clone, Copy, PartialEq, Eq, Hash)]
 #[non_exhaustive]
 pub struct Description {
     /// Integer argument registers.
@@ -174,7 +238,7 @@ pub struct Description {
 }
 
 /// What an aggregate has to look like for a rule to apply (REFERENCE 5.3).
-#[derive(Debug, Clone, Copy, PartialEq, Eq)]
+#[derive(Debug, Clone, Copy, PartialEq, Eq, Hash)]
 #[non_exhaustive]
 pub enum Test {
     /// Anything.
@@ -228,7 +292,7 @@ const fn four_sizes(number: u64) -> [u64; 4] {
 }
 
 /// A rule for aggregates: the first of a list whose test matches decides.
-#[derive(Debug, Clone, Copy, PartialEq, Eq)]
+#[derive(Debug, Clone, Copy, PartialEq, Eq, Hash)]
 #[non_exhaustive]
 pub struct Rule {
     /// What it asks of an aggregate.
@@ -244,7 +308,7 @@ pub struct Rule {
 pub struct Rules {
     abi: u64,
     next: u64,
-    read: fn(u64, u64) -> raw::RuleNumbers,
+    read: fn(u64, u64) -> ffi::Rule,
 }
 
 impl Iterator for Rules {

@@ -2,9 +2,10 @@
 
 use crate::abi::Abi;
 use crate::call::Call;
+use crate::entries::{self, Operation};
+use crate::ffi;
 use crate::numbers::Refusal;
 use crate::outcome::Outcome;
-use crate::raw::{self, Operation};
 use crate::values::Value;
 
 /// A call that each operation updates where it stands: one for each bridge to a foreign function.
@@ -31,8 +32,7 @@ use crate::values::Value;
 /// # Ok::<(), barkpaddle::Refusal>(())
 /// ```
 // It isn't Copy: a copy that is updated in the bridge's stead would go unnoticed.
-#[derive(Debug, Clone, PartialEq, Eq)]
-#[repr(C)]
+#[derive(Debug, Clone, PartialEq, Eq, Hash)]
 pub struct Bridge {
     call: Call,
 }
@@ -42,7 +42,7 @@ impl Bridge {
     ///
     /// # Errors
     ///
-    /// There is no such description.
+    /// [`Refusal::BadAbi`] where there is no such description.
     pub fn fresh(abi: Abi) -> Result<Self, Refusal> {
         Call::fresh(abi).map(Self::from)
     }
@@ -58,16 +58,16 @@ impl Bridge {
     ///
     /// # Errors
     ///
-    /// The description, then the call.
+    /// [`Refusal::BadAbi`] where there is no description of the call's number, then
+    /// [`Refusal::BadCall`] where the call has more registers left than there are, or the
+    /// integers-only mark on a description that doesn't use it.
     pub fn variadic(&mut self) -> Result<(), Refusal> {
-        Refusal::check(raw::barkpaddle_bridge_variadic(&mut self.call).refusal)
+        Refusal::check(ffi::barkpaddle_bridge_variadic(&mut self.call.numbers).refusal)
     }
 
     /// How the return value comes back.
     ///
-    /// # Errors
-    ///
-    /// The description, the call, the value, then no room in `slots`; likewise below.
+    #[doc = include_str!("refusals.md")]
     pub fn returns<'v, 'b>(
         &mut self,
         value: impl Into<Value<'v>>,
@@ -78,9 +78,7 @@ impl Bridge {
 
     /// How the next fixed argument travels.
     ///
-    /// # Errors
-    ///
-    /// As for `returns`.
+    #[doc = include_str!("refusals.md")]
     pub fn argument<'v, 'b>(
         &mut self,
         value: impl Into<Value<'v>>,
@@ -91,9 +89,7 @@ impl Bridge {
 
     /// How the next argument after the dots travels.
     ///
-    /// # Errors
-    ///
-    /// As for `returns`.
+    #[doc = include_str!("refusals.md")]
     pub fn variadic_argument<'v, 'b>(
         &mut self,
         value: impl Into<Value<'v>>,
@@ -108,7 +104,7 @@ impl Bridge {
         value: Value<'_>,
         slots: &'b mut [u64],
     ) -> Result<Outcome<'b>, Refusal> {
-        let outcome = raw::place_lent(operation, &mut self.call, &value, slots);
+        let outcome = entries::place_lent(operation, &mut self.call.numbers, &value, slots);
         Outcome::of(&outcome, slots)
     }
 }

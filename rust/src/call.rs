@@ -1,24 +1,23 @@
 //! A call and its operations (REFERENCE 9).
 
+use core::fmt;
+
 use crate::abi::Abi;
+use crate::entries::{self, Operation};
+use crate::ffi;
 use crate::numbers::Refusal;
 use crate::outcome::Outcome;
-use crate::raw::{self, Operation};
 use crate::values::{Aggregate, Value};
 
 /// A call: its description, the registers left, and the integers-only mark.
 ///
 /// It is a value: each operation hands back the next call, and a refused one leaves this as it was.
 /// [`Bridge`](crate::Bridge) is one that is updated where it stands.
-#[derive(Debug, Clone, Copy, PartialEq, Eq)]
-#[repr(C)]
+#[derive(Clone, Copy, PartialEq, Eq, Hash)]
 pub struct Call {
-    pub(crate) abi: Abi,
-    pub(crate) integer: u64,
-    pub(crate) float: u64,
-    // 0 or 1, so that equal calls are equal numbers: it starts so, and the library hands it on as
-    // it is, or sets it to 1.
-    pub(crate) integers_only: u64,
+    // The mark is 0 or 1, so that equal calls are equal numbers: it starts so, and the library hands
+    // it on as it is, or sets it to 1.
+    pub(crate) numbers: ffi::Call,
 }
 
 impl Call {
@@ -26,15 +25,16 @@ impl Call {
     ///
     /// # Errors
     ///
-    /// There is no such description.
+    /// [`Refusal::BadAbi`] where there is no such description.
     pub fn fresh(abi: Abi) -> Result<Self, Refusal> {
-        Self::next(raw::barkpaddle_fresh(abi.0))
+        Self::next(&ffi::barkpaddle_fresh(abi.0))
     }
 
     /// A call of these numbers, as one that was kept elsewhere. Each operation checks them.
     #[must_use]
     pub const fn from_parts(abi: Abi, integer: u64, float: u64, integers_only: bool) -> Self {
-        Self { abi, integer, float, integers_only: integers_only as u64 }
+        let integers_only = integers_only as u64;
+        Self { numbers: ffi::Call { abi: abi.0, integer, float, integers_only } }
     }
 
     /// The same call, to a function whose parameters end in dots. It may come late and more than
@@ -42,17 +42,17 @@ impl Call {
     ///
     /// # Errors
     ///
-    /// The description, then the call.
+    /// [`Refusal::BadAbi`] where there is no description of the call's number, then
+    /// [`Refusal::BadCall`] where the call has more registers left than there are, or the
+    /// integers-only mark on a description that doesn't use it.
     pub fn variadic(self) -> Result<Self, Refusal> {
-        let Self { abi, integer, float, integers_only } = self;
-        Self::next(raw::barkpaddle_variadic(abi.0, integer, float, integers_only))
+        let ffi::Call { abi, integer, float, integers_only } = self.numbers;
+        Self::next(&ffi::barkpaddle_variadic(abi, integer, float, integers_only))
     }
 
     /// How the return value comes back.
     ///
-    /// # Errors
-    ///
-    /// The description, the call, the value, then no room in `slots`; likewise below.
+    #[doc = include_str!("refusals.md")]
     pub fn returns<'v, 'b>(
         self,
         value: impl Into<Value<'v>>,
@@ -63,9 +63,7 @@ impl Call {
 
     /// How the next fixed argument travels.
     ///
-    /// # Errors
-    ///
-    /// As for `returns`.
+    #[doc = include_str!("refusals.md")]
     pub fn argument<'v, 'b>(
         self,
         value: impl Into<Value<'v>>,
@@ -76,9 +74,7 @@ impl Call {
 
     /// How the next argument after the dots travels.
     ///
-    /// # Errors
-    ///
-    /// As for `returns`.
+    #[doc = include_str!("refusals.md")]
     pub fn variadic_argument<'v, 'b>(
         self,
         value: impl Into<Value<'v>>,
@@ -92,34 +88,39 @@ impl Call {
     ///
     /// # Errors
     ///
-    /// The description, the call, then the aggregate.
+    /// The first of these that applies: [`Refusal::BadAbi`] where there is no description of the
+    /// call's number; [`Refusal::BadCall`] where the call has more registers left than there are, or
+    /// the integers-only mark on a description that doesn't use it; [`Refusal::BadList`] where the
+    /// aggregate has too many pieces; [`Refusal::BadSize`] for its own size; [`Refusal::BadAlign`]
+    /// for its own alignment; its pieces from the first, each [`Refusal::BadKind`],
+    /// [`Refusal::BadSize`] for its size, then for its offset, [`Refusal::BadAlign`].
     pub fn in_memory(self, aggregate: Aggregate<'_>) -> Result<u64, Refusal> {
-        let told = raw::in_memory(self, &aggregate);
+        let told = entries::in_memory(self.numbers, &aggregate);
         Refusal::check(told.refusal).map(|()| told.value)
     }
 
     /// Its description.
     #[must_use]
     pub const fn abi(self) -> Abi {
-        self.abi
+        Abi(self.numbers.abi)
     }
 
     /// Integer registers left.
     #[must_use]
     pub const fn integer_left(self) -> u64 {
-        self.integer
+        self.numbers.integer
     }
 
     /// Float registers left.
     #[must_use]
     pub const fn float_left(self) -> u64 {
-        self.float
+        self.numbers.float
     }
 
     /// Whether floats go in integer registers, too: a marked call of Windows arm64.
     #[must_use]
     pub const fn integers_only(self) -> bool {
-        self.integers_only != 0
+        self.numbers.integers_only != 0
     }
 
     fn place<'b>(
@@ -128,18 +129,26 @@ impl Call {
         value: Value<'_>,
         slots: &'b mut [u64],
     ) -> Result<Passed<'b>, Refusal> {
-        let answer = raw::place(operation, self, &value, slots);
-        Outcome::of(&answer.outcome, slots).map(|outcome| Passed { next: answer.next, outcome })
+        let answer = entries::place(operation, self.numbers, &value, slots);
+        let next = Self { numbers: answer.next };
+        Outcome::of(&answer.outcome, slots).map(|outcome| Passed { next, outcome })
     }
 
     /// The call of an answer that has no more to say.
-    fn next(answer: raw::Answer) -> Result<Self, Refusal> {
-        Refusal::check(answer.outcome.refusal).map(|()| answer.next)
+    fn next(answer: &ffi::Answer) -> Result<Self, Refusal> {
+        Refusal::check(answer.outcome.refusal).map(|()| Self { numbers: answer.next })
+    }
+}
+
+impl fmt::Debug for Call {
+    /// Its four numbers.
+    fn fmt(&self, out: &mut fmt::Formatter<'_>) -> fmt::Result {
+        self.numbers.fmt(out)
     }
 }
 
 /// What an operation answers: the next call, and how the value travels.
-#[derive(Debug, Clone, Copy, PartialEq, Eq)]
+#[derive(Debug, Clone, Copy, PartialEq, Eq, Hash)]
 #[non_exhaustive]
 pub struct Passed<'b> {
     /// The call that the next operation is asked of.

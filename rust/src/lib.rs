@@ -29,17 +29,24 @@
 //!
 //! The numbers behind the names are those of docs/REFERENCE.md. Enums are non-exhaustive, and a
 //! number without a name here comes back as `Unnamed`: a newer library may have more of them.
+//! [`check_version`] says whether the library that is linked is the one that this crate goes with.
 
 #![no_std]
 
+// From the lowest up, each file using only those before it: ffi, limits, numbers, values, entries,
+// outcome, abi, records, call, bridge, targets, version.
 mod abi;
 mod bridge;
 mod call;
+mod entries;
+mod ffi;
+pub mod limits;
 mod numbers;
 mod outcome;
-mod raw;
+mod records;
 mod targets;
 mod values;
+mod version;
 
 pub use abi::{Abi, Description, Rule, Rules, Test};
 pub use bridge::Bridge;
@@ -49,25 +56,7 @@ pub use numbers::{
     Travel, Variadic, Way,
 };
 pub use outcome::{Outcome, Room, Slot, Slots, Spent};
+pub use records::{pieces, record};
 pub use targets::{Convention, Target};
-pub use values::{Aggregate, Piece, Scalar, Value, pieces, record};
-
-/// Limits: each of these numbers is still accepted (REFERENCE 2).
-pub mod limits {
-    /// The size of a scalar or a piece.
-    pub const LARGEST_SCALAR: u64 = 64;
-    /// The size of an aggregate.
-    pub const LARGEST_SHAPE: u64 = 16_777_216;
-    /// The offset of a piece.
-    pub const LARGEST_OFFSET: u64 = 16_777_216;
-    /// Any alignment.
-    pub const LARGEST_ALIGN: u64 = 4_096;
-    /// The pieces of an aggregate, or the members of a record.
-    pub const MOST_PIECES: usize = 1_024;
-    /// No result has more slots.
-    pub const MOST_SLOTS: usize = 8;
-    /// The words of a slot, of which a lent buffer holds a third of its length.
-    pub const SLOT_WORDS: usize = 3;
-    /// No name of a description or an attribute has more bytes.
-    pub const MOST_NAME_BYTES: usize = 64;
-}
+pub use values::{Aggregate, Piece, Scalar, Value};
+pub use version::{VERSION, WrongVersion, check_version, library_version};

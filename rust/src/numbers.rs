@@ -60,6 +60,20 @@ impl Kind {
     }
 }
 
+impl fmt::Display for Kind {
+    /// Its name in REFERENCE 1.1, or its number.
+    fn fmt(&self, out: &mut fmt::Formatter<'_>) -> fmt::Result {
+        out.pad(match self {
+            Self::Integer => "integer",
+            Self::Single => "Single",
+            Self::Double => "Double",
+            Self::X87Extended => "X87Extended",
+            Self::Quad => "Quad",
+            Self::Unnamed(number) => return write!(out, "kind {number}"),
+        })
+    }
+}
+
 numbered! {
     /// A way in which a value travels.
     Way {
@@ -73,6 +87,20 @@ numbered! {
         Reference = 3,
         /// Its bytes, in the argument area.
         Memory = 4,
+    }
+}
+
+impl fmt::Display for Way {
+    /// Its name in a line of a sheet (REFERENCE 11), or its number.
+    fn fmt(&self, out: &mut fmt::Formatter<'_>) -> fmt::Result {
+        out.pad(match self {
+            Self::Ignore => "ignore",
+            Self::Direct => "direct",
+            Self::Pieces => "pieces",
+            Self::Reference => "reference",
+            Self::Memory => "memory",
+            Self::Unnamed(number) => return write!(out, "way {number}"),
+        })
     }
 }
 

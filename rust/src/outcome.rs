@@ -4,12 +4,12 @@ use core::iter::FusedIterator;
 use core::ops::{Deref, DerefMut};
 use core::slice::ChunksExact;
 
+use crate::ffi;
 use crate::limits::{MOST_SLOTS, SLOT_WORDS};
 use crate::numbers::{Kind, Refusal, Way};
-use crate::raw;
 
 /// How a value travels.
-#[derive(Debug, Clone, Copy, PartialEq, Eq)]
+#[derive(Debug, Clone, Copy, PartialEq, Eq, Hash)]
 #[non_exhaustive]
 pub struct Outcome<'b> {
     /// The way.
@@ -28,7 +28,7 @@ impl<'b> Outcome<'b> {
 
     /// The outcome of these numbers, where they aren't a refusal's; its slots are at the front of
     /// `buffer`.
-    pub(crate) fn of(numbers: &raw::Outcome, buffer: &'b [u64]) -> Result<Self, Refusal> {
+    pub(crate) fn of(numbers: &ffi::Outcome, buffer: &'b [u64]) -> Result<Self, Refusal> {
         Refusal::check(numbers.refusal)?;
         Ok(Self {
             way: Way::from_number(numbers.way),
@@ -45,7 +45,7 @@ impl<'b> Outcome<'b> {
 
 /// Registers that an operation passed over, which carry nothing, and those that it was given. It
 /// passes over first.
-#[derive(Debug, Clone, Copy, PartialEq, Eq, Default)]
+#[derive(Debug, Clone, Copy, PartialEq, Eq, Hash, Default)]
 #[non_exhaustive]
 pub struct Spent {
     /// Integer registers passed over.
@@ -59,7 +59,7 @@ pub struct Spent {
 }
 
 /// One register's worth of a value: which of its bytes go there.
-#[derive(Debug, Clone, Copy, PartialEq, Eq)]
+#[derive(Debug, Clone, Copy, PartialEq, Eq, Hash)]
 #[non_exhaustive]
 pub struct Slot {
     /// An integer, or a float's format.

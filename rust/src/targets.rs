@@ -2,7 +2,7 @@
 
 use crate::abi::Abi;
 use crate::numbers::{Architecture, Refusal, System};
-use crate::raw;
+use crate::{entries, ffi};
 
 /// A target: its architecture, its system, and MSVC or not, which is read on 32-bit Windows alone.
 #[derive(Debug, Clone, Copy, PartialEq, Eq, Hash)]
@@ -26,7 +26,7 @@ impl Target {
     #[must_use]
     pub fn abi(self) -> Option<Abi> {
         let [architecture, system, msvc] = self.codes();
-        known(raw::barkpaddle_for_target(architecture, system, msvc)).map(Abi)
+        known(ffi::barkpaddle_for_target(architecture, system, msvc)).map(Abi)
     }
 
     /// The description that a function of a convention follows here.
@@ -34,13 +34,13 @@ impl Target {
     pub fn abi_of(self, convention: Convention) -> Option<Abi> {
         let [architecture, system, msvc] = self.codes();
         let number = convention.number();
-        known(raw::barkpaddle_for_convention(architecture, system, msvc, number)).map(Abi)
+        known(ffi::barkpaddle_for_convention(architecture, system, msvc, number)).map(Abi)
     }
 
     /// The convention that an attribute's name asks for here. It is compared whole, case for case.
     #[must_use]
     pub fn asked(self, name: &[u8]) -> Option<Convention> {
-        known(raw::asked(self.codes(), name)).map(Convention::from_number)
+        known(entries::asked(self.codes(), name)).map(Convention::from_number)
     }
 
     fn codes(self) -> [u64; 3] {
@@ -110,9 +110,10 @@ impl Convention {
     ///
     /// # Errors
     ///
-    /// No room.
+    /// [`Refusal::NoRoom`] where the name doesn't fit `room`. One of
+    /// [`MOST_NAME_BYTES`](crate::limits::MOST_NAME_BYTES) is never too small.
     pub fn attribute(self, room: &mut [u8]) -> Result<Option<&[u8]>, Refusal> {
-        let told = raw::attribute(self.number(), room);
+        let told = entries::attribute(self.number(), room);
         Refusal::check(told.refusal)?;
         Ok(known(told.value).map(|length| &room[..length as usize]))
     }
@@ -120,7 +121,7 @@ impl Convention {
     /// Whether its callee takes its arguments off the stack.
     #[must_use]
     pub fn callee_pops(self) -> bool {
-        raw::barkpaddle_callee_pops(self.number()) != 0
+        ffi::barkpaddle_callee_pops(self.number()) != 0
     }
 }
 

@@ -1,16 +1,20 @@
-//! What is asked about: scalars, pieces, aggregates; and records from their members.
+//! What is asked about: scalars, pieces, aggregates.
 
-use crate::numbers::{Kind, Refusal};
-use crate::raw;
+use crate::ffi::laid_out;
+use crate::numbers::Kind;
 
 /// A scalar: kind, size in bytes, alignment.
-#[derive(Debug, Clone, Copy, PartialEq, Eq)]
+///
+/// It is laid out as its three words, so that a list of members is handed over as it stands.
+#[derive(Debug, Clone, Copy, PartialEq, Eq, Hash)]
 #[repr(C)]
 pub struct Scalar {
     kind: u64,
     size: u64,
     align: u64,
 }
+
+laid_out!(Scalar, 24 { kind: 0, size: 8, align: 16 });
 
 impl Scalar {
     /// A scalar of these.
@@ -23,6 +27,30 @@ impl Scalar {
     #[must_use]
     pub const fn integer(size: u64) -> Self {
         Self::new(Kind::Integer, size, size)
+    }
+
+    /// A float of the size that its format has, aligned to its size. None for a kind that is no
+    /// format: an integer has no size of its own, and what an unnamed kind is nobody knows.
+    ///
+    /// An `X87Extended` has 16 bytes, as on x86-64. On 32-bit x86 it has 12, aligned to 4: that is
+    /// [`new`](Self::new)'s to say.
+    ///
+    /// ```
+    /// use barkpaddle::{Kind, Scalar};
+    ///
+    /// assert_eq!(Scalar::float(Kind::Double), Some(Scalar::new(Kind::Double, 8, 8)));
+    /// assert_eq!(Scalar::float(Kind::Integer), None);
+    /// # Ok::<(), barkpaddle::Refusal>(())
+    /// ```
+    #[must_use]
+    pub const fn float(format: Kind) -> Option<Self> {
+        let size = match format {
+            Kind::Single => 4,
+            Kind::Double => 8,
+            Kind::X87Extended | Kind::Quad => 16,
+            Kind::Integer | Kind::Unnamed(_) => return None,
+        };
+        Some(Self::new(format, size, size))
     }
 
     /// Its kind.
@@ -47,7 +75,7 @@ impl Scalar {
 /// A scalar inside an aggregate, at an offset from its start.
 ///
 /// It is laid out as its four words, so that a list of pieces is handed over as it stands.
-#[derive(Debug, Clone, Copy, PartialEq, Eq, Default)]
+#[derive(Debug, Clone, Copy, PartialEq, Eq, Hash, Default)]
 #[repr(C)]
 pub struct Piece {
     kind: u64,
@@ -55,6 +83,8 @@ pub struct Piece {
     align: u64,
     offset: u64,
 }
+
+laid_out!(Piece, 32 { kind: 0, size: 8, align: 16, offset: 24 });
 
 impl Piece {
     /// A piece of these.
@@ -96,7 +126,7 @@ impl Piece {
 
 /// An aggregate: its size and alignment, two marks, and every scalar in it, arrays and nested
 /// records flattened out. Pieces may overlap, leave holes, or stick out past the size.
-#[derive(Debug, Clone, Copy, PartialEq, Eq)]
+#[derive(Debug, Clone, Copy, PartialEq, Eq, Hash)]
 pub struct Aggregate<'a> {
     /// Its size in bytes.
     pub size: u64,
@@ -119,7 +149,7 @@ impl<'a> Aggregate<'a> {
 }
 
 /// What an operation is asked about.
-#[derive(Debug, Clone, Copy, PartialEq, Eq)]
+#[derive(Debug, Clone, Copy, PartialEq, Eq, Hash)]
 pub enum Value<'a> {
     /// Nothing.
     Void,
@@ -139,34 +169,4 @@ impl<'a> From<Aggregate<'a>> for Value<'a> {
     fn from(aggregate: Aggregate<'a>) -> Self {
         Self::Aggregate(aggregate)
     }
-}
-
-/// Places each member at the next offset that it fits, at the front of `room`, and hands back the
-/// pieces (REFERENCE 4.2).
-///
-/// # Errors
-///
-/// Too many members, then the members from the first, then no room for all of them.
-pub fn pieces<'r>(members: &[Scalar], room: &'r mut [Piece]) -> Result<&'r [Piece], Refusal> {
-    let told = raw::pieces(members, room);
-    Refusal::check(told.refusal)?;
-    Ok(&room[..told.value as usize])
-}
-
-/// The record that these pieces make (REFERENCE 4.3).
-///
-/// # Errors
-///
-/// Too many pieces, then the pieces from the first, then alignments that are all 0, then a size
-/// above the limit.
-pub fn record(pieces: &[Piece]) -> Result<Aggregate<'_>, Refusal> {
-    let shape = raw::record(pieces);
-    Refusal::check(shape.refusal)?;
-    Ok(Aggregate {
-        size: shape.size,
-        align: shape.align,
-        complex: shape.complex != 0,
-        floating: shape.floating != 0,
-        pieces,
-    })
 }

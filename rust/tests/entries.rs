@@ -1,10 +1,13 @@
 //! The wrapper by itself: what it hands over, what it hands back, and what is refused.
 
+use std::collections::HashSet;
 use std::error::Error;
+use std::hash::Hash;
 
 use barkpaddle::{
-    Abi, Aggregate, Architecture, Call, Convention, Kind, Piece, Refusal, Room, Scalar, System,
-    Target, Value, Way, limits, pieces, record,
+    Abi, Aggregate, Architecture, Bridge, Call, Convention, Description, Kind, Outcome, Passed,
+    Piece, Refusal, Room, Rule, Scalar, Slot, Spent, System, Target, Test, VERSION, Value, Way,
+    WrongVersion, check_version, library_version, limits, pieces, record,
 };
 
 const SYSV: Abi = Abi::SYSV_AMD64;
@@ -93,6 +96,62 @@ fn numbers_and_names_are_each_others() {
         assert_eq!(Architecture::from_number(number).number(), number);
         assert_eq!(System::from_number(number).number(), number);
     }
+}
+
+#[test]
+fn kinds_ways_and_descriptions_are_shown_by_name() {
+    let kinds = (0..6).map(|number| Kind::from_number(number).to_string());
+    let shown: Vec<String> = kinds.collect();
+    assert_eq!(shown, ["integer", "Single", "Double", "X87Extended", "Quad", "kind 5"]);
+    let ways = (0..6).map(|number| Way::from_number(number).to_string());
+    let shown: Vec<String> = ways.collect();
+    assert_eq!(shown, ["ignore", "direct", "pieces", "reference", "memory", "way 5"]);
+    assert_eq!(format!("[{:>8}] [{:<8}]", Kind::Quad, Way::Direct), "[    Quad] [direct  ]");
+
+    assert_eq!(SYSV.to_string(), "SysV AMD64");
+    assert_eq!(Abi::I386_SYSV_REGPARM_2.to_string(), "i386 SysV regparm(2)");
+    assert_eq!(format!("{:>12}", Abi::AAPCS64), "     AAPCS64");
+    for number in 0..Abi::COUNT {
+        let mut room = [0; limits::MOST_NAME_BYTES];
+        let name = Abi(number).name(&mut room).expect("there is room");
+        assert_eq!(Abi(number).to_string().as_bytes(), name);
+    }
+    assert_eq!(Abi(Abi::COUNT).to_string(), "description 30");
+    assert_eq!(Abi(u64::MAX).to_string(), format!("description {}", u64::MAX));
+}
+
+#[test]
+fn a_float_has_its_formats_size() {
+    let sizes = [(Kind::Single, 4), (Kind::Double, 8), (Kind::X87Extended, 16), (Kind::Quad, 16)];
+    for (format, size) in sizes {
+        assert_eq!(Scalar::float(format), Some(Scalar::new(format, size, size)));
+    }
+    for kind in [Kind::Integer, Kind::Unnamed(5)] {
+        assert_eq!(Scalar::float(kind), None);
+    }
+    const DOUBLE: Scalar = Scalar::float(Kind::Double).expect("a format");
+    let passed = Call::fresh(SYSV).expect("a description").argument(DOUBLE, &mut []);
+    assert_eq!(passed.expect("accepted").outcome.spent.floats_given, 1);
+}
+
+#[test]
+fn plain_types_are_keys() {
+    fn key<T: Eq + Hash>() {}
+    key::<(Abi, Description, Rule, Test)>();
+    key::<(Call, Bridge, Passed<'_>, Outcome<'_>, Spent, Slot)>();
+    key::<(Scalar, Piece, Aggregate<'_>, Value<'_>)>();
+    key::<(Kind, Way, Refusal, Target, Convention, WrongVersion)>();
+
+    let call = Call::fresh(SYSV).expect("a description");
+    let next = call.argument(Scalar::integer(8), &mut []).expect("accepted").next;
+    let calls = HashSet::from([call, next, Call::from_parts(SYSV, 6, 8, false)]);
+    assert_eq!(calls.len(), 2);
+}
+
+#[test]
+fn the_library_is_of_this_version() {
+    assert_eq!(library_version(), VERSION);
+    assert_eq!(check_version(), Ok(()));
 }
 
 #[test]

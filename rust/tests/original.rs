@@ -197,9 +197,8 @@ fn print_left(out: &mut String, word: &str, call: Option<Call>, refusal: Option<
 
 fn print_passed(out: &mut String, passed: &Passed<'_>) {
     let Passed { next, outcome, .. } = passed;
-    let word = format!("{:?}", outcome.way).to_lowercase();
     let spent = outcome.spent;
-    write!(out, "{word} {} {}", next.integer_left(), next.float_left())
+    write!(out, "{} {} {}", outcome.way, next.integer_left(), next.float_left())
         .and_then(|()| write!(out, " {} {}", spent.integers_passed, spent.integers_given))
         .and_then(|()| write!(out, " {} {}", spent.floats_passed, spent.floats_given))
         .expect("a string takes it");

@@ -1,0 +1,18 @@
+//! Limits: each of these numbers is still accepted (REFERENCE 2).
+
+/// The size of a scalar or a piece.
+pub const LARGEST_SCALAR: u64 = 64;
+/// The size of an aggregate.
+pub const LARGEST_SHAPE: u64 = 16_777_216;
+/// The offset of a piece.
+pub const LARGEST_OFFSET: u64 = 16_777_216;
+/// Any alignment.
+pub const LARGEST_ALIGN: u64 = 4_096;
+/// The pieces of an aggregate, or the members of a record.
+pub const MOST_PIECES: usize = 1_024;
+/// No result has more slots.
+pub const MOST_SLOTS: usize = 8;
+/// The words of a slot, of which a lent buffer holds a third of its length.
+pub const SLOT_WORDS: usize = 3;
+/// No name of a description or an attribute has more bytes.
+pub const MOST_NAME_BYTES: usize = 64;
