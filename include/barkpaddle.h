@@ -35,8 +35,8 @@ extern "C" {
 /* ---- the version ---- */
 
 /* The version of this header: one number, raised with each change of the header. A program that may be linked to an archive that was made
- * elsewhere holds it against barkpaddle_version() before it asks anything else. Where they differ the archive goes with another header, and
- * its answers aren't to be read by this one: link the archive that tools/staticlib makes beside this header. */
+ * elsewhere compares it with barkpaddle_version() before it asks anything else. Where they differ the archive goes with another header: it
+ * may lack what this one names, or answer what this one doesn't. Link the archive that tools/staticlib makes beside this header. */
 #define BARKPADDLE_VERSION UINT64_C(1)
 
 /* The version of the header that the archive goes with. Refuses nothing. */
