@@ -56,13 +56,6 @@ module _ (checks : ℕ) (c : Call) (p : Passed) (spent : Spent) (out : List ℕ)
   unfolding answerTo writtenTo
   accepted-where z h = record { checks-pass = z; room = h; answer = rw (z, le-ltb _ _ h); words-are = rw (z, le-ltb _ _ h) }
 
-  -- a refusal keeps the call and the words
-  pub refused-so : (answerTo checks c p spent out .outcome .refusal ≡ accepted → ⊥) → (answerTo checks c p spent out .next ≡ c) × (writtenTo checks p out ≡ out)
-  refused-so =
-      by-cases (λ (a : Answer) (words : List ℕ). (a .outcome .refusal ≡ accepted → ⊥) → (a .next ≡ c) × (words ≡ out))
-      (λ n e z. (refl, refl))
-      (λ z h x. absurd (x refl))
-
 -- ---- a call
 
 -- no count is above its bank's start, and the mark is set only where the description uses it

@@ -75,30 +75,36 @@ performed-refused = performing.performed-refused
 pub fresh-refused : (d : ℕ) → IsRefusal (freshAnswer d .outcome .refusal) → Refused numberRefusals (unmarked 0 0 0) [] (freshAnswer d) []
 fresh-refused = refusing.fresh-refused
 
+-- the same, whichever function started it
 pub started-refused : (d : ℕ) (a : Answer) → Started d a → IsRefusal (a .outcome .refusal) → Refused numberRefusals (unmarked 0 0 0) [] a []
 started-refused = performing.started-refused
 
--- what is asked beside; the lookups refuse nothing
+-- what is asked beside; the lookups refuse nothing. The alignment in the argument area
 pub in-memory-refused : (c : Call) (shape : Shape) (words : List ℕ) → IsRefusal (inMemoryAnswer c shape words .refusal)
     → RefusedTold inMemoryRefusals (alignTold (inMemoryAnswer c shape words)) [] []
 in-memory-refused = refusing.in-memory-refused
 
+-- pieces from members
 pub pieces-refused : (members out : List ℕ) → IsRefusal (piecesAnswer members out .refusal)
     → RefusedTold memberRefusals (countTold (piecesAnswer members out)) out (piecesWritten members out)
 pieces-refused = refusing.pieces-refused
 
+-- the record that pieces make
 pub record-refused : (words : List ℕ) → IsRefusal (recordAnswer words .refusal)
     → RefusedAs recordRefusals (recordAnswer words .refusal) (noRecord (recordAnswer words .refusal)) (recordNumbers (recordAnswer words))
 record-refused = refusing.record-refused
 
+-- a description's name
 pub name-refused : (d : ℕ) (out : List ℕ) → IsRefusal (nameAnswer d (length out) .refusal)
     → RefusedTold nameRefusals (lengthTold (nameAnswer d (length out))) out (nameWritten d out)
 name-refused = refusing.name-refused
 
+-- an attribute's name
 pub attribute-refused : (convention : ℕ) (out : List ℕ) → IsRefusal (attributeAnswer convention (length out) .refusal)
     → RefusedTold attributeRefusals (lengthTold (attributeAnswer convention (length out))) out (attributeWritten convention out)
 attribute-refused = refusing.attribute-refused
 
+-- the three questions about a scalar of a size
 pub by-reference-refused : (d size : ℕ) → IsRefusal (isByReferenceAnswer d size .refusal) → RefusedTold questionRefusals (yesTold (isByReferenceAnswer d size)) [] []
 by-reference-refused = refusing.by-reference-refused
 
@@ -109,6 +115,7 @@ returns-by-reference-refused = refusing.returns-by-reference-refused
 pub wide-returns-in-refused : (d size : ℕ) → IsRefusal (wideReturnsInAnswer d size .refusal) → RefusedTold questionRefusals (formatTold (wideReturnsInAnswer d size)) [] []
 wide-returns-in-refused = refusing.wide-returns-in-refused
 
+-- a description's fields, and its rules
 pub description-refused : (d : ℕ) → IsRefusal (descriptionAnswer d .refusal) → RefusedAs numberRefusals (descriptionAnswer d .refusal) noDescription (descriptionAnswer d)
 description-refused = refusing.description-refused
 
@@ -129,10 +136,11 @@ operation-accepts = answering.operation-accepts
 pub operation-as-rust : (op : Operation) (c : Call) → Accepts op c → AsRust c (bufferOf op) (rustPasses op c) (rulesSpend op c) (answerFor op c) (writtenFor op c)
 operation-as-rust = answering.operation-as-rust
 
--- the same, whichever function performed it
+-- whichever function performed it, it is accepted only there
 pub performed-accepts : (c : Call) (op : Operation) (a : Answer) (after : List ℕ) → Performed c op a after → a .outcome .refusal ≡ accepted → Accepts op c
 performed-accepts = performing.performed-accepts
 
+-- and whichever performed it, all else is the Rust's there, too
 pub performed-as-rust : (c : Call) (op : Operation) (a : Answer) (after : List ℕ) → Performed c op a after → Accepts op c
     → AsRust c (bufferOf op) (rustPasses op c) (rulesSpend op c) a after
 performed-as-rust = performing.performed-as-rust
@@ -146,34 +154,40 @@ performed-way = performing.performed-way
 pub fresh-as-rust : (d : ℕ) → d < description-count → freshAnswer d ≡ done (callWith d (rust.call (described d)))
 fresh-as-rust = answering.fresh-as-rust
 
+-- the same, whichever function started it
 pub started-as-rust : (d : ℕ) (a : Answer) → Started d a → d < description-count → a ≡ done (callWith d (rust.call (described d)))
 started-as-rust = performing.started-as-rust
 
--- it isn't marked, and the mark marks it where the description has floats of such calls go in integer registers
+-- it isn't marked
 pub fresh-is-unmarked : (d : ℕ) → marked (freshAnswer d .next .left) ≡ false
 fresh-is-unmarked = answering.fresh-is-unmarked
 
+-- and the mark marks it where the description has the floats of a variadic call go in integer registers
 pub mark-marks : (c : Call) → Accepts mark c → marked (variadicAnswer c .next .left) ≡ rust.isIntegersOnly (described (c .abi) .variadic)
 mark-marks = answering.mark-marks
 
--- what is asked beside
+-- what is asked beside: the alignment in the argument area
 pub in-memory-as-rust : (c : Call) (shape : Shape) (words : List ℕ) → refusalOf c (Aggregate shape) words ≡ accepted
     → alignTold (inMemoryAnswer c shape words) ≡ told accepted (inMemory (described (c .abi)) shape (piecesOf words))
 in-memory-as-rust = answering.in-memory-as-rust
 
+-- pieces from members, each at the next offset that it fits
 pub pieces-as-rust : (members out : List ℕ) → membersRefusal members ≡ accepted → length (scalarsOf members) ≤ length out / pieceSize
     → (countTold (piecesAnswer members out) ≡ told accepted (length (scalarsOf members))) × (piecesWritten members out ≡ putAt out 0 (piecesWords (placed 0 (scalarsOf members))))
 pieces-as-rust = answering.pieces-as-rust
 
+-- the record that pieces make, where its alignment isn't 0 and its size keeps to the limit
 pub record-as-rust : (words : List ℕ) → orElse (listRefusal words) (piecesRefusal (piecesOf words)) ≡ accepted → (recordAlign (piecesOf words) ≡ 0 → ⊥)
     → recordSize (piecesOf words) ≤ most-offset
     → recordAnswer words ≡ recorded accepted (recordSize (piecesOf words)) (recordAlign (piecesOf words)) (isFloating (recordSize (piecesOf words)) (piecesOf words))
 record-as-rust = answering.record-as-rust
 
+-- a description's name
 pub name-as-rust : (d : ℕ) → d < description-count → (out : List ℕ) → length (described d .name) ≤ length out
     → (lengthTold (nameAnswer d (length out)) ≡ told accepted (length (described d .name))) × (nameWritten d out ≡ putAt out 0 (described d .name))
 name-as-rust = answering.name-as-rust
 
+-- the three questions
 pub by-reference-as-rust : (d : ℕ) → d < description-count → (size : ℕ) → size ≤ most-size
     → yesTold (isByReferenceAnswer d size) ≡ told accepted (oneIf (isByReference (described d .scalars) size))
 by-reference-as-rust = answering.by-reference-as-rust
@@ -186,6 +200,7 @@ pub wide-returns-in-as-rust : (d : ℕ) → d < description-count → (size : �
     → formatTold (wideReturnsInAnswer d size) ≡ told accepted (wideReturnsIn (described d .scalars) size)
 wide-returns-in-as-rust = answering.wide-returns-in-as-rust
 
+-- a description's fields, and its rules
 pub description-as-rust : (d : ℕ) → d < description-count → descriptionAnswer d ≡ fieldsOf (described d)
 description-as-rust = answering.description-as-rust
 
@@ -195,27 +210,32 @@ return-rule-as-rust = answering.return-rule-as-rust
 pub argument-rule-as-rust : (d : ℕ) → d < description-count → (i : ℕ) → argumentRuleAnswer d i ≡ ruleIn (described d .arguments) i
 argument-rule-as-rust = answering.argument-rule-as-rust
 
--- the lookups: none for a code that isn't known
+-- the lookups, with none for a code that isn't known: the description of a target
 pub for-target-as-rust : (architecture system : ℕ) (msvc : Bool)
     → targetAnswer architecture system msvc ≡ cond (isTarget architecture system) (numberOf (forTarget (architectureOf architecture) (systemOf system) msvc)) noneNumber
 for-target-as-rust = answering.for-target-as-rust
 
+-- that of a convention on it
 pub for-convention-as-rust : (architecture system : ℕ) (msvc : Bool) (convention : ℕ)
     → conventionAnswer architecture system msvc convention
     ≡ cond (isTarget architecture system && isConvention convention) (numberOf (forConvention (conventionOf convention) (architectureOf architecture) (systemOf system) msvc)) noneNumber
 for-convention-as-rust = answering.for-convention-as-rust
 
+-- whether its callee takes the arguments off the stack
 pub callee-pops-as-rust : (convention : ℕ) → popsAnswer convention ≡ cond (isConvention convention) (calleePops (conventionOf convention)) false
 callee-pops-as-rust = answering.callee-pops-as-rust
 
+-- the convention that an attribute's name asks for
 pub asked-as-rust : (architecture system : ℕ) (msvc : Bool) (name : List ℕ)
     → askedAnswer architecture system msvc name ≡ cond (isTarget architecture system) (codeOf (asked (architectureOf architecture) (systemOf system) name)) noneNumber
 asked-as-rust = answering.asked-as-rust
 
+-- the name of the attribute that asks for a convention
 pub attribute-as-rust : (convention : ℕ) (out name : List ℕ) → isConvention convention ≡ true → attribute (conventionOf convention) ≡ some name → length name ≤ length out
     → (lengthTold (attributeAnswer convention (length out)) ≡ told accepted (length name)) × (attributeWritten convention out ≡ putAt out 0 name)
 attribute-as-rust = answering.attribute-as-rust
 
+-- none, where there is no such attribute or no such convention
 pub no-attribute-as-rust : (convention : ℕ) (out : List ℕ) → cond (isConvention convention) (attribute (conventionOf convention)) none ≡ none
     → (lengthTold (attributeAnswer convention (length out)) ≡ told accepted noneNumber) × (attributeWritten convention out ≡ out)
 no-attribute-as-rust = answering.no-attribute-as-rust
@@ -234,6 +254,7 @@ pub result-is-psabi : (c : Call) (shape : Shape) (words out : List ℕ) → c .a
     (psabiResult (freeAt c) (shape .size) (piecesOf words))
 result-is-psabi = row-0.result-says
 
+-- the same, whichever function performed it
 pub performed-argument-is-psabi : (c : Call) (shape : Shape) (words out : List ℕ) (a : Answer) (after : List ℕ) → c .abi ≡ 0 → psabi.Domain shape (piecesOf words)
     → Performed c (argument (Aggregate shape) words out) a after → a .outcome .refusal ≡ accepted
     → Says (freeAt c) c a after (psabiArgument (freeAt c) (shape .size) (piecesOf words))
@@ -256,6 +277,7 @@ pub result-is-aapcs64 : (c : Call) → c .abi ≡ 1 → (shape : Shape) (words o
     → SaysResult c shape words natural (answerFor (return (Aggregate shape) words out) c) out (writtenFor (return (Aggregate shape) words out) c)
 result-is-aapcs64 = row-1.returns-answered
 
+-- the same, whichever function performed it
 pub performed-argument-is-aapcs64 : (c : Call) (shape : Shape) (words out : List ℕ) (a : Answer) (after : List ℕ) → c .abi ≡ 1 → aapcs64.Domain shape (piecesOf words)
     → (natural : ℕ) → natural ≤ mostNatural shape (piecesOf words) → Performed c (argument (Aggregate shape) words out) a after → a .outcome .refusal ≡ accepted
     → SaysArgument c shape words natural a out after
@@ -279,10 +301,11 @@ pub every-register-once-performed : (d : ℕ) → d < description-count → (fir
     → AllPerformed (first .next) ops past → (past ≡ history d ops) × ((n : ℕ) → Ledger d (take n past))
 every-register-once-performed = performing.ledger-performed
 
--- what an entry hands back in numbers the next one reads as it was: every number of a call, its mark too, and a record's shape
+-- what an entry hands back in numbers the next one reads as it was: every number of a call, its mark too
 pub call-read-back : (c : Call) → callFrom (c .abi) (c .left .integer) (c .left .float) (c .left .«integers_only») ≡ c
 call-read-back = numbers.call-read-back
 
+-- and a record's shape
 pub shape-read-back : (s : Shape) → shapeFrom (s .size) (s .align) (oneIf (s .complex)) (oneIf (s .floating)) ≡ s
 shape-read-back = numbers.shape-read-back
 
