@@ -44,7 +44,6 @@ use Rattle.ledger.specs.Ledger.{Operation, mark, return, argument, variadic-arg
 use Rattle.export_numbers.specs.Numbers.{told}
 use Rattle.export_questions.specs.Answers.{alignTold, countTold, lengthTold, yesTold, formatTold}
 use Rattle.export_questions.specs.Descriptions.{fieldsOf, descriptionAnswer, ruleIn, returnRuleAnswer, argumentRuleAnswer}
-use Rattle.demands.specs.Refusals.{IsRefusal}
 use Rattle.demands.specs.Rust.{rustPasses, rulesSpend, Accepts, AsRust, recordAlign, recordSize}
 use Rattle.demands.proofs.Refusing.{operation-refused}
 
@@ -139,7 +138,7 @@ pub pieces-as-rust : (members out : List ℕ) → membersRefusal members ≡ acc
 unfolding piecesAnswer piecesWritten
 pieces-as-rust members out z room = rw (z, le-leb (length (scalarsOf members)) (length out / pieceSize) room) (refl, refl)
 
-pub record-as-rust : (words : List ℕ) → orElse (listRefusal words) (piecesRefusal (piecesOf words)) ≡ accepted → IsRefusal (recordAlign (piecesOf words))
+pub record-as-rust : (words : List ℕ) → orElse (listRefusal words) (piecesRefusal (piecesOf words)) ≡ accepted → (recordAlign (piecesOf words) ≡ 0 → ⊥)
     → recordSize (piecesOf words) ≤ most-offset
     → recordAnswer words ≡ recorded accepted (recordSize (piecesOf words)) (recordAlign (piecesOf words)) (isFloating (recordSize (piecesOf words)) (piecesOf words))
 unfolding recordAnswer recordMade roundUp isFloating maxOf

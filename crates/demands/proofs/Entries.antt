@@ -87,7 +87,7 @@ pieces-entry κs members out r s p = rw (p .0, p .1) (refusing.pieces-refused (n
 pub record-entry : (κs : Lfts 1) (words : RefT (List ℕ))
     → AnswersAlone (entry-record.Post κs) (words, tt)
     (λ (r : RecordNumbers). (IsRefusal (r .refusal) → RefusedAs recordRefusals (r .refusal) (noRecord (r .refusal)) r)
-    × (orElse (listRefusal (now words)) (piecesRefusal (piecesOf (now words))) ≡ accepted → IsRefusal (recordAlign (piecesOf (now words)))
+    × (orElse (listRefusal (now words)) (piecesRefusal (piecesOf (now words))) ≡ accepted → (recordAlign (piecesOf (now words)) ≡ 0 → ⊥)
     → recordSize (piecesOf (now words)) ≤ most-offset
     → r ≡ recordNumbers (recorded accepted (recordSize (piecesOf (now words))) (recordAlign (piecesOf (now words))) (isFloating (recordSize (piecesOf (now words))) (piecesOf (now words))))))
 record-entry κs words r s p = rw p (refusing.record-refused (now words), λ z a h. ap recordNumbers (answering.record-as-rust (now words) z a h))

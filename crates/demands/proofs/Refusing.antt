@@ -1,5 +1,5 @@
--- What a refusal is, of every entry: one of its numbers, every other number 0, and whatever was handed in or lent as it was. Each check's numbers are
--- listed where it is made of others, and an entry's list has them all.
+-- What a refusal is, of every entry: one of its numbers, every other number 0, and whatever was handed in or lent as it was. A check's numbers are in
+-- any list that has them, and each entry looks them up in its own.
 use Prim.Native.Nat.{ℕ, zero, suc, _/_, _%_}
 use mathlib.Core.Path.{_≡_, refl, sym, subst}
 use mathlib.Core.List.{List, [], _∷_}
@@ -17,7 +17,7 @@ use Rattle.shape.specs.declared.Shape.{Shape}
 use Rattle.shape.specs.Numbers.{quad, accepted, bad-abi, bad-call, bad-list, bad-kind, bad-size, bad-align, no-room, most-size, most-offset, most-align, most-pieces}
 use Rattle.shape.specs.Words.{pieceSize, scalarSize, piecesOf, scalarsOf, putAt}
 use Rattle.shape.proofs.Put.{put-short}
-use Rattle.checks.specs.Check.{orElse, unlessRefused, scalarRefusal, pieceRefusal, piecesRefusal, listRefusal, shapeRefusal}
+use Rattle.checks.specs.Check.{refuse, orElse, unlessRefused, scalarRefusal, pieceRefusal, piecesRefusal, listRefusal, shapeRefusal}
 use Rattle.slots.specs.Words.{slotSize}
 use Rattle.layouts.specs.declared.Recorded.{Recorded}
 use Rattle.layouts.specs.Record.{roundUp, largestAlign, furthestEnd, refuseRecord, recordMade, orRecord, recordAnswer}
@@ -44,88 +44,88 @@ use Rattle.export_numbers.specs.declared.Told.{Told}
 use Rattle.export_questions.specs.Answers.{alignTold, countTold, lengthTold, yesTold, formatTold, recordNumbers}
 use Rattle.export_questions.specs.Descriptions.{noDescription, fieldsOf, descriptionAnswer, ruleIn, returnRuleAnswer, argumentRuleAnswer}
 use Rattle.demands.specs.Refusals.{valueRefusals, markRefusals, refusalsOf, numberRefusals, inMemoryRefusals, memberRefusals, recordRefusals, nameRefusals, attributeRefusals, questionRefusals, IsRefusal, isOneOf, OneOf, Refused, RefusedTold, RefusedAs, noRecord, noRule}
-use Rattle.demands.proofs.OneOf.{Within, refuse-within, else-within, within-longer}
 
--- ---- the numbers of each check
+-- nothing, or one of them
+abbrev Within : List ℕ → ℕ → Type 0
+Within numbers zero = Unit {0}
+Within numbers (suc n) = OneOf numbers (suc n)
 
-abbrev scalarNumbers : List ℕ
-scalarNumbers = bad-kind ∷ bad-size ∷ bad-align ∷ []
+module _ (numbers : List ℕ) where
+  refuse-within : (b : Bool) (n rest : ℕ) → Within numbers n → Within numbers rest → Within numbers (refuse b n rest)
+  refuse-within true n rest h k = h
+  refuse-within false n rest h k = k
 
-abbrev shapeNumbers : List ℕ
-shapeNumbers = bad-list ∷ scalarNumbers
+  else-within : (n rest : ℕ) → Within numbers n → Within numbers rest → Within numbers (orElse n rest)
+  else-within zero rest h k = k
+  else-within (suc n) rest h k = h
 
--- each number, in the lists that follow, by looking it up
-scalar-within : (s : Scalar) → Within scalarNumbers (scalarRefusal s)
-unfolding scalarRefusal isOneOf
-scalar-within s =
-    refuse-within scalarNumbers (ltb quad (s .kind)) bad-kind _ refl
-    (refuse-within scalarNumbers (ltb most-size (s .size)) bad-size _ refl (refuse-within scalarNumbers (ltb most-align (s .align)) bad-align accepted refl tt))
+-- ---- the checks: what each answers is in any list that has its numbers
 
-piece-within : (p : Piece) → Within scalarNumbers (pieceRefusal p)
-unfolding pieceRefusal isOneOf
-piece-within p =
-    refuse-within scalarNumbers (ltb quad (p .kind)) bad-kind _ refl
-    (refuse-within scalarNumbers (ltb most-size (p .size)) bad-size _ refl
-    (refuse-within scalarNumbers (ltb most-offset (p .offset)) bad-size _ refl (refuse-within scalarNumbers (ltb most-align (p .align)) bad-align accepted refl tt)))
+module _ (numbers : List ℕ) where
+  module _ (kind : OneOf numbers bad-kind) (size : OneOf numbers bad-size) (align : OneOf numbers bad-align) where
+    scalar-within : (s : Scalar) → Within numbers (scalarRefusal s)
+    unfolding scalarRefusal
+    scalar-within s =
+        refuse-within numbers (ltb quad (s .kind)) bad-kind _ kind
+        (refuse-within numbers (ltb most-size (s .size)) bad-size _ size (refuse-within numbers (ltb most-align (s .align)) bad-align accepted align tt))
 
-pieces-within : (ps : List Piece) → Within scalarNumbers (piecesRefusal ps)
-unfolding piecesRefusal isOneOf
-pieces-within [] = tt
-pieces-within (p ∷ ps) = else-within scalarNumbers (pieceRefusal p) (piecesRefusal ps) (piece-within p) (pieces-within ps)
+    scalars-within : (ss : List Scalar) → Within numbers (scalarsRefusal ss)
+    unfolding scalarsRefusal
+    scalars-within [] = tt
+    scalars-within (s ∷ ss) = else-within numbers (scalarRefusal s) (scalarsRefusal ss) (scalar-within s) (scalars-within ss)
 
-scalars-within : (ss : List Scalar) → Within scalarNumbers (scalarsRefusal ss)
-unfolding scalarsRefusal isOneOf
-scalars-within [] = tt
-scalars-within (s ∷ ss) = else-within scalarNumbers (scalarRefusal s) (scalarsRefusal ss) (scalar-within s) (scalars-within ss)
+    piece-within : (p : Piece) → Within numbers (pieceRefusal p)
+    unfolding pieceRefusal
+    piece-within p =
+        refuse-within numbers (ltb quad (p .kind)) bad-kind _ kind
+        (refuse-within numbers (ltb most-size (p .size)) bad-size _ size
+        (refuse-within numbers (ltb most-offset (p .offset)) bad-size _ size (refuse-within numbers (ltb most-align (p .align)) bad-align accepted align tt)))
 
-list-within : (ws : List ℕ) → Within (bad-list ∷ []) (listRefusal ws)
-unfolding listRefusal isOneOf
-list-within ws =
-    refuse-within (bad-list ∷ []) (ltb 0 (length ws % pieceSize)) bad-list _ refl
-    (refuse-within (bad-list ∷ []) (ltb most-pieces (length (piecesOf ws))) bad-list accepted refl tt)
+    pieces-within : (ps : List Piece) → Within numbers (piecesRefusal ps)
+    unfolding piecesRefusal
+    pieces-within [] = tt
+    pieces-within (p ∷ ps) = else-within numbers (pieceRefusal p) (piecesRefusal ps) (piece-within p) (pieces-within ps)
 
-shape-within : (shape : Shape) (ws : List ℕ) → Within shapeNumbers (shapeRefusal shape ws)
-unfolding shapeRefusal isOneOf
-shape-within shape ws =
-    else-within shapeNumbers (listRefusal ws) _ (within-longer shapeNumbers (bad-list ∷ []) refl (listRefusal ws) (list-within ws))
-    (refuse-within shapeNumbers (ltb most-offset (shape .size)) bad-size _ refl
-    (refuse-within shapeNumbers (ltb most-align (shape .align)) bad-align _ refl
-    (within-longer shapeNumbers scalarNumbers refl (piecesRefusal (piecesOf ws)) (pieces-within (piecesOf ws)))))
+  list-within : OneOf numbers bad-list → (ws : List ℕ) → Within numbers (listRefusal ws)
+  unfolding listRefusal
+  list-within list ws =
+      refuse-within numbers (ltb 0 (length ws % pieceSize)) bad-list _ list
+      (refuse-within numbers (ltb most-pieces (length (piecesOf ws))) bad-list accepted list tt)
 
-members-within : (ws : List ℕ) → Within shapeNumbers (membersRefusal ws)
-unfolding membersRefusal isOneOf
-members-within ws =
-    refuse-within shapeNumbers (ltb 0 (length ws % scalarSize)) bad-list _ refl
-    (refuse-within shapeNumbers (ltb most-pieces (length (scalarsOf ws))) bad-list _ refl
-    (within-longer shapeNumbers scalarNumbers refl (scalarsRefusal (scalarsOf ws)) (scalars-within (scalarsOf ws))))
+  row-within : OneOf numbers bad-abi → (d : ℕ) → Within numbers (rowRefusal d)
+  unfolding rowRefusal
+  row-within abi d = refuse-within numbers (leb description-count d) bad-abi accepted abi tt
 
-arg-within : (arg : args.Arg) (ws : List ℕ) → Within shapeNumbers (argRefusal arg ws)
-unfolding argRefusal isOneOf
-arg-within args.the-variants.Void ws = tt
-arg-within (args.the-variants.Scalar s) ws = within-longer shapeNumbers scalarNumbers refl (scalarRefusal s) (scalar-within s)
-arg-within (args.the-variants.Aggregate shape) ws = shape-within shape ws
+  left-within : OneOf numbers bad-call → (T : Terms) (left : Left) → Within numbers (leftRefusal T left)
+  unfolding leftRefusal
+  left-within call T left = refuse-within numbers (isBadLeft T left) bad-call accepted call tt
 
-row-within : (abi : ℕ) → Within numberRefusals (rowRefusal abi)
-unfolding rowRefusal isOneOf
-row-within abi = refuse-within numberRefusals (leb description-count abi) bad-abi accepted refl tt
+  module _ (list : OneOf numbers bad-list) (kind : OneOf numbers bad-kind) (size : OneOf numbers bad-size) (align : OneOf numbers bad-align) where
+    members-within : (ws : List ℕ) → Within numbers (membersRefusal ws)
+    unfolding membersRefusal
+    members-within ws =
+        refuse-within numbers (ltb 0 (length ws % scalarSize)) bad-list _ list
+        (refuse-within numbers (ltb most-pieces (length (scalarsOf ws))) bad-list _ list (scalars-within kind size align (scalarsOf ws)))
 
-left-within : (T : Terms) (left : Left) → Within (bad-call ∷ []) (leftRefusal T left)
-unfolding leftRefusal isOneOf
-left-within T left = refuse-within (bad-call ∷ []) (isBadLeft T left) bad-call accepted refl tt
+    shape-within : (shape : Shape) (ws : List ℕ) → Within numbers (shapeRefusal shape ws)
+    unfolding shapeRefusal
+    shape-within shape ws =
+        else-within numbers (listRefusal ws) _ (list-within list ws)
+        (refuse-within numbers (ltb most-offset (shape .size)) bad-size _ size
+        (refuse-within numbers (ltb most-align (shape .align)) bad-align _ align (pieces-within kind size align (piecesOf ws))))
 
-call-within : (D : Description) (c : Call) → Within markRefusals (callRefusalBy (rowRefusal (c .abi)) D c)
-unfolding callRefusalBy isOneOf
-call-within D c =
-    else-within markRefusals (rowRefusal (c .abi)) _ (within-longer markRefusals numberRefusals refl (rowRefusal (c .abi)) (row-within (c .abi)))
-    (within-longer markRefusals (bad-call ∷ []) refl (leftRefusal (termsOf D) (c .left)) (left-within (termsOf D) (c .left)))
+    arg-within : (arg : args.Arg) (ws : List ℕ) → Within numbers (argRefusal arg ws)
+    unfolding argRefusal
+    arg-within args.the-variants.Void ws = tt
+    arg-within (args.the-variants.Scalar s) ws = scalar-within kind size align s
+    arg-within (args.the-variants.Aggregate shape) ws = shape-within shape ws
 
-checks-within : (c : Call) (arg : args.Arg) (ws : List ℕ) → Within inMemoryRefusals (refusalOf c arg ws)
-unfolding refusalOf refusalBy checked isOneOf
-checks-within c arg ws =
-    else-within inMemoryRefusals (rowRefusal (c .abi)) _ (within-longer inMemoryRefusals numberRefusals refl (rowRefusal (c .abi)) (row-within (c .abi)))
-    (else-within inMemoryRefusals (leftRefusal (termsOf (described (c .abi))) (c .left)) (argRefusal arg ws)
-    (within-longer inMemoryRefusals (bad-call ∷ []) refl (leftRefusal (termsOf (described (c .abi))) (c .left)) (left-within (termsOf (described (c .abi))) (c .left)))
-    (within-longer inMemoryRefusals shapeNumbers refl (argRefusal arg ws) (arg-within arg ws)))
+    checks-within : OneOf numbers bad-abi → OneOf numbers bad-call → (c : Call) (arg : args.Arg) (ws : List ℕ) → Within numbers (refusalOf c arg ws)
+    unfolding refusalOf refusalBy checked
+    checks-within abi call c arg ws =
+        else-within numbers (rowRefusal (c .abi)) _ (row-within abi (c .abi))
+        (else-within numbers (leftRefusal (termsOf (described (c .abi))) (c .left)) (argRefusal arg ws)
+        (left-within call (termsOf (described (c .abi))) (c .left)) (arg-within arg ws))
 
 -- ---- operations on a call
 
@@ -137,7 +137,7 @@ module _ (c : Call) (arg : args.Arg) (words out : List ℕ) where
   whole-within : (p : Passed) → Within valueRefusals (wholeRefusal (refusalOf c arg words) p out)
   unfolding isOneOf
   whole-within p =
-      else-within valueRefusals (refusalOf c arg words) _ (within-longer valueRefusals inMemoryRefusals refl (refusalOf c arg words) (checks-within c arg words))
+      else-within valueRefusals (refusalOf c arg words) _ (checks-within valueRefusals refl refl refl refl refl refl c arg words)
       (refuse-within valueRefusals (ltb (length out / slotSize) (length (passSlots (p .pass)))) no-room accepted refl tt)
 
   answer-refused : (p : Passed) (spent : Spent) → IsRefusal (answerTo (refusalOf c arg words) c p spent out .outcome .refusal)
@@ -159,6 +159,11 @@ module _ (c : Call) (arg : args.Arg) (words out : List ℕ) where
       → Refused valueRefusals c out (variadicArgumentAnswer c arg words out) (variadicArgumentWritten c arg words out)
   unfolding variadicArgumentAnswer variadicArgumentWritten variadicArgumentAnswerBy variadicArgumentWrittenBy refusalOf
   variadic-argument-refused = answer-refused _ _
+
+call-within : (D : Description) (c : Call) → Within markRefusals (callRefusalBy (rowRefusal (c .abi)) D c)
+unfolding callRefusalBy isOneOf
+call-within D c =
+    else-within markRefusals (rowRefusal (c .abi)) _ (row-within markRefusals refl (c .abi)) (left-within markRefusals refl (termsOf D) (c .left))
 
 mark-refused : (c : Call) → IsRefusal (variadicAnswer c .outcome .refusal) → Refused markRefusals c [] (variadicAnswer c) []
 unfolding variadicAnswer variadicAnswerBy
@@ -191,8 +196,9 @@ told numbers n r out after e h z w = record { one-of-them = rw e h; value-zero =
 
 pub in-memory-refused : (c : Call) (shape : Shape) (words : List ℕ) → IsRefusal (inMemoryAnswer c shape words .refusal)
     → RefusedTold inMemoryRefusals (alignTold (inMemoryAnswer c shape words)) [] []
-unfolding inMemoryAnswer inMemoryAnswerBy refusalOf
-in-memory-refused c shape words = go (refusalOf c (args.the-variants.Aggregate shape) words) _ (checks-within c (args.the-variants.Aggregate shape) words)
+unfolding inMemoryAnswer inMemoryAnswerBy refusalOf isOneOf
+in-memory-refused c shape words =
+    go (refusalOf c (args.the-variants.Aggregate shape) words) _ (checks-within inMemoryRefusals refl refl refl refl refl refl c (args.the-variants.Aggregate shape) words)
   where
     go : (n align : ℕ) → Within inMemoryRefusals n → IsRefusal (orAlign n align .refusal) → RefusedTold inMemoryRefusals (alignTold (orAlign n align)) [] []
     go zero align k h = absurd (h refl)
@@ -202,7 +208,7 @@ pub pieces-refused : (members out : List ℕ) → IsRefusal (piecesAnswer member
     → RefusedTold memberRefusals (countTold (piecesAnswer members out)) out (piecesWritten members out)
 unfolding piecesAnswer piecesWritten isOneOf
 pieces-refused ws out =
-    go (membersRefusal ws) (within-longer memberRefusals shapeNumbers refl (membersRefusal ws) (members-within ws)) (leb (length (scalarsOf ws)) (length out / pieceSize)) refl
+    go (membersRefusal ws) (members-within memberRefusals refl refl refl refl ws) (leb (length (scalarsOf ws)) (length out / pieceSize)) refl
   where
     go : (n : ℕ) → Within memberRefusals n → (room : Bool) → leb (length (scalarsOf ws)) (length out / pieceSize) ≡ room → IsRefusal (orPlaced n (ifRoom room (length (scalarsOf ws))) .refusal)
         → RefusedTold memberRefusals (countTold (orPlaced n (ifRoom room (length (scalarsOf ws))))) out (unlessRefused n (putAt out 0 (piecesWords (placed 0 (scalarsOf ws)))) out)
@@ -285,8 +291,7 @@ pub record-refused : (words : List ℕ) → RecordSays (recordAnswer words)
 unfolding recordAnswer isOneOf
 record-refused words =
     go (orElse (listRefusal words) (piecesRefusal (piecesOf words))) (piecesOf words)
-    (else-within recordRefusals (listRefusal words) _ (within-longer recordRefusals (bad-list ∷ []) refl (listRefusal words) (list-within words))
-    (within-longer recordRefusals scalarNumbers refl (piecesRefusal (piecesOf words)) (pieces-within (piecesOf words))))
+    (else-within recordRefusals (listRefusal words) _ (list-within recordRefusals refl words) (pieces-within recordRefusals refl refl refl (piecesOf words)))
   where
     go : (n : ℕ) (ps : List Piece) → Within recordRefusals n → RecordSays (orRecord n (recordMade ps))
     go zero ps k = made-refused ps

@@ -16,9 +16,9 @@ use Rattle.export_questions.specs.declared.members.RecordNumbers.{RecordNumbers
 use Rattle.export_questions.specs.declared.descriptions.RuleNumbers.{RuleNumbers}
 use Rattle.export_questions.specs.Descriptions.{ruleMade}
 
--- ---- the numbers: a request that adds one adds it to the lists of the entries that can answer it, and to no proof
+-- ---- the numbers: one more is a word in the lists of the entries that can answer it, and of the proofs only the law of its check changes
 
--- an operation on a value: every number that there is
+-- an operation on a value
 abbrev pub valueRefusals : List ℕ
 valueRefusals = bad-abi ∷ bad-call ∷ bad-list ∷ bad-kind ∷ bad-size ∷ bad-align ∷ no-room ∷ []
 

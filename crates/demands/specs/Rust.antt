@@ -20,7 +20,7 @@ use Rattle.classify.specs.Spending as rules
 use Rattle.classify.specs.Answers.{callWith, callRefusal, refusalOf}
 use Rattle.ledger.specs.Ledger.{Operation, mark, return, argument, variadic-argument, bufferOf}
 
--- how the Rust passes an operation's value, and what it leaves; to the mark it has no value, and the call changes alone
+-- how the Rust passes an operation's value, and what it leaves; the mark has no value, and changes the call alone
 abbrev pub rustPasses : Operation → Call → Passed
 rustPasses mark c = passed ignore (rust.variadic (described (c .abi)) (c .left))
 rustPasses (return arg words out) c = rust.returns (described (c .abi)) (c .left) arg (piecesOf words)
