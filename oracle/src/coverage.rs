@@ -54,8 +54,8 @@ enum Rules {
     Return,
     Argument,
     Marked,
-    AfterDots,
-    MarkedAfterDots,
+    VariadicArgument,
+    MarkedVariadicArgument,
 }
 
 impl Rules {
@@ -64,8 +64,8 @@ impl Rules {
             Self::Return => "return",
             Self::Argument => "argument",
             Self::Marked => "marked argument",
-            Self::AfterDots => "after the dots",
-            Self::MarkedAfterDots => "marked, after the dots",
+            Self::VariadicArgument => "after the dots",
+            Self::MarkedVariadicArgument => "marked, after the dots",
         }
     }
 
@@ -76,10 +76,10 @@ impl Rules {
                 Self::Return,
                 Self::Argument,
                 Self::Marked,
-                Self::AfterDots,
-                Self::MarkedAfterDots,
+                Self::VariadicArgument,
+                Self::MarkedVariadicArgument,
             ],
-            DARWIN_ARM64 | RISCV_LP64D => &[Self::Return, Self::Argument, Self::AfterDots],
+            DARWIN_ARM64 | RISCV_LP64D => &[Self::Return, Self::Argument, Self::VariadicArgument],
             _ => &[Self::Return, Self::Argument],
         }
     }
@@ -91,7 +91,7 @@ fn operation(decided: &Decided) -> Option<String> {
     let what = match decided.asked {
         Asked::Fresh => "fresh",
         Asked::Mark => "mark",
-        Asked::AfterDots => "an argument after the dots",
+        Asked::VariadicArgument => "an argument after the dots",
         _ => return None,
     };
     Some(format!("row {row} {what}"))
@@ -99,11 +99,11 @@ fn operation(decided: &Decided) -> Option<String> {
 
 fn name(decided: &Decided, point: Point) -> String {
     let row = decided.row.expect("only an open call decides");
-    let apart = Rules::of(row).contains(&Rules::AfterDots);
+    let apart = Rules::of(row).contains(&Rules::VariadicArgument);
     let rules = match (decided.asked, decided.integers_only) {
         (Asked::Return, _) => Rules::Return,
-        (Asked::AfterDots, false) if apart => Rules::AfterDots,
-        (Asked::AfterDots, true) if apart => Rules::MarkedAfterDots,
+        (Asked::VariadicArgument, false) if apart => Rules::VariadicArgument,
+        (Asked::VariadicArgument, true) if apart => Rules::MarkedVariadicArgument,
         (_, true) => Rules::Marked,
         _ => Rules::Argument,
     };
@@ -160,15 +160,15 @@ fn expected() -> Vec<String> {
 /// Whether an argument by these rules may use integer registers alone.
 fn integers_only(row: &AbiDescription, rules: Rules) -> bool {
     match row.variadic {
-        Variadic::IntegersOnly => matches!(rules, Rules::Marked | Rules::MarkedAfterDots),
-        Variadic::UnnamedIntegers => rules == Rules::AfterDots,
+        Variadic::IntegersOnly => matches!(rules, Rules::Marked | Rules::MarkedVariadicArgument),
+        Variadic::UnnamedIntegers => rules == Rules::VariadicArgument,
         _ => false,
     }
 }
 
 /// Whether an argument by these rules finds both banks empty.
 fn nothing_left(row: &AbiDescription, rules: Rules) -> bool {
-    row.variadic == Variadic::AlwaysMemory && rules == Rules::AfterDots
+    row.variadic == Variadic::AlwaysMemory && rules == Rules::VariadicArgument
 }
 
 /// The lines by which a scalar can be decided (REFERENCE 9.2, 9.4 and 9.5).

@@ -6,7 +6,7 @@ use std::io::{self, Write};
 use crate::generate::{Generator, bad_description, past};
 use crate::random::Random;
 use crate::records::{
-    self, AFTER_DOTS, AGGREGATE, ARGUMENT, FRESH, MARK, PIECE, RETURN, Record, SCALAR,
+    self, AGGREGATE, ARGUMENT, FRESH, MARK, PIECE, RETURN, Record, SCALAR, VARIADIC_ARGUMENT,
 };
 use crate::values::{MOST_PIECES, Value};
 
@@ -64,7 +64,7 @@ fn aggregate(generator: &mut Generator) -> Vec<Record> {
     if !generator.open {
         records.push([FRESH, generator.random.between(0, 29), 0, 0, 0, 0]);
     }
-    let operation = generator.random.between(RETURN, AFTER_DOTS);
+    let operation = generator.random.between(RETURN, VARIADIC_ARGUMENT);
     loop {
         // A shape that would be refused stops as well.
         let value =
@@ -78,7 +78,8 @@ fn aggregate(generator: &mut Generator) -> Vec<Record> {
 
 /// Where the aggregate's own record stands among those of [`aggregate`].
 fn head(records: &mut [Record]) -> &mut Record {
-    let is_head = |record: &&mut Record| matches!(record[..2], [RETURN..=AFTER_DOTS, AGGREGATE]);
+    let is_head =
+        |record: &&mut Record| matches!(record[..2], [RETURN..=VARIADIC_ARGUMENT, AGGREGATE]);
     records.iter_mut().find(is_head).expect("an aggregate has a record of its own")
 }
 
@@ -107,7 +108,7 @@ fn unknown_word(random: &mut Random) -> Vec<Record> {
     if random.once_in(2) {
         return vec![[past(random, PIECE), SCALAR, a, b, c, d]];
     }
-    let operation = random.between(RETURN, AFTER_DOTS);
+    let operation = random.between(RETURN, VARIADIC_ARGUMENT);
     let fresh = [FRESH, random.between(0, 29), 0, 0, 0, 0];
     vec![fresh, [operation, past(random, AGGREGATE), a, b, c, d]]
 }
@@ -138,7 +139,7 @@ fn no_open_call(generator: &mut Generator) -> Vec<Record> {
     if generator.open || generator.random.once_in(2) {
         records.push([FRESH, bad_description(&mut generator.random), 0, 0, 0, 0]);
     }
-    match generator.random.between(MARK, AFTER_DOTS) {
+    match generator.random.between(MARK, VARIADIC_ARGUMENT) {
         MARK => records.push([MARK, 0, 0, 0, 0, 0]),
         operation => records.extend(records::of_value(operation, &generator.value())),
     }

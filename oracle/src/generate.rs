@@ -10,7 +10,7 @@ use std::io::{self, Write};
 
 use crate::numbers::{self, ROWS};
 use crate::random::Random;
-use crate::records::{self, AFTER_DOTS, ARGUMENT, FRESH, MARK, RETURN, Record};
+use crate::records::{self, ARGUMENT, FRESH, MARK, RETURN, Record, VARIADIC_ARGUMENT};
 use crate::shapes;
 use crate::values::{
     LARGEST_ALIGN, LARGEST_KIND, LARGEST_OFFSET, LARGEST_SCALAR, LARGEST_SHAPE, MOST_PIECES, Piece,
@@ -105,7 +105,7 @@ impl Generator {
         let operation = match self.random.between(0, 31) {
             0 | 1 => return vec![[MARK, 0, 0, 0, 0, 0]],
             2..=9 => RETURN,
-            10..=14 => AFTER_DOTS,
+            10..=14 => VARIADIC_ARGUMENT,
             _ => ARGUMENT,
         };
         let value = match self.random.between(0, 63) {

@@ -10,7 +10,7 @@ pub const FRESH: u64 = 0;
 pub const MARK: u64 = 1;
 pub const RETURN: u64 = 2;
 pub const ARGUMENT: u64 = 3;
-pub const AFTER_DOTS: u64 = 4;
+pub const VARIADIC_ARGUMENT: u64 = 4;
 pub const PIECE: u64 = 5;
 
 /// The second words of a return or an argument.
@@ -46,8 +46,8 @@ pub fn first_unread(record: &Record) -> usize {
     match record[..2] {
         [FRESH, _] => 2,
         [MARK, _] => 1,
-        [RETURN..=AFTER_DOTS, VOID] => 2,
-        [RETURN..=AFTER_DOTS, SCALAR] | [PIECE, _] => 5,
+        [RETURN..=VARIADIC_ARGUMENT, VOID] => 2,
+        [RETURN..=VARIADIC_ARGUMENT, SCALAR] | [PIECE, _] => 5,
         _ => 6,
     }
 }

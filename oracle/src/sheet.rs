@@ -10,7 +10,8 @@ use rucc_abi::{Call, Pass};
 
 use crate::numbers;
 use crate::records::{
-    self, AFTER_DOTS, AGGREGATE, ARGUMENT, BYTES, FRESH, MARK, PIECE, RETURN, Record, SCALAR, VOID,
+    self, AGGREGATE, ARGUMENT, BYTES, FRESH, MARK, PIECE, RETURN, Record, SCALAR,
+    VARIADIC_ARGUMENT, VOID,
 };
 use crate::refusals;
 use crate::spending::{self, Before, Outcome, Points, Spent, Way};
@@ -55,7 +56,7 @@ pub enum Asked {
     Mark,
     Return,
     Argument,
-    AfterDots,
+    VariadicArgument,
     Nothing,
 }
 
@@ -78,7 +79,7 @@ enum Operation {
     Mark,
     Return(Value),
     Argument(Value),
-    AfterDots(Value),
+    VariadicArgument(Value),
 }
 
 struct Reader<'a> {
@@ -97,7 +98,7 @@ impl Reader<'_> {
             MARK => Ok(Operation::Mark),
             RETURN => Ok(Operation::Return(self.value(record)?)),
             ARGUMENT => Ok(Operation::Argument(self.value(record)?)),
-            AFTER_DOTS => Ok(Operation::AfterDots(self.value(record)?)),
+            VARIADIC_ARGUMENT => Ok(Operation::VariadicArgument(self.value(record)?)),
             // A piece that belongs to no aggregate, or a word that nobody knows.
             _ => Err(Ending::Stop),
         }
@@ -186,8 +187,8 @@ fn perform(open: &mut Option<Open>, operation: Operation) -> Result<(Line, Decid
         Operation::Argument(value) => {
             (Asked::Argument, call.place(Asked::Argument, value, &mut points)?)
         }
-        Operation::AfterDots(value) => {
-            (Asked::AfterDots, call.place(Asked::AfterDots, value, &mut points)?)
+        Operation::VariadicArgument(value) => {
+            (Asked::VariadicArgument, call.place(Asked::VariadicArgument, value, &mut points)?)
         }
     };
     let asked = if line.word == REFUSED { Asked::Nothing } else { asked };
@@ -225,9 +226,9 @@ impl Open {
             Asked::Return => {
                 (value.ask(|arg| call.returns(arg)), spending::returned(before, value, points))
             }
-            Asked::AfterDots => (
+            Asked::VariadicArgument => (
                 value.ask(|arg| call.variadic_argument(arg)),
-                spending::after_dots(before, value, points),
+                spending::variadic_argument(before, value, points),
             ),
             _ => (value.ask(|arg| call.argument(arg)), spending::argument(before, value, points)),
         };

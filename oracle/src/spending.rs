@@ -102,7 +102,7 @@ pub fn returned(before: Before, value: &Value, points: &mut Points) -> Outcome {
 }
 
 /// An argument after the dots (REFERENCE 9.5).
-pub fn after_dots(before: Before, value: &Value, points: &mut Points) -> Outcome {
+pub fn variadic_argument(before: Before, value: &Value, points: &mut Points) -> Outcome {
     match before.row {
         // For this argument alone, the call is integers-only.
         RISCV_LP64D => argument(Before { integers_only: true, ..before }, value, points),

@@ -95,7 +95,7 @@ impl Bridge {
         value: impl Into<Value<'v>>,
         slots: &'b mut [u64],
     ) -> Result<Outcome<'b>, Refusal> {
-        self.place(Operation::AfterDots, value.into(), slots)
+        self.place(Operation::VariadicArgument, value.into(), slots)
     }
 
     fn place<'b>(

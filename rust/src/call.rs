@@ -80,7 +80,7 @@ impl Call {
         value: impl Into<Value<'v>>,
         slots: &'b mut [u64],
     ) -> Result<Passed<'b>, Refusal> {
-        self.place(Operation::AfterDots, value.into(), slots)
+        self.place(Operation::VariadicArgument, value.into(), slots)
     }
 
     /// What a fixed argument that travels as [`Way::Memory`](crate::Way::Memory) is aligned to in

@@ -21,7 +21,7 @@ use crate::values::{Aggregate, Piece, Scalar, Value};
 pub enum Operation {
     Return,
     Argument,
-    AfterDots,
+    VariadicArgument,
 }
 
 /// Performs an operation on a call.
@@ -38,7 +38,7 @@ pub fn place(
             let entry = match operation {
                 Operation::Return => ffi::barkpaddle_return_void,
                 Operation::Argument => ffi::barkpaddle_argument_void,
-                Operation::AfterDots => ffi::barkpaddle_variadic_argument_void,
+                Operation::VariadicArgument => ffi::barkpaddle_variadic_argument_void,
             };
             // SAFETY: the buffer is `slots`.
             unsafe { entry(abi, integer, float, mark, room, length) }
@@ -47,7 +47,7 @@ pub fn place(
             let entry = match operation {
                 Operation::Return => ffi::barkpaddle_return_scalar,
                 Operation::Argument => ffi::barkpaddle_argument_scalar,
-                Operation::AfterDots => ffi::barkpaddle_variadic_argument_scalar,
+                Operation::VariadicArgument => ffi::barkpaddle_variadic_argument_scalar,
             };
             let (kind, size, align) = (scalar.kind().number(), scalar.size(), scalar.align());
             // SAFETY: the buffer is `slots`.
@@ -57,7 +57,7 @@ pub fn place(
             let entry = match operation {
                 Operation::Return => ffi::barkpaddle_return_aggregate,
                 Operation::Argument => ffi::barkpaddle_argument_aggregate,
-                Operation::AfterDots => ffi::barkpaddle_variadic_argument_aggregate,
+                Operation::VariadicArgument => ffi::barkpaddle_variadic_argument_aggregate,
             };
             let (complex, floating) = (u64::from(shape.complex), u64::from(shape.floating));
             let (words, count) = (shape.pieces.as_ptr().cast(), words_in(shape.pieces));
@@ -93,7 +93,7 @@ pub fn place_lent(
     let entry = match operation {
         Operation::Return => ffi::barkpaddle_bridge_returns,
         Operation::Argument => ffi::barkpaddle_bridge_argument,
-        Operation::AfterDots => ffi::barkpaddle_bridge_variadic_argument,
+        Operation::VariadicArgument => ffi::barkpaddle_bridge_variadic_argument,
     };
     let (words, count) = (pieces.as_ptr().cast(), words_in(pieces));
     let (room, length) = (slots.as_mut_ptr(), slots.len() as u64);

@@ -206,7 +206,7 @@ static void check_bytes(const char *place, const char *text)
 
 /* ---- operations, as one function ---- */
 
-enum operation { RETURN, ARGUMENT, AFTER_DOTS };
+enum operation { RETURN, ARGUMENT, VARIADIC_ARGUMENT };
 enum what { VOID, SCALAR, AGGREGATE };
 
 typedef struct value {
@@ -447,7 +447,7 @@ static void beside_the_twelve(void)
     static const uint64_t eight_ints[] = {0, 0, 8, 0, 8, 8, 0, 16, 8, 0, 24, 8, 0, 32, 8, 0, 40, 8, 0, 48, 8, 0, 56, 8};
     static const uint64_t pointer[] = {5, 8, 0, 1, 0, 0}, no_pointer[] = {8, 8, 0, 0, 0, 0};
     static const uint64_t wide_return[] = {4, 0, 0, 0, 0, 0}, quad_slot[] = {4, 0, 0}, quad_pointer[] = {3, 0, 0, 1, 0, 0};
-    static const uint64_t after_dots[] = {5, 8, 0, 0, 0, 0};
+    static const uint64_t nothing_spent[] = {5, 8, 0, 0, 0, 0};
     static const uint64_t fresh_0[] = {6, 8, 0, 0, 0, 0};
     static const uint64_t complex_drain[] = {2, 0, 0, 0, 0, 0}, complex_slots[] = {0, 0, 4, 0, 4, 4};
     uint64_t mark;
@@ -461,12 +461,12 @@ static void beside_the_twelve(void)
     /* any number but 0 is the mark; it comes back as it was */
     for (mark = 1; mark != 0; mark <<= 1) {
         LINE("a marked call", ARGUMENT, call_of(3, 8, 8, mark), scalar(2, 8, 8), BARKPADDLE_WAY_PIECES, marked, one_int);
-        LINE("a marked call, after the dots", AFTER_DOTS, call_of(3, 8, 8, mark), scalar(2, 8, 8), BARKPADDLE_WAY_PIECES, marked, one_int);
+        LINE("a marked call, after the dots", VARIADIC_ARGUMENT, call_of(3, 8, 8, mark), scalar(2, 8, 8), BARKPADDLE_WAY_PIECES, marked, one_int);
         BARE("a marked call's return", RETURN, call_of(3, 8, 8, mark), scalar(2, 8, 8), BARKPADDLE_WAY_DIRECT, no_pointer);
     }
     LINE("eight slots", ARGUMENT, call_of(3, 8, 8, 1), scalar(4, 64, 16), BARKPADDLE_WAY_PIECES, all_given, eight_ints);
     BARE("a float without size", ARGUMENT, call_of(3, 8, 8, 1), scalar(1, 0, 0), BARKPADDLE_WAY_PIECES, marked);
-    BARE("after the dots, no mark", AFTER_DOTS, call_of(3, 8, 8, 0), scalar(2, 8, 8), BARKPADDLE_WAY_DIRECT, float_given);
+    BARE("after the dots, no mark", VARIADIC_ARGUMENT, call_of(3, 8, 8, 0), scalar(2, 8, 8), BARKPADDLE_WAY_DIRECT, float_given);
 
     BARE("a large return", RETURN, call_of(0, 6, 8, 0), aggregate(100, 8, NULL, 0), BARKPADDLE_WAY_REFERENCE, pointer);
     BARE("a dedicated pointer", RETURN, call_of(1, 8, 8, 0), aggregate(100, 8, NULL, 0), BARKPADDLE_WAY_REFERENCE, no_pointer);
@@ -474,11 +474,11 @@ static void beside_the_twelve(void)
     BARE("a Quad's return", RETURN, call_of(4, 4, 0, 0), scalar(4, 16, 16), BARKPADDLE_WAY_REFERENCE, quad_pointer);
     BARE("a scalar's return", RETURN, call_of(0, 6, 8, 0), scalar(0, 8, 8), BARKPADDLE_WAY_DIRECT, fresh_0);
 
-    BARE("row 2, scalar after the dots", AFTER_DOTS, call_of(2, 5, 8, 0), scalar(0, 16, 16), BARKPADDLE_WAY_DIRECT, after_dots);
-    BARE("row 2, record after the dots", AFTER_DOTS, call_of(2, 5, 8, 0), aggregate(16, 8, NULL, 0), BARKPADDLE_WAY_MEMORY, after_dots);
-    BARE("row 2, large after the dots", AFTER_DOTS, call_of(2, 5, 8, 0), aggregate(17, 8, NULL, 0), BARKPADDLE_WAY_REFERENCE, after_dots);
-    BARE("row 2, void after the dots", AFTER_DOTS, call_of(2, 5, 8, 0), nothing, BARKPADDLE_WAY_IGNORE, after_dots);
-    LINE("row 5 after the dots", AFTER_DOTS, call_of(5, 8, 8, 0), scalar(2, 8, 8), BARKPADDLE_WAY_PIECES, marked, one_int);
+    BARE("row 2, scalar after the dots", VARIADIC_ARGUMENT, call_of(2, 5, 8, 0), scalar(0, 16, 16), BARKPADDLE_WAY_DIRECT, nothing_spent);
+    BARE("row 2, record after the dots", VARIADIC_ARGUMENT, call_of(2, 5, 8, 0), aggregate(16, 8, NULL, 0), BARKPADDLE_WAY_MEMORY, nothing_spent);
+    BARE("row 2, large after the dots", VARIADIC_ARGUMENT, call_of(2, 5, 8, 0), aggregate(17, 8, NULL, 0), BARKPADDLE_WAY_REFERENCE, nothing_spent);
+    BARE("row 2, void after the dots", VARIADIC_ARGUMENT, call_of(2, 5, 8, 0), nothing, BARKPADDLE_WAY_IGNORE, nothing_spent);
+    LINE("row 5 after the dots", VARIADIC_ARGUMENT, call_of(5, 8, 8, 0), scalar(2, 8, 8), BARKPADDLE_WAY_PIECES, marked, one_int);
 
     BARE("void argument", ARGUMENT, call_of(0, 6, 8, 0), nothing, BARKPADDLE_WAY_IGNORE, fresh_0);
     BARE("void return", RETURN, call_of(0, 6, 8, 0), nothing, BARKPADDLE_WAY_IGNORE, fresh_0);
@@ -924,7 +924,7 @@ static void history(void)
             a = mark_both_ways("history, the mark", &kept);
             of_operation[3]++;
         } else {
-            enum operation operation = which == 1 ? RETURN : which < 7 ? ARGUMENT : AFTER_DOTS;
+            enum operation operation = which == 1 ? RETURN : which < 7 ? ARGUMENT : VARIADIC_ARGUMENT;
             uint64_t length = below(4) == 0 ? below(3 * BARKPADDLE_SLOT_WORDS) : BARKPADDLE_MOST_SLOT_WORDS;
 
             fill();
@@ -1318,10 +1318,10 @@ int main(void)
     beside_the_twelve();
     refusals_of(RETURN);
     refusals_of(ARGUMENT);
-    refusals_of(AFTER_DOTS);
+    refusals_of(VARIADIC_ARGUMENT);
     forms_of(RETURN);
     forms_of(ARGUMENT);
-    forms_of(AFTER_DOTS);
+    forms_of(VARIADIC_ARGUMENT);
     lent_calls();
     one_call_in_both_forms();
     mark_of_two();

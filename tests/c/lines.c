@@ -139,7 +139,7 @@ static void print_lookups(void)
 
 /* ---- a sheet ---- */
 
-enum { FRESH, MARK, RETURN, ARGUMENT, AFTER_DOTS, PIECE };
+enum { FRESH, MARK, RETURN, ARGUMENT, VARIADIC_ARGUMENT, PIECE };
 
 static uint64_t words[4 * 1024];
 
@@ -179,9 +179,9 @@ static barkpaddle_answer perform(const uint64_t r[6], barkpaddle_call c, uint64_
         return barkpaddle_argument_scalar(CALL, r[2], r[3], r[4], LENT);
     case 3 * ARGUMENT + 2:
         return barkpaddle_argument_aggregate(CALL, SHAPE, LENT);
-    case 3 * AFTER_DOTS:
+    case 3 * VARIADIC_ARGUMENT:
         return barkpaddle_variadic_argument_void(CALL, LENT);
-    case 3 * AFTER_DOTS + 1:
+    case 3 * VARIADIC_ARGUMENT + 1:
         return barkpaddle_variadic_argument_scalar(CALL, r[2], r[3], r[4], LENT);
     default:
         return barkpaddle_variadic_argument_aggregate(CALL, SHAPE, LENT);
@@ -202,7 +202,7 @@ static int print_sheet(void)
     while (read_record(r)) {
         const char *word;
 
-        if (r[0] > AFTER_DOTS || (r[0] > MARK && r[1] > 2) || (r[0] > MARK && r[1] == 2 && (r[4] > 3 || r[5] > 1024)))
+        if (r[0] > VARIADIC_ARGUMENT || (r[0] > MARK && r[1] > 2) || (r[0] > MARK && r[1] == 2 && (r[4] > 3 || r[5] > 1024)))
             return 2;
         if (r[0] > MARK && r[1] == 2)
             for (i = 0; i < r[5]; i++) {

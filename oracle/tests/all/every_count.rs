@@ -28,7 +28,7 @@ fn ask_everywhere(row: usize, values: &[Value]) {
 fn ask(start: &[Record], values: &[Value]) {
     let mut sheet = Vec::new();
     for value in values {
-        for operation in records::RETURN..=records::AFTER_DOTS {
+        for operation in records::RETURN..=records::VARIADIC_ARGUMENT {
             sheet.extend(start);
             sheet.extend(records::of_value(operation, value));
         }
