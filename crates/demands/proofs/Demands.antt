@@ -11,7 +11,7 @@ use mathlib.Core.Bool.{Bool, true, false, _&&_, cond}
 use mathlib.Core.List.{List, [], map}
 use mathlib.Core.Option.Option.{none, some}
 use lib.Dec.{eqb}
-use lib.ListN.{length, take}
+use lib.ListN.{length, take, getElem?}
 use Rattle.shape.specs.declared.Arg.the-variants.{Aggregate}
 use Rattle.shape.specs.declared.Shape.{Shape}
 use Rattle.shape.specs.Numbers.{accepted, most-size, most-offset, oneIf}
@@ -36,7 +36,7 @@ use Rattle.classify.specs.Pass.{wayOf}
 use Rattle.classify.specs.Classify as rust
 use Rattle.classify.specs.Answers.{unmarked, callWith, refusalOf, done, freshAnswer, variadicAnswer, inMemoryAnswer}
 use Rattle.ledger.specs.Ledger.{Operation, mark, return, argument, bufferOf, answerFor, writtenFor, history, Ledger}
-use Rattle.ledger.specs.Twelve.{twelve, answeredTo, expected}
+use Rattle.ledger.specs.Twelve.{Entry, twelve, callOn, answeredTo, expected}
 use Rattle.ledger.proofs.Ledger.{ledger}
 use Rattle.ledger.proofs.Twelve as calls
 use Rattle.psabi.specs.Domain as psabi
@@ -162,9 +162,16 @@ started-as-rust = performing.started-as-rust
 pub fresh-is-unmarked : (d : ℕ) → marked (freshAnswer d .next .left) ≡ false
 fresh-is-unmarked = answering.fresh-is-unmarked
 
+pub started-is-unmarked : (d : ℕ) (a : Answer) → Started d a → marked (a .next .left) ≡ false
+started-is-unmarked = performing.started-is-unmarked
+
 -- and the mark marks it where the description has the floats of a variadic call go in integer registers
 pub mark-marks : (c : Call) → Accepts mark c → marked (variadicAnswer c .next .left) ≡ rust.isIntegersOnly (described (c .abi) .variadic)
 mark-marks = answering.mark-marks
+
+pub performed-mark-marks : (c : Call) (a : Answer) (after : List ℕ) → Performed c mark a after → Accepts mark c
+    → marked (a .next .left) ≡ rust.isIntegersOnly (described (c .abi) .variadic)
+performed-mark-marks = performing.performed-mark-marks
 
 -- what is asked beside: the alignment in the argument area
 pub in-memory-as-rust : (c : Call) (shape : Shape) (words : List ℕ) → refusalOf c (Aggregate shape) words ≡ accepted
@@ -313,3 +320,8 @@ shape-read-back = numbers.shape-read-back
 
 pub twelve-calls : map answeredTo twelve ≡ map expected twelve
 twelve-calls = calls.twelve-calls
+
+-- the same of the functions: whichever is asked what an entry of the table asks, on the entry's call, answers and leaves what the entry says
+pub performed-twelve-calls : (n : ℕ) (e : Entry) → getElem? twelve n ≡ some e → (a : Answer) (after : List ℕ) → Performed (callOn e) (e .asked) a after
+    → (a, after) ≡ expected e
+performed-twelve-calls = performing.performed-twelve-calls

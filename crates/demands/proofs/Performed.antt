@@ -3,14 +3,15 @@ use Prim.Native.Nat.{ℕ, _≤_, _<_}
 use mathlib.Core.Path.{_≡_, refl, _∙_}
 use mathlib.Core.Bool.{true, false, cond}
 use mathlib.Core.List.{List, []}
+use mathlib.Core.Option.Option.{some}
 use lib.Dec.{eqb}
-use lib.ListN.{take}
+use lib.ListN.{take, getElem?}
 use Rattle.shape.specs.declared.Arg.the-variants.{Aggregate}
 use Rattle.shape.specs.declared.Shape.{Shape}
 use Rattle.shape.specs.Numbers.{accepted}
 use Rattle.shape.specs.Words.{piecesOf}
 use Rattle.abis.specs.Abis.{described, description-count}
-use Rattle.spend.specs.Ways.{wayNumber}
+use Rattle.spend.specs.Ways.{wayNumber, marked}
 use Rattle.classify.specs.declared.Call.{Call}
 use Rattle.classify.specs.declared.Answer.{Answer}
 use Rattle.classify.specs.declared.Outcome.{Outcome}
@@ -18,8 +19,10 @@ use Rattle.classify.specs.Pass.{wayOf}
 use Rattle.classify.specs.Classify as rust
 use Rattle.classify.specs.Answers.{Leaves, unmarked, callWith, done, freshAnswer}
 use Rattle.classify.proofs.Operations.{by-void}
-use Rattle.ledger.specs.Ledger.{Operation, return, argument, bufferOf, answerFor, writtenFor, answersFrom, history, Ledger}
+use Rattle.ledger.specs.Ledger.{Operation, mark, return, argument, bufferOf, answerFor, writtenFor, answersFrom, history, Ledger}
+use Rattle.ledger.specs.Twelve.{Entry, twelve, callOn, expected}
 use Rattle.ledger.proofs.Ledger.{ledger}
+use Rattle.ledger.proofs.Twelve.{call-of-twelve}
 use Rattle.bridge.specs.Lent.{Lends}
 use Rattle.psabi.specs.Domain as psabi
 use Rattle.psabi.specs.Psabi.{psabiArgument, psabiResult}
@@ -32,7 +35,7 @@ use Rattle.demands.specs.Refusals.{numberRefusals, refusalsOf, IsRefusal
 use Rattle.demands.specs.Rust.{rustPasses, rulesSpend, Accepts, AsRust}
 use Rattle.demands.specs.Standards.{SaysArgument, SaysResult}
 use Rattle.demands.proofs.Refusing.{operation-refused, fresh-refused}
-use Rattle.demands.proofs.Answering.{operation-accepts, operation-as-rust, operation-way, fresh-as-rust}
+use Rattle.demands.proofs.Answering.{operation-accepts, operation-as-rust, operation-way, fresh-as-rust, fresh-is-unmarked, mark-marks}
 use Rattle.demands.specs.Performed as by
 use Rattle.demands.specs.Performed.{Started, Performed, AllPerformed, leaving}
 
@@ -97,6 +100,11 @@ module _ (c : Call) (op : Operation) (a : Answer) (after : List ℕ) (p : Perfor
   performed-way =
       by-definition c op a after p (λ a after. a .outcome .way ≡ cond (eqb (a .outcome .refusal) accepted) (wayNumber (wayOf (rustPasses op c .pass))) 0) (operation-way op c)
 
+pub performed-mark-marks : (c : Call) (a : Answer) (after : List ℕ) → Performed c mark a after → Accepts mark c
+    → marked (a .next .left) ≡ rust.isIntegersOnly (described (c .abi) .variadic)
+performed-mark-marks c a after p z =
+    by-definition c mark a after p (λ a after. marked (a .next .left) ≡ rust.isIntegersOnly (described (c .abi) .variadic)) (mark-marks c z)
+
 -- the standards, of aggregates
 module _ (c : Call) (shape : Shape) (words out : List ℕ) (a : Answer) (after : List ℕ) where
   module _ (e : c .abi ≡ 0) (d : psabi.Domain shape (piecesOf words)) where
@@ -137,6 +145,9 @@ started-refused d a s = rw (started-defined d a s) (fresh-refused d)
 pub started-as-rust : (d : ℕ) (a : Answer) → Started d a → d < description-count → a ≡ done (callWith d (rust.call (described d)))
 started-as-rust d a s h = started-defined d a s ∙ fresh-as-rust d h
 
+pub started-is-unmarked : (d : ℕ) (a : Answer) → Started d a → marked (a .next .left) ≡ false
+started-is-unmarked d a s = rw (started-defined d a s) (fresh-is-unmarked d)
+
 all-defined : (c : Call) (ops : List Operation) (past : List Answer) → AllPerformed c ops past → past ≡ answersFrom c ops
 unfolding answersFrom
 all-defined _ _ _ (by.none c) = refl
@@ -148,3 +159,8 @@ pub ledger-performed : (d : ℕ) → d < description-count → (first : Answer) 
 ledger-performed d known first s ops past p =
     let same : past ≡ history d ops = rw (all-defined (first .next) ops past p, started-defined d first s) refl in
     (same, λ n. rw same (ledger d known ops n))
+
+-- ---- the table of twelve calls
+
+pub performed-twelve-calls : (n : ℕ) (e : Entry) → getElem? twelve n ≡ some e → (a : Answer) (after : List ℕ) → Performed (callOn e) (e .asked) a after → (a, after) ≡ expected e
+performed-twelve-calls n e here a after p = by-definition (callOn e) (e .asked) a after p (λ a after. (a, after) ≡ expected e) (call-of-twelve n e here)

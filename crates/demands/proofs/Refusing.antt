@@ -40,7 +40,6 @@ use Rattle.classify.specs.Classify.{Passed}
 use Rattle.classify.specs.Answers.{unmarked, isBadLeft, leftRefusal, argRefusal, checked, callRefusalBy, refusalBy, rowRefusal, refusalOf, refused, done, orAnswer, orAlign, wholeRefusal, answerTo, writtenTo, variadicAnswerBy, returnsAnswerBy, returnsWrittenBy, argumentAnswerBy, argumentWrittenBy, variadicArgumentAnswerBy, variadicArgumentWrittenBy, inMemoryAnswerBy, freshAnswer, variadicAnswer, returnsAnswer, returnsWritten, argumentAnswer, argumentWritten, variadicArgumentAnswer, variadicArgumentWritten, inMemoryAnswer}
 use Rattle.classify.proofs.Accepted.{by-cases}
 use Rattle.ledger.specs.Ledger.{Operation, mark, return, argument, variadic-argument, bufferOf, answerFor, writtenFor}
-use Rattle.export_numbers.specs.declared.Told.{Told}
 use Rattle.export_questions.specs.Answers.{alignTold, countTold, lengthTold, yesTold, formatTold, recordNumbers}
 use Rattle.export_questions.specs.Descriptions.{noDescription, fieldsOf, descriptionAnswer, ruleIn, returnRuleAnswer, argumentRuleAnswer}
 use Rattle.demands.specs.Refusals.{valueRefusals, markRefusals, refusalsOf, numberRefusals, inMemoryRefusals, memberRefusals, recordRefusals, nameRefusals, attributeRefusals, questionRefusals, IsRefusal, isOneOf, OneOf, Refused, RefusedTold, RefusedAs, noRecord, noRule}
@@ -191,9 +190,6 @@ fresh-refused d = go (leb description-count d) _
 
 -- ---- what tells one number
 
-told : (numbers : List ℕ) (n : ℕ) (r : Told) (out after : List ℕ) → r .refusal ≡ suc n → Within numbers (suc n) → r .value ≡ 0 → after ≡ out → RefusedTold numbers r out after
-told numbers n r out after e h z w = record { one-of-them = rw e h; value-zero = z; same-words = w }
-
 pub in-memory-refused : (c : Call) (shape : Shape) (words : List ℕ) → IsRefusal (inMemoryAnswer c shape words .refusal)
     → RefusedTold inMemoryRefusals (alignTold (inMemoryAnswer c shape words)) [] []
 unfolding inMemoryAnswer inMemoryAnswerBy refusalOf isOneOf
@@ -202,7 +198,7 @@ in-memory-refused c shape words =
   where
     go : (n align : ℕ) → Within inMemoryRefusals n → IsRefusal (orAlign n align .refusal) → RefusedTold inMemoryRefusals (alignTold (orAlign n align)) [] []
     go zero align k h = absurd (h refl)
-    go (suc n) align k h = told inMemoryRefusals n _ [] [] refl k refl refl
+    go (suc n) align k h = record { one-of-them = k; value-zero = refl; same-words = refl }
 
 pub pieces-refused : (members out : List ℕ) → IsRefusal (piecesAnswer members out .refusal)
     → RefusedTold memberRefusals (countTold (piecesAnswer members out)) out (piecesWritten members out)
@@ -213,11 +209,16 @@ pieces-refused ws out =
     go : (n : ℕ) → Within memberRefusals n → (room : Bool) → leb (length (scalarsOf ws)) (length out / pieceSize) ≡ room → IsRefusal (orPlaced n (ifRoom room (length (scalarsOf ws))) .refusal)
         → RefusedTold memberRefusals (countTold (orPlaced n (ifRoom room (length (scalarsOf ws))))) out (unlessRefused n (putAt out 0 (piecesWords (placed 0 (scalarsOf ws)))) out)
     go zero k true e h = absurd (h refl)
-    go zero k false e h = told memberRefusals 6 _ out _ refl refl refl (sym (put-short out 0 (piecesWords (placed 0 (scalarsOf ws))) (omega (arith, room-words 0 (scalarsOf ws), leb-false (length (scalarsOf ws)) (length out / pieceSize) e))))
-    go (suc n) k room e h = told memberRefusals n _ out out refl k refl refl
+    go zero k false e h = record {
+      one-of-them = refl;
+      value-zero = refl;
+      same-words =
+          sym (put-short out 0 (piecesWords (placed 0 (scalarsOf ws))) (omega (arith, room-words 0 (scalarsOf ws), leb-false (length (scalarsOf ws)) (length out / pieceSize) e)));
+    }
+    go (suc n) k room e h = record { one-of-them = k; value-zero = refl; same-words = refl }
 
 -- a name, where there is one: it is written where it fits
-put-refused : (numbers : List ℕ) → Within numbers no-room → (name out : List ℕ) → IsRefusal (putAnswer name (length out) .refusal)
+put-refused : (numbers : List ℕ) → OneOf numbers no-room → (name out : List ℕ) → IsRefusal (putAnswer name (length out) .refusal)
     → RefusedTold numbers (lengthTold (putAnswer name (length out))) out (putWritten name out)
 unfolding putAnswer
 put-refused numbers k name out = go (leb (length name) (length out)) refl
@@ -225,7 +226,7 @@ put-refused numbers k name out = go (leb (length name) (length out)) refl
     go : (fits : Bool) → leb (length name) (length out) ≡ fits → IsRefusal (cond fits (wrote accepted (length name)) (wrote no-room 0) .refusal)
         → RefusedTold numbers (lengthTold (cond fits (wrote accepted (length name)) (wrote no-room 0))) out (putWritten name out)
     go true e h = absurd (h refl)
-    go false e h = told numbers 6 _ out _ refl k refl (sym (put-short out 0 name (omega (arith, leb-false (length name) (length out) e))))
+    go false e h = record { one-of-them = k; value-zero = refl; same-words = sym (put-short out 0 name (omega (arith, leb-false (length name) (length out) e))) }
 
 pub name-refused : (d : ℕ) (out : List ℕ) → IsRefusal (nameAnswer d (length out) .refusal) → RefusedTold nameRefusals (lengthTold (nameAnswer d (length out))) out (nameWritten d out)
 unfolding nameAnswer nameWritten isOneOf
@@ -233,7 +234,7 @@ name-refused d out = go (leb description-count d)
   where
     go : (b : Bool) → IsRefusal (cond b (wrote bad-abi 0) (putAnswer (described d .name) (length out)) .refusal)
         → RefusedTold nameRefusals (lengthTold (cond b (wrote bad-abi 0) (putAnswer (described d .name) (length out)))) out (cond b out (putWritten (described d .name) out))
-    go true h = told nameRefusals 0 _ out out refl refl refl refl
+    go true h = record { one-of-them = refl; value-zero = refl; same-words = refl }
     go false h = put-refused nameRefusals refl (described d .name) out h
 
 pub attribute-refused : (convention : ℕ) (out : List ℕ) → IsRefusal (attributeAnswer convention (length out) .refusal)
@@ -253,7 +254,7 @@ question-within d size = refuse-within questionRefusals (leb description-count d
 yes-refused : (n : ℕ) (answer : Bool) → Within questionRefusals n → IsRefusal (askedYes n answer .refusal) → RefusedTold questionRefusals (yesTold (askedYes n answer)) [] []
 unfolding askedYes
 yes-refused zero answer k h = absurd (h refl)
-yes-refused (suc n) answer k h = rw (ne-eqb (suc n) 0 (omega arith)) (told questionRefusals n _ [] [] refl k refl refl)
+yes-refused (suc n) answer k h = rw (ne-eqb (suc n) 0 (omega arith)) (record { one-of-them = k; value-zero = refl; same-words = refl })
 
 pub by-reference-refused : (d size : ℕ) → IsRefusal (isByReferenceAnswer d size .refusal) → RefusedTold questionRefusals (yesTold (isByReferenceAnswer d size)) [] []
 unfolding isByReferenceAnswer
@@ -269,7 +270,7 @@ wide-returns-in-refused d size = go (questionRefusal d size) _ (question-within 
   where
     go : (n format : ℕ) → Within questionRefusals n → IsRefusal (askedFormat n format .refusal) → RefusedTold questionRefusals (formatTold (askedFormat n format)) [] []
     go zero format k h = absurd (h refl)
-    go (suc n) format k h = rw (ne-eqb (suc n) 0 (omega arith)) (told questionRefusals n _ [] [] refl k refl refl)
+    go (suc n) format k h = rw (ne-eqb (suc n) 0 (omega arith)) (record { one-of-them = k; value-zero = refl; same-words = refl })
 
 -- ---- what answers several numbers
 

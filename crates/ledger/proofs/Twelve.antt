@@ -1,6 +1,10 @@
 -- The table of twelve calls, as one statement that antt computes: every entry's answer, with the words of the buffer, is the one listed.
+use Prim.Native.Nat.{ℕ, zero, suc}
 use mathlib.Core.Path.{_≡_, refl}
-use mathlib.Core.List.{map}
+use mathlib.Core.List.{List, [], _∷_, map}
+use mathlib.Core.Option.Option.{some}
+use native.Mathlib.Omega.{arith}
+use lib.ListN.{getElem?}
 use Rattle.checks.specs.Check.{scalarRefusal, pieceRefusal, piecesRefusal, listRefusal, shapeRefusal}
 use Rattle.shape.specs.Questions.{allOf, isAllOf}
 use Rattle.shape.specs.Words.{piecesOf, putAt}
@@ -19,8 +23,18 @@ use Rattle.find.specs.Matches.{matches}
 use Rattle.classify.specs.Classify as rust
 use Rattle.classify.specs.Spending as spending
 use Rattle.classify.specs.Answers as answers
-use Rattle.ledger.specs.Twelve.{twelve, answeredTo, expected}
+use Rattle.ledger.specs.Twelve.{Entry, twelve, answeredTo, expected}
 
 pub twelve-calls : map answeredTo twelve ≡ map expected twelve
 unfolding scalarRefusal pieceRefusal piecesRefusal listRefusal shapeRefusal allOf isAllOf piecesOf upTo cut floatsIn wordsOf putAt written abis.descriptions described foundIf floatsAt allSame isHomogeneous homogeneous pieceSlot fitsOne floatPair x87Stack loneFloat class.code class.same class.merge eight.cover eight.mark fits eight.classesAfter eight.spoiled eight.mend eight.settled eight.classified eight.slotsFrom eight.slotsFound eight.eightbytes rules.wantOf lone.skipOf lone.integerArgument lone.scalarInRegisters lone.scalarArgument rules.whenShort rules.inSlots rules.travelOf matches rust.registers rust.afterScalar rust.scalar rust.shortOf rust.slotsInRegisters rust.travel rust.apply rust.returns rust.argument spending.byRules spending.scalarBy spending.aggregateBy spending.returnChoice spending.argumentChoice answers.leftRefusal answers.argRefusal answers.checked answers.rowRefusal answers.refusalBy answers.answerTo answers.writtenTo answers.returnsAnswerBy answers.returnsWrittenBy answers.argumentAnswerBy answers.argumentWrittenBy answers.returnsAnswer answers.returnsWritten answers.argumentAnswer answers.argumentWritten
 twelve-calls = refl
+
+-- ---- an entry by its place in the table
+
+same-at : {A B : Type 0} (f g : A → B) (xs : List A) (n : ℕ) (x : A) → map f xs ≡ map g xs → getElem? xs n ≡ some x → f x ≡ g x
+same-at f g [] n x m e = absurd (let z : _≡_ {A = ℕ} 0 1 = cc in omega arith)
+same-at f g (y ∷ ys) zero x m e = let q : y ≡ x = cc in rw (← q) cc
+same-at f g (y ∷ ys) (suc n) x m e = let later : map f ys ≡ map g ys = cc in same-at f g ys n x later e
+
+pub call-of-twelve : (n : ℕ) (e : Entry) → getElem? twelve n ≡ some e → answeredTo e ≡ expected e
+call-of-twelve n e = same-at answeredTo expected twelve n e twelve-calls

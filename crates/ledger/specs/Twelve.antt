@@ -18,8 +18,8 @@ use Rattle.spend.specs.declared.Spent.{Spent}
 use Rattle.spend.specs.Ways.{spends}
 use Rattle.classify.specs.declared.Call.{Call}
 use Rattle.classify.specs.declared.Answer.{Answer}
-use Rattle.classify.specs.Answers.{unmarked, answered, returnsWritten, argumentWritten, variadicArgumentWritten}
-use Rattle.ledger.specs.Ledger.{Operation, mark, return, argument, variadic-argument, answerFor, integers, floats, startOf}
+use Rattle.classify.specs.Answers.{unmarked, answered}
+use Rattle.ledger.specs.Ledger.{Operation, return, argument, answerFor, writtenFor, integers, floats, startOf}
 
 -- ---- what is asked
 
@@ -116,15 +116,8 @@ abbrev pub callOn : Entry → Call
 callOn e =
     unmarked (e .row) (orFresh (e .integers-left) (startOf integers (described (e .row) .banks))) (orFresh (e .floats-left) (startOf floats (described (e .row) .banks)))
 
--- the mark has no buffer
-abbrev pub writtenBy : Operation → Call → List ℕ
-writtenBy mark c = []
-writtenBy (return arg words out) c = returnsWritten c arg words out
-writtenBy (argument arg words out) c = argumentWritten c arg words out
-writtenBy (variadic-argument arg words out) c = variadicArgumentWritten c arg words out
-
 abbrev pub answeredTo : Entry → Answer × List ℕ
-answeredTo e = (answerFor (e .asked) (callOn e), writtenBy (e .asked) (callOn e))
+answeredTo e = (answerFor (e .asked) (callOn e), writtenFor (e .asked) (callOn e))
 
 -- the slots' words at the front of the buffer, and zeros after them
 abbrev pub inBuffer : List ℕ → List ℕ
