@@ -4,6 +4,7 @@
 use std::io::{self, Write};
 
 use crate::generate::{Generator, bad_description, past};
+use crate::numbers::ROWS;
 use crate::random::Random;
 use crate::records::{
     self, AGGREGATE, ARGUMENT, FRESH, MARK, PIECE, RETURN, Record, SCALAR, VARIADIC_ARGUMENT,
@@ -58,11 +59,16 @@ fn piece(random: &mut Random) -> Record {
     [PIECE, random.between(0, 4), random.between(0, 16), 8, 8 * random.between(0, 3), 0]
 }
 
+/// A fresh call on any description.
+fn fresh(random: &mut Random) -> Record {
+    [FRESH, random.between(0, ROWS as u64 - 1), 0, 0, 0, 0]
+}
+
 /// An operation on an aggregate, with a fresh call before it where none is open.
 fn aggregate(generator: &mut Generator) -> Vec<Record> {
     let mut records = Vec::new();
     if !generator.open {
-        records.push([FRESH, generator.random.between(0, 29), 0, 0, 0, 0]);
+        records.push(fresh(&mut generator.random));
     }
     let operation = generator.random.between(RETURN, VARIADIC_ARGUMENT);
     loop {
@@ -96,7 +102,7 @@ fn missing_piece(generator: &mut Generator) -> Vec<Record> {
     let pieces = head(&mut records)[5];
     let missing = generator.random.between(1, pieces) as usize;
     records.truncate(records.len() - missing);
-    let fresh = [FRESH, generator.random.between(0, 29), 0, 0, 0, 0];
+    let fresh = fresh(&mut generator.random);
     records.push(generator.random.pick(&[fresh, [MARK, 0, 0, 0, 0, 0], [ARGUMENT, 0, 0, 0, 0, 0]]));
     records
 }
@@ -109,8 +115,7 @@ fn unknown_word(random: &mut Random) -> Vec<Record> {
         return vec![[past(random, PIECE), SCALAR, a, b, c, d]];
     }
     let operation = random.between(RETURN, VARIADIC_ARGUMENT);
-    let fresh = [FRESH, random.between(0, 29), 0, 0, 0, 0];
-    vec![fresh, [operation, past(random, AGGREGATE), a, b, c, d]]
+    vec![fresh(random), [operation, past(random, AGGREGATE), a, b, c, d]]
 }
 
 /// An aggregate with a flag that nobody knows.

@@ -376,7 +376,7 @@ static void check_line(
 
     next.integer = numbers[0];
     next.float_ = numbers[1];
-    for (length = 0; length <= 30; length++) {
+    for (length = 0; length <= ROOM; length++) {
         barkpaddle_answer a;
 
         if (length / BARKPADDLE_SLOT_WORDS < slots_count) {
@@ -498,7 +498,8 @@ static void beside_the_twelve(void)
 
 /* ---- refused operations ---- */
 
-static const uint64_t numbers_past[] = {0, 1, 226, UINT64_C(0x100000000) - 30, UINT64_MAX - 30};
+/* numbers of no description: the next two, and what would be row 0 in a byte and in four, and the last */
+static const uint64_t no_row[] = {BARKPADDLE_ABI_COUNT, BARKPADDLE_ABI_COUNT + 1, 256, UINT64_C(1) << 32, UINT64_MAX};
 
 static uint64_t many_words[4 * 1024 + 8];
 
@@ -516,22 +517,22 @@ static void refusals_of(enum operation operation)
     value bad = aggregate(16777217, 4097, all_wrong, 3);
 
     /* 1 before all else, for void too; the call comes back as it was */
-    for (i = 0; i < COUNT(numbers_past); i++) {
-        check_refused("BAD_ABI, void", operation, call_of(30 + numbers_past[i], 9, 9, 7), nothing, 24, BARKPADDLE_BAD_ABI);
-        check_refused("BAD_ABI, scalar", operation, call_of(30 + numbers_past[i], 0, 0, 0), scalar(5, 65, 4097), 24, BARKPADDLE_BAD_ABI);
-        check_refused("BAD_ABI, aggregate", operation, call_of(30 + numbers_past[i], 0, 0, 0), bad, 24, BARKPADDLE_BAD_ABI);
+    for (i = 0; i < COUNT(no_row); i++) {
+        check_refused("BAD_ABI, void", operation, call_of(no_row[i], 9, 9, 7), nothing, ROOM, BARKPADDLE_BAD_ABI);
+        check_refused("BAD_ABI, scalar", operation, call_of(no_row[i], 0, 0, 0), scalar(5, 65, 4097), ROOM, BARKPADDLE_BAD_ABI);
+        check_refused("BAD_ABI, aggregate", operation, call_of(no_row[i], 0, 0, 0), bad, ROOM, BARKPADDLE_BAD_ABI);
     }
 
     /* 2: each bank's start passes, one above it doesn't; the mark belongs to row 3 alone */
     for (i = 0; i < BARKPADDLE_ABI_COUNT; i++) {
         barkpaddle_call start = barkpaddle_fresh(i).next;
 
-        check_refused("BAD_CALL, integers", operation, call_of(i, start.integer + 1, start.float_, 0), bad, 24, BARKPADDLE_BAD_CALL);
-        check_refused("BAD_CALL, floats", operation, call_of(i, start.integer, start.float_ + 1, 0), nothing, 24, BARKPADDLE_BAD_CALL);
-        check_refused("BAD_CALL, most", operation, call_of(i, UINT64_MAX, 0, 0), scalar(9, 9, 9), 24, BARKPADDLE_BAD_CALL);
+        check_refused("BAD_CALL, integers", operation, call_of(i, start.integer + 1, start.float_, 0), bad, ROOM, BARKPADDLE_BAD_CALL);
+        check_refused("BAD_CALL, floats", operation, call_of(i, start.integer, start.float_ + 1, 0), nothing, ROOM, BARKPADDLE_BAD_CALL);
+        check_refused("BAD_CALL, most", operation, call_of(i, UINT64_MAX, 0, 0), scalar(9, 9, 9), ROOM, BARKPADDLE_BAD_CALL);
         if (i != BARKPADDLE_ABI_WINDOWS_ARM64) {
-            check_refused("BAD_CALL, mark", operation, call_of(i, 0, 0, 1), nothing, 24, BARKPADDLE_BAD_CALL);
-            check_refused("BAD_CALL, any mark", operation, call_of(i, 0, 0, UINT64_C(1) << 63), bad, 24, BARKPADDLE_BAD_CALL);
+            check_refused("BAD_CALL, mark", operation, call_of(i, 0, 0, 1), nothing, ROOM, BARKPADDLE_BAD_CALL);
+            check_refused("BAD_CALL, any mark", operation, call_of(i, 0, 0, UINT64_C(1) << 63), bad, ROOM, BARKPADDLE_BAD_CALL);
         }
         fill();
         a = perform(operation, call_of(i, start.integer, start.float_, 0), nothing, NULL, 0);
@@ -544,29 +545,29 @@ static void refusals_of(enum operation operation)
     for (n = 0; n <= 9; n++)
         if (n % 4 != 0)
             check_refused(
-                "BAD_LIST, parts", operation, call_of(0, 6, 8, 0), aggregate(16777217, 8, many_words, n), 24, BARKPADDLE_BAD_LIST);
+                "BAD_LIST, parts", operation, call_of(0, 6, 8, 0), aggregate(16777217, 8, many_words, n), ROOM, BARKPADDLE_BAD_LIST);
     for (n = 4097; n <= 4104; n++)
-        check_refused("BAD_LIST, many", operation, call_of(0, 6, 8, 0), aggregate(64, 8, many_words, n), 24, BARKPADDLE_BAD_LIST);
+        check_refused("BAD_LIST, many", operation, call_of(0, 6, 8, 0), aggregate(64, 8, many_words, n), ROOM, BARKPADDLE_BAD_LIST);
     a = perform(operation, call_of(0, 6, 8, 0), aggregate(8, 8, many_words, 4096), lent, ROOM);
     check_number("1,024 pieces", "refusal", BARKPADDLE_ACCEPTED, a.outcome.refusal);
     check_number("1,024 pieces", "way", BARKPADDLE_WAY_PIECES, a.outcome.way);
 
     /* the shape's size, its alignment, then the pieces from the first, each by kind, size, offset, alignment */
-    check_refused("the shape's size", operation, call_of(0, 6, 8, 0), aggregate(16777217, 4097, all_wrong, 4), 24, BARKPADDLE_BAD_SIZE);
+    check_refused("the shape's size", operation, call_of(0, 6, 8, 0), aggregate(16777217, 4097, all_wrong, 4), ROOM, BARKPADDLE_BAD_SIZE);
     check_refused(
-        "the shape's alignment", operation, call_of(0, 6, 8, 0), aggregate(16777216, 4097, all_wrong, 4), 24, BARKPADDLE_BAD_ALIGN);
+        "the shape's alignment", operation, call_of(0, 6, 8, 0), aggregate(16777216, 4097, all_wrong, 4), ROOM, BARKPADDLE_BAD_ALIGN);
     for (n = 0; n < 4; n++) {
         check_refused("a piece", operation, call_of(0, 6, 8, 0), aggregate(16777216, 4096, wrong[n], 4), 0, refusals[n]);
         for (i = 0; i < 4; i++) {
             two[i] = wrong[4][i];
             two[4 + i] = wrong[n][i];
         }
-        check_refused("the second piece", operation, call_of(0, 6, 8, 0), aggregate(8, 8, two, 8), 24, refusals[n]);
+        check_refused("the second piece", operation, call_of(0, 6, 8, 0), aggregate(8, 8, two, 8), ROOM, refusals[n]);
         for (i = 0; i < 4; i++) {
             two[i] = wrong[n][i];
             two[4 + i] = wrong[(n + 1) % 4][i];
         }
-        check_refused("the first of two", operation, call_of(0, 6, 8, 0), aggregate(8, 8, two, 8), 24, refusals[n]);
+        check_refused("the first of two", operation, call_of(0, 6, 8, 0), aggregate(8, 8, two, 8), ROOM, refusals[n]);
     }
     a = perform(operation, call_of(0, 6, 8, 0), aggregate(16777216, 4096, NULL, 0), NULL, 0);
     check_number("the largest shape", "refusal", BARKPADDLE_ACCEPTED, a.outcome.refusal);
@@ -579,10 +580,10 @@ static void refusals_of(enum operation operation)
 
     /* a scalar: kind, size, alignment */
     for (i = 0; i < COUNT(kinds); i++)
-        check_refused("a scalar's kind", operation, call_of(0, 6, 8, 0), scalar(kinds[i], 65, 4097), 24, BARKPADDLE_BAD_KIND);
-    check_refused("a scalar's size", operation, call_of(0, 6, 8, 0), scalar(4, 65, 4097), 24, BARKPADDLE_BAD_SIZE);
-    check_refused("a scalar's size", operation, call_of(0, 6, 8, 0), scalar(0, UINT64_MAX, 0), 24, BARKPADDLE_BAD_SIZE);
-    check_refused("a scalar's alignment", operation, call_of(0, 6, 8, 0), scalar(4, 64, 4097), 24, BARKPADDLE_BAD_ALIGN);
+        check_refused("a scalar's kind", operation, call_of(0, 6, 8, 0), scalar(kinds[i], 65, 4097), ROOM, BARKPADDLE_BAD_KIND);
+    check_refused("a scalar's size", operation, call_of(0, 6, 8, 0), scalar(4, 65, 4097), ROOM, BARKPADDLE_BAD_SIZE);
+    check_refused("a scalar's size", operation, call_of(0, 6, 8, 0), scalar(0, UINT64_MAX, 0), ROOM, BARKPADDLE_BAD_SIZE);
+    check_refused("a scalar's alignment", operation, call_of(0, 6, 8, 0), scalar(4, 64, 4097), ROOM, BARKPADDLE_BAD_ALIGN);
     a = perform(operation, call_of(0, 6, 8, 0), scalar(4, 64, 4096), NULL, 0);
     check_number("the largest scalar", "refusal", BARKPADDLE_ACCEPTED, a.outcome.refusal);
 }
@@ -628,8 +629,8 @@ static void starts(void)
             "variadic, too many", mark(call_of(i, c.integer + 1, 0, 0)), BARKPADDLE_BAD_CALL, 0, call_of(i, c.integer + 1, 0, 0),
             no_spending, 0);
     }
-    for (i = 0; i < COUNT(numbers_past); i++) {
-        uint64_t abi = 30 + numbers_past[i];
+    for (i = 0; i < COUNT(no_row); i++) {
+        uint64_t abi = no_row[i];
 
         check_answer("fresh, BAD_ABI", barkpaddle_fresh(abi), BARKPADDLE_BAD_ABI, 0, call_of(0, 0, 0, 0), no_spending, 0);
         check_answer("variadic, BAD_ABI", mark(call_of(abi, 9, 9, 9)), BARKPADDLE_BAD_ABI, 0, call_of(abi, 9, 9, 9), no_spending, 0);
@@ -672,12 +673,12 @@ static void forms_of(enum operation operation)
     for (i = 0; i < COUNT(unknown); i++) {
         check_form_refused(operation, call_of(0, 6, 8, 0), unknown[i], BARKPADDLE_BAD_KIND);
         check_form_refused(operation, call_of(3, 0, 0, 1), unknown[i], BARKPADDLE_BAD_KIND);
-        check_form_refused(operation, call_of(30, 9, 9, 1), unknown[i], BARKPADDLE_BAD_ABI);
+        check_form_refused(operation, call_of(BARKPADDLE_ABI_COUNT, 9, 9, 1), unknown[i], BARKPADDLE_BAD_ABI);
         check_form_refused(operation, call_of(0, 7, 8, 0), unknown[i], BARKPADDLE_BAD_CALL);
         check_form_refused(operation, call_of(0, 6, 8, 1), unknown[i], BARKPADDLE_BAD_CALL);
     }
     /* void is refused for its call alone */
-    check_form_refused(operation, call_of(30, 0, 0, 0), BARKPADDLE_FORM_VOID, BARKPADDLE_BAD_ABI);
+    check_form_refused(operation, call_of(BARKPADDLE_ABI_COUNT, 0, 0, 0), BARKPADDLE_FORM_VOID, BARKPADDLE_BAD_ABI);
 }
 
 /* README's record, then README's call that broke: here the numbers are expected, not another entry's answers. */
@@ -898,7 +899,7 @@ static barkpaddle_call spoilt(barkpaddle_call c)
  */
 static void history(void)
 {
-    static unsigned long of_refusal[8], of_way[5], of_row[30], of_operation[4], marked, oddly_marked;
+    static unsigned long of_refusal[8], of_way[5], of_row[BARKPADDLE_ABI_COUNT], of_operation[4], marked, oddly_marked;
     barkpaddle_call kept = call_of(0, 6, 8, 0);
     uint64_t n;
     uint64_t i;
@@ -983,7 +984,7 @@ static void in_memory(void)
     check_told("in_memory, row 2, five floats", barkpaddle_in_memory(2, 8, 8, 0, 20, 4, 0, 0, singles, 20), 0, 8);
     check_told("in_memory, no alignment", barkpaddle_in_memory(0, 0, 0, 0, 0, 0, 0, 0, NULL, 0), 0, 0);
 
-    check_told("in_memory", barkpaddle_in_memory(30, 9, 9, 1, 16777217, 4097, 0, 0, all_wrong, 3), BARKPADDLE_BAD_ABI, 0);
+    check_told("in_memory", barkpaddle_in_memory(BARKPADDLE_ABI_COUNT, 9, 9, 1, 16777217, 4097, 0, 0, all_wrong, 3), BARKPADDLE_BAD_ABI, 0);
     check_told("in_memory", barkpaddle_in_memory(2, 9, 8, 0, 16777217, 4097, 0, 0, all_wrong, 3), BARKPADDLE_BAD_CALL, 0);
     check_told("in_memory", barkpaddle_in_memory(2, 8, 8, 1, 16777217, 4097, 0, 0, all_wrong, 3), BARKPADDLE_BAD_CALL, 0);
     check_told("in_memory", barkpaddle_in_memory(2, 8, 8, 0, 16777217, 4097, 0, 0, all_wrong, 3), BARKPADDLE_BAD_LIST, 0);
@@ -1119,7 +1120,8 @@ static void descriptions(void)
         check_number("row 4, argument 0", "a size", sizes[i], BARKPADDLE_TEST_SIZE(barkpaddle_argument_rule(4, 0).number, i));
     for (i = 0; i < COUNT(past_end); i++) {
         check_rule("past the end, return", barkpaddle_return_rule(0, past_end[i]), 0, BARKPADDLE_TEST_NO_RULE, 0, 0, 0);
-        check_rule("past the end, argument", barkpaddle_argument_rule(29, past_end[i]), 0, BARKPADDLE_TEST_NO_RULE, 0, 0, 0);
+        check_rule(
+            "past the end, argument", barkpaddle_argument_rule(BARKPADDLE_ABI_COUNT - 1, past_end[i]), 0, BARKPADDLE_TEST_NO_RULE, 0, 0, 0);
     }
 
     check_told("by reference", barkpaddle_scalar_is_by_reference(4, 16), 0, 1);
@@ -1133,8 +1135,8 @@ static void descriptions(void)
     check_told("returns in", barkpaddle_wide_integer_returns_in(4, 4), 0, BARKPADDLE_KIND_NO_FORMAT);
     check_told("returns in", barkpaddle_wide_integer_returns_in(4, 65), BARKPADDLE_BAD_SIZE, 0);
 
-    for (i = 0; i < COUNT(numbers_past); i++) {
-        abi = 30 + numbers_past[i];
+    for (i = 0; i < COUNT(no_row); i++) {
+        abi = no_row[i];
         check_fields("no row", abi, none);
         check_rule("no row, return", barkpaddle_return_rule(abi, 0), BARKPADDLE_BAD_ABI, 0, 0, 0, 0);
         check_rule("no row, argument", barkpaddle_argument_rule(abi, UINT64_MAX), BARKPADDLE_BAD_ABI, 0, 0, 0, 0);
@@ -1144,23 +1146,32 @@ static void descriptions(void)
     }
 }
 
-static void check_name(uint64_t abi, const char *name)
+/*
+ * A text that an entry writes, that of a number: in every buffer that has room it is the same and the bytes behind it stay; in every smaller
+ * one it is NO_ROOM.
+ */
+static void check_text(const char *place, barkpaddle_told (*entry)(uint64_t, uint8_t *, uint64_t), uint64_t number, const char *text)
 {
     uint64_t length;
 
-    for (length = 0; length <= strlen(name) + 2; length++) {
+    for (length = 0; length <= strlen(text) + 2; length++) {
         barkpaddle_told told;
 
         fill_bytes();
-        told = barkpaddle_name(abi, length == 0 ? NULL : lent_bytes, length);
-        if (length < strlen(name)) {
-            check_told("name, no room", told, BARKPADDLE_NO_ROOM, 0);
-            check_bytes("name, no room", "");
+        told = entry(number, length == 0 ? NULL : lent_bytes, length);
+        if (length < strlen(text)) {
+            check_told(place, told, BARKPADDLE_NO_ROOM, 0);
+            check_bytes(place, "");
         } else {
-            check_told("name", told, BARKPADDLE_ACCEPTED, strlen(name));
-            check_bytes("name", name);
+            check_told(place, told, BARKPADDLE_ACCEPTED, strlen(text));
+            check_bytes(place, text);
         }
     }
+}
+
+static void check_name(uint64_t abi, const char *name)
+{
+    check_text("name", barkpaddle_name, abi, name);
 }
 
 /* Each macro's description has the name of REFERENCE 5.5. */
@@ -1199,9 +1210,9 @@ static void names(void)
     check_name(BARKPADDLE_ABI_I386_MSVC_STDCALL, "i386 Windows stdcall (MSVC)");
     check_name(BARKPADDLE_ABI_I386_MSVC_FASTCALL, "i386 Windows fastcall (MSVC)");
     fill_bytes();
-    for (i = 0; i < COUNT(numbers_past); i++) {
-        check_told("name, BAD_ABI", barkpaddle_name(30 + numbers_past[i], lent_bytes, sizeof lent_bytes), BARKPADDLE_BAD_ABI, 0);
-        check_told("name, BAD_ABI", barkpaddle_name(30 + numbers_past[i], NULL, 0), BARKPADDLE_BAD_ABI, 0);
+    for (i = 0; i < COUNT(no_row); i++) {
+        check_told("name, BAD_ABI", barkpaddle_name(no_row[i], lent_bytes, sizeof lent_bytes), BARKPADDLE_BAD_ABI, 0);
+        check_told("name, BAD_ABI", barkpaddle_name(no_row[i], NULL, 0), BARKPADDLE_BAD_ABI, 0);
     }
     check_bytes("name, BAD_ABI", "");
 }
@@ -1215,21 +1226,7 @@ static uint64_t asked(uint64_t architecture, uint64_t system, const char *name)
 
 static void check_attribute(uint64_t convention, const char *name)
 {
-    uint64_t length;
-
-    for (length = 0; length <= strlen(name) + 2; length++) {
-        barkpaddle_told told;
-
-        fill_bytes();
-        told = barkpaddle_attribute(convention, length == 0 ? NULL : lent_bytes, length);
-        if (length < strlen(name)) {
-            check_told("attribute, no room", told, BARKPADDLE_NO_ROOM, 0);
-            check_bytes("attribute, no room", "");
-        } else {
-            check_told("attribute", told, BARKPADDLE_ACCEPTED, strlen(name));
-            check_bytes("attribute", name);
-        }
-    }
+    check_text("attribute", barkpaddle_attribute, convention, name);
 }
 
 static void lookups(void)
