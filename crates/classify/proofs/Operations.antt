@@ -49,7 +49,6 @@ use Rattle.slot_writing.proofs.Writing.{nothing-written}
 use Rattle.classify.specs.declared.Call.{Call}
 use Rattle.classify.specs.declared.Answer.{Answer}
 use Rattle.classify.specs.declared.Decided.{Decided}
-use Rattle.classify.specs.Pass as pass
 use Rattle.classify.specs.Classify as rust
 use Rattle.classify.specs.Classify.{Passed}
 use Rattle.classify.specs.Spending as rules

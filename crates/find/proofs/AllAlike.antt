@@ -1,6 +1,6 @@
 -- The laws of `homogeneous`, each with what the code looked at as premises: what fails decides, and where nothing fails the slots are found; and
 -- what float slots of one format are.
-use Prim.Native.Nat.{ℕ, suc, _-_, _*_, _/_, _≤_, _<_}
+use Prim.Native.Nat.{ℕ, suc, _*_, _/_, _≤_, _<_}
 use mathlib.Core.Path.{_≡_, refl, ap, sym, subst}
 use mathlib.Core.List.{List, [], _∷_}
 use mathlib.Core.Bool.{Bool, true, false, not, _&&_}
