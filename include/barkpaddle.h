@@ -1,7 +1,7 @@
 /*
  * Barkpaddle: how each value of a call travels, on thirty calling conventions.
  *
- * Everything comes in and goes out as 64-bit numbers, called words. docs/REFERENCE.md has the rules; its sections 13 and 14 are about
+ * Everything comes in and goes out as 64-bit numbers, called words. docs/REFERENCE.md has the rules; its sections 13 to 15 are about
  * these entries. They are proved: every entry answers every input, traps on none, allocates nothing, keeps no state and touches no memory
  * but what it is lent, so that calls from several threads need no care.
  *
@@ -11,8 +11,8 @@
  *
  * Refusals. A refusal is a number, 0 where the input is accepted. An operation on a call has it in its outcome, as the first number there;
  * in every other answer that is a struct it is the first number of all. A refused operation hands back the call that it was handed (a
- * refused fresh one: all zeros), answers 0 in every other number, and leaves every lent buffer as it was. Where several refusals would
- * apply, the first in the order given with the entry is answered.
+ * refused fresh one: all zeros; a refused read: the offsets that it was handed), answers 0 in every other number, and leaves every lent
+ * buffer as it was. Where several refusals would apply, the first in the order given with the entry is answered.
  *
  * Yes and no. A number that stands for yes or no is a yes where it isn't 0. A yes that an entry answers is 1. The integers-only mark of a
  * call isn't answered but handed on: it comes back as the number that was handed in, whether the operation is refused or accepted. Only
@@ -37,7 +37,7 @@ extern "C" {
 /* The version of this header: one number, raised with each change of the header. A program that may be linked to an archive that was made
  * elsewhere compares it with barkpaddle_version() before it asks anything else. Where they differ the archive goes with another header: it
  * may lack what this one names, or answer what this one doesn't. Link the archive that tools/staticlib makes beside this header. */
-#define BARKPADDLE_VERSION UINT64_C(1)
+#define BARKPADDLE_VERSION UINT64_C(2)
 
 /* The version of the header that the archive goes with. Refuses nothing. */
 uint64_t barkpaddle_version(void);
@@ -86,9 +86,10 @@ uint64_t barkpaddle_version(void);
 #define BARKPADDLE_BAD_CALL UINT64_C(2)  /* more registers left than there are, or the integers-only mark where there is none */
 #define BARKPADDLE_BAD_LIST UINT64_C(3)  /* the words don't make whole records, or too many */
 #define BARKPADDLE_BAD_KIND UINT64_C(4)  /* no kind has this number */
-#define BARKPADDLE_BAD_SIZE UINT64_C(5)  /* a size or an offset is above its limit */
-#define BARKPADDLE_BAD_ALIGN UINT64_C(6) /* an alignment is above its limit; in a record: all are 0 */
+#define BARKPADDLE_BAD_SIZE UINT64_C(5)  /* a size or an offset is above its limit; in a variable list: isn't the scalar's own */
+#define BARKPADDLE_BAD_ALIGN UINT64_C(6) /* an alignment is above its limit; in a record: all are 0; in a variable list: isn't the size */
 #define BARKPADDLE_NO_ROOM UINT64_C(7)   /* the result doesn't fit the buffer */
+#define BARKPADDLE_BAD_AREA UINT64_C(8)  /* a save area or an offset into it that can't be, or an overflow area that ends too early */
 
 /* Kinds of scalars, pieces and slots. Those but the integer's are also called formats. */
 #define BARKPADDLE_KIND_INTEGER UINT64_C(0)
@@ -141,6 +142,16 @@ uint64_t barkpaddle_version(void);
 
 /* No description's and no attribute's name has more bytes than this. */
 #define BARKPADDLE_MOST_NAME_BYTES 64
+
+/* Areas of a variable argument list, and what the save area of description 0 has: where the integer places end, where the float places
+ * start and end, and its bytes (REFERENCE 15). */
+#define BARKPADDLE_AREA_NOWHERE UINT64_C(0)
+#define BARKPADDLE_AREA_SAVE UINT64_C(1)
+#define BARKPADDLE_AREA_OVERFLOW UINT64_C(2)
+#define BARKPADDLE_AREA_GP_END UINT64_C(48)
+#define BARKPADDLE_AREA_FP_START UINT64_C(48)
+#define BARKPADDLE_AREA_FP_END UINT64_C(176)
+#define BARKPADDLE_AREA_SAVE_BYTES UINT64_C(176)
 
 /* Architectures. */
 #define BARKPADDLE_ARCH_X86 UINT64_C(0)
@@ -442,6 +453,49 @@ barkpaddle_told barkpaddle_attribute(uint64_t convention, uint8_t *name, uint64_
 
 /* Whether the callee of a convention takes its arguments off the stack. */
 uint64_t barkpaddle_callee_pops(uint64_t convention);
+
+/* ---- reading a variable argument list: the callee's side of description 0 (REFERENCE 15) ----
+ *
+ * A function of ABI_SYSV_AMD64 that ends in dots finds the values behind its named parameters in two areas. Its `va_list` is a struct of
+ * two numbers of 32 bits, gp_offset and fp_offset, and two pointers, overflow_arg_area and reg_save_area. What is lent and handed in:
+ *
+ *     save              reg_save_area, AREA_SAVE_BYTES bytes of it
+ *     overflow          the 16-aligned address at or below overflow_arg_area, as far as the arguments reach
+ *     gp_offset         gp_offset: 0, 8, .., 40, or AREA_GP_END where no integer place is left
+ *     fp_offset         fp_offset: AREA_FP_START, 64, .., 160, or AREA_FP_END where no float place is left
+ *     overflow_offset   how far overflow_arg_area is behind `overflow`
+ *
+ * An answer's three offsets go to the next read; overflow_arg_area is then `overflow` plus overflow_offset. That `overflow` is 16-aligned
+ * is for the caller to see to: where it isn't, a value that is aligned to 16 is looked for in a wrong place. A length is what may be read
+ * there, and below 2^63 as all that memory holds; one that stands for "no end" is a wrong one.
+ */
+
+/* Where a scalar's own bytes are: `length` bytes from `start` on of the area; and the offsets for the next one. Refused, it is
+ * AREA_NOWHERE with 0 and 0, and the offsets are those that were handed in. */
+typedef struct barkpaddle_part {
+    uint64_t refusal;
+    uint64_t area;
+    uint64_t start;
+    uint64_t length;
+    uint64_t gp_offset;
+    uint64_t fp_offset;
+    uint64_t overflow_offset;
+} barkpaddle_part;
+
+/* The bytes of a part, as a pointer into the area that holds them; NULL where it is refused. `part` is evaluated up to three times. A value
+ * of 16 bytes need not be aligned to 16 there: copy it out, as with memcpy. */
+#define BARKPADDLE_PART_BYTES(part, save, overflow) \
+    ((part).area == BARKPADDLE_AREA_SAVE       ? (const uint8_t *)(save) + (part).start \
+     : (part).area == BARKPADDLE_AREA_OVERFLOW ? (const uint8_t *)(overflow) + (part).start \
+                                               : (const uint8_t *)0)
+
+/* The next scalar of the list. Its size is the format's own (4, 8, 16, 16), an integer's 1, 2, 4, 8 or 16, and its alignment is its size.
+ * Nothing that is lent is written, or read: the answer follows from the two lengths. Refuses, in this order: BAD_KIND; BAD_SIZE; BAD_ALIGN;
+ * BAD_AREA where the save area isn't AREA_SAVE_BYTES long or gp_offset or fp_offset isn't a place or the end, whichever area the scalar is
+ * in, and where the scalar is in the overflow area and that ends before the scalar's last byte. */
+barkpaddle_part barkpaddle_read_scalar(
+    const uint8_t *save, uint64_t save_length, const uint8_t *overflow, uint64_t overflow_length, uint64_t gp_offset, uint64_t fp_offset,
+    uint64_t overflow_offset, uint64_t kind, uint64_t size, uint64_t align);
 
 #ifdef __cplusplus
 }

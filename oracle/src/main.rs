@@ -3,7 +3,7 @@
 use std::io::{self, BufWriter, Read, Write};
 use std::process::ExitCode;
 
-use oracle::{coverage, damage, find, generate, layouts, lookups, rows, shapes, sheet};
+use oracle::{coverage, damage, find, generate, layouts, lists, lookups, rows, shapes, sheet};
 
 const USAGE: &str = "\
 usage: oracle rows                         every fact of the thirty descriptions
@@ -11,6 +11,7 @@ usage: oracle rows                         every fact of the thirty descriptions
        oracle find SEED COUNT              random shapes, and what each test finds in them
        oracle shapes SEED COUNT            the same shapes as records of a sheet
        oracle layouts SEED COUNT           their alignments in memory, and what their pieces make
+       oracle lists SEED COUNT             random variable argument lists, and where each scalar is
        oracle sheet                        a sheet's lines, the sheet read from standard input
        oracle coverage                     by which rules that sheet decides, and how often
        oracle generate SEED COUNT [good]   a random sheet of so many operations
@@ -26,18 +27,9 @@ fn main() -> ExitCode {
     let arguments: Vec<String> = std::env::args().skip(1).collect();
     let words: Vec<&str> = arguments.iter().map(String::as_str).collect();
     let mut out = BufWriter::new(io::stdout().lock());
-    let answered = if words == ["sheet"] {
-        read_sheet()
-            .and_then(|bytes| sheet::print(&mut out, &bytes))
-            .map(|agreed| agreed.map_err(|why| format!("the Rust and the rules contradict {why}")))
-    } else if words == ["coverage"] {
-        read_sheet().and_then(|bytes| coverage::print(&mut out, &bytes))
-    } else {
-        let Some(written) = answer(&mut out, &words) else {
-            eprint!("{USAGE}");
-            return ExitCode::from(1);
-        };
-        written.map(Ok)
+    let Some(answered) = answer(&mut out, &words) else {
+        eprint!("{USAGE}");
+        return ExitCode::from(1);
     };
     match answered.and_then(|agreed| out.flush().map(|()| agreed)) {
         Ok(Ok(())) => ExitCode::SUCCESS,
@@ -58,10 +50,22 @@ fn read_sheet() -> io::Result<Vec<u8>> {
     Ok(bytes)
 }
 
-/// Answers a question that can't meet a contradiction, or nothing where there is none such.
-fn answer(out: &mut impl Write, words: &[&str]) -> Option<io::Result<()>> {
+/// Answers a question, or nothing where there is none such. The inner error tells what is wrong: the
+/// Rust and the rules contradict, or a sheet leaves out a rule.
+fn answer(out: &mut impl Write, words: &[&str]) -> Option<io::Result<Result<(), String>>> {
     let number = |word: &str| word.parse::<u64>().ok();
-    Some(match *words {
+    let contradicted = |agreed: Result<(), String>| {
+        agreed.map_err(|why| format!("the Rust and the rules contradict {why}"))
+    };
+    let written = match *words {
+        ["sheet"] => {
+            let printed = read_sheet().and_then(|bytes| sheet::print(out, &bytes));
+            return Some(printed.map(contradicted));
+        }
+        ["lists", seed, count] => {
+            return Some(lists::print(out, number(seed)?, number(count)?).map(contradicted));
+        }
+        ["coverage"] => return Some(read_sheet().and_then(|bytes| coverage::print(out, &bytes))),
         ["rows"] => rows::print(out),
         ["lookups"] => lookups::print(out),
         ["find", seed, count] => find::print(out, number(seed)?, number(count)?),
@@ -72,5 +76,6 @@ fn answer(out: &mut impl Write, words: &[&str]) -> Option<io::Result<()>> {
         }
         ["generate", seed, count, "damaged"] => damage::write(out, number(seed)?, number(count)?),
         _ => return None,
-    })
+    };
+    Some(written.map(Ok))
 }

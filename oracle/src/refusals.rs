@@ -1,4 +1,5 @@
-//! Which refusal an operation of a sheet gets, if any (REFERENCE 3). The Rust has none.
+//! Which refusal an operation of a sheet gets, if any (REFERENCE 3). The Rust has none. Those of a
+//! variable argument list are reader.rs's.
 //!
 //! A sheet's call is always one that its own operations led to, its lists are whole, and its
 //! slots have room, so BAD_CALL, BAD_LIST and NO_ROOM have no place here.
@@ -13,6 +14,7 @@ pub const BAD_ABI: u64 = 1;
 pub const BAD_KIND: u64 = 4;
 pub const BAD_SIZE: u64 = 5;
 pub const BAD_ALIGN: u64 = 6;
+pub const BAD_AREA: u64 = 8;
 
 /// A fresh call: the description has to be one of the thirty.
 pub fn of_fresh(description: u64) -> Option<u64> {
@@ -55,6 +57,6 @@ fn of_piece(piece: Piece) -> Option<u64> {
 }
 
 /// The refusal of the first check that fails.
-fn first(checks: &[(bool, u64)]) -> Option<u64> {
+pub fn first(checks: &[(bool, u64)]) -> Option<u64> {
     checks.iter().find(|(fails, _)| *fails).map(|(_, refusal)| *refusal)
 }

@@ -173,6 +173,32 @@ pub fn attribute(convention: u64, room: &mut [u8]) -> ffi::Told {
     unsafe { ffi::barkpaddle_attribute(convention, room.as_mut_ptr(), room.len() as u64) }
 }
 
+/// Where the next scalar of a variable argument list is, from these three offsets on: of the integer
+/// places, of the float places, of the overflow area.
+pub fn read_scalar(
+    save: &[u8],
+    overflow: &[u8],
+    [gp_offset, fp_offset, overflow_offset]: [u64; 3],
+    scalar: Scalar,
+) -> ffi::Part {
+    let (kind, size, align) = (scalar.kind().number(), scalar.size(), scalar.align());
+    // SAFETY: the lists are `save` and `overflow`.
+    unsafe {
+        ffi::barkpaddle_read_scalar(
+            save.as_ptr(),
+            save.len() as u64,
+            overflow.as_ptr(),
+            overflow.len() as u64,
+            gp_offset,
+            fp_offset,
+            overflow_offset,
+            kind,
+            size,
+            align,
+        )
+    }
+}
+
 /// How many words this slice is. The bytes of a slice fit an `isize`, so no product can overflow here.
 fn words_in<T>(items: &[T]) -> u64 {
     const { assert!(size_of::<T>() / size_of::<u64>() * size_of::<u64>() == size_of::<T>()) };

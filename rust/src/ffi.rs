@@ -104,6 +104,22 @@ pub struct Rule {
     pub short: u64,
 }
 
+/// The areas of a variable argument list.
+pub const AREA_SAVE: u64 = 1;
+pub const AREA_OVERFLOW: u64 = 2;
+
+/// A refusal, or where a scalar of a variable argument list is; and the offsets of the next one.
+#[repr(C)]
+pub struct Part {
+    pub refusal: u64,
+    pub area: u64,
+    pub start: u64,
+    pub length: u64,
+    pub gp_offset: u64,
+    pub fp_offset: u64,
+    pub overflow_offset: u64,
+}
+
 /// Holds a struct against include/barkpaddle.h: its bytes, and the byte at which each field starts.
 macro_rules! laid_out {
     ($name:ident, $bytes:literal { $($field:ident: $start:literal),* $(,)? }) => {
@@ -153,6 +169,15 @@ laid_out!(DescriptionFields, 168 {
     cleanup: 160,
 });
 laid_out!(Rule, 40 { refusal: 0, test: 8, number: 16, travel: 24, short: 32 });
+laid_out!(Part, 56 {
+    refusal: 0,
+    area: 8,
+    start: 16,
+    length: 24,
+    gp_offset: 32,
+    fp_offset: 40,
+    overflow_offset: 48,
+});
 
 #[rustfmt::skip]
 unsafe extern "C" {
@@ -188,4 +213,5 @@ unsafe extern "C" {
     pub fn barkpaddle_name(abi: u64, name: *mut u8, name_length: u64) -> Told;
     pub fn barkpaddle_asked(architecture: u64, system: u64, msvc: u64, name: *const u8, name_length: u64) -> u64;
     pub fn barkpaddle_attribute(convention: u64, name: *mut u8, name_length: u64) -> Told;
+    pub fn barkpaddle_read_scalar(save: *const u8, save_length: u64, overflow: *const u8, overflow_length: u64, gp_offset: u64, fp_offset: u64, overflow_offset: u64, kind: u64, size: u64, align: u64) -> Part;
 }

@@ -27,6 +27,9 @@
 //! A [`Call`] is a value. Whoever keeps one for each bridge to a foreign function lends a [`Bridge`]
 //! instead, which each operation updates where it stands. Its answers are the outcome alone.
 //!
+//! A function that ends in dots finds what the caller passed there through a [`VaList`], on
+//! [`Abi::SYSV_AMD64`] alone.
+//!
 //! The numbers behind the names are those of docs/REFERENCE.md. Enums are non-exhaustive, and a
 //! number without a name here comes back as `Unnamed`: a newer library may have more of them.
 //! [`check_version`] says whether the library that is linked is the one that this crate goes with.
@@ -34,7 +37,7 @@
 #![no_std]
 
 // From the lowest up, each file using only those before it: ffi, limits, numbers, values, entries,
-// outcome, abi, records, call, bridge, targets, version.
+// outcome, abi, records, call, bridge, va_list, targets, version.
 mod abi;
 mod bridge;
 mod call;
@@ -45,6 +48,7 @@ mod numbers;
 mod outcome;
 mod records;
 mod targets;
+mod va_list;
 mod values;
 mod version;
 
@@ -58,5 +62,6 @@ pub use numbers::{
 pub use outcome::{Outcome, Room, Slot, Slots, Spent};
 pub use records::{pieces, record};
 pub use targets::{Convention, Target};
+pub use va_list::{Offsets, VaList};
 pub use values::{Aggregate, Piece, Scalar, Value};
 pub use version::{VERSION, WrongVersion, check_version, library_version};

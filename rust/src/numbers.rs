@@ -116,12 +116,17 @@ numbered! {
         BadList = 3,
         /// A kind has no name.
         BadKind = 4,
-        /// A size or an offset is above its limit.
+        /// A size or an offset is above its limit; in a variable argument list: a size is none that
+        /// the kind has.
         BadSize = 5,
-        /// An alignment is above its limit; in a record: all are 0.
+        /// An alignment is above its limit; in a record: all are 0; in a variable argument list: one
+        /// isn't its scalar's size.
         BadAlign = 6,
         /// The result doesn't fit the buffer.
         NoRoom = 7,
+        /// A save area has another length, an offset into it is no place, or the overflow area ends
+        /// before the scalar does.
+        BadArea = 8,
     }
 }
 
@@ -141,9 +146,18 @@ impl fmt::Display for Refusal {
             }
             Self::BadList => "the list has too many records, or not whole ones",
             Self::BadKind => "a kind has a number that is none",
-            Self::BadSize => "a size or an offset is above its limit",
-            Self::BadAlign => "an alignment is above its limit, or all of a record's are 0",
+            Self::BadSize => {
+                "a size or an offset is above its limit, or a size is none that its kind has in a list"
+            }
+            Self::BadAlign => {
+                "an alignment is above its limit, or all of a record's are 0, or one isn't its \
+                 scalar's size in a list"
+            }
             Self::NoRoom => "the result doesn't fit the buffer",
+            Self::BadArea => {
+                "a save area of another length, an offset into it that is no place, or an overflow \
+                 area that ends before the scalar does"
+            }
             Self::Unnamed(number) => return write!(out, "refused for reason number {number}"),
         })
     }

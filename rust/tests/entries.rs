@@ -5,9 +5,9 @@ use std::error::Error;
 use std::hash::Hash;
 
 use barkpaddle::{
-    Abi, Aggregate, Architecture, Bridge, Call, Convention, Description, Kind, Outcome, Passed,
-    Piece, Refusal, Room, Rule, Scalar, Slot, Spent, System, Target, Test, VERSION, Value, Way,
-    WrongVersion, check_version, library_version, limits, pieces, record,
+    Abi, Aggregate, Architecture, Bridge, Call, Convention, Description, Kind, Offsets, Outcome,
+    Passed, Piece, Refusal, Room, Rule, Scalar, Slot, Spent, System, Target, Test, VERSION, VaList,
+    Value, Way, WrongVersion, check_version, library_version, limits, pieces, record,
 };
 
 const SYSV: Abi = Abi::SYSV_AMD64;
@@ -77,6 +77,9 @@ fn every_refusal_says_what_was_wrong() {
         refused(Scalar::new(Kind::Quad, limits::LARGEST_SCALAR + 1, 4_097).into()),
         refused(Scalar::new(Kind::Quad, 64, limits::LARGEST_ALIGN + 1).into()),
         SYSV.name(&mut []).expect_err("refused"),
+        VaList::new(&[], &[], Offsets { integer: 0, float: 48, overflow: 0 })
+            .next(Scalar::integer(8))
+            .expect_err("refused"),
     ];
     for (at, refusal) in refusals.into_iter().enumerate() {
         assert_eq!(refusal.number(), at as u64 + 1);
@@ -140,6 +143,7 @@ fn plain_types_are_keys() {
     key::<(Abi, Description, Rule, Test)>();
     key::<(Call, Bridge, Passed<'_>, Outcome<'_>, Spent, Slot)>();
     key::<(Scalar, Piece, Aggregate<'_>, Value<'_>)>();
+    key::<(VaList<'_>, Offsets)>();
     key::<(Kind, Way, Refusal, Target, Convention, WrongVersion)>();
 
     let call = Call::fresh(SYSV).expect("a description");

@@ -4,8 +4,8 @@ use std::collections::BTreeMap;
 use std::fmt::Debug;
 
 use barkpaddle::{
-    Abi, Architecture, BitInts, Cleanup, Convention, Kind, Narrow, Refusal, ReturnPointer, Short,
-    StackArgs, System, Travel, VERSION, Variadic, Way, limits,
+    Abi, Architecture, BitInts, Cleanup, Convention, Kind, Narrow, Offsets, Refusal, ReturnPointer,
+    Short, StackArgs, System, Travel, VERSION, VaList, Variadic, Way, limits,
 };
 
 /// The header's macros that are numbers, without their `BARKPADDLE_`.
@@ -63,11 +63,21 @@ fn groups() {
 #[test]
 fn refusals() {
     let macros = macros();
-    for number in 1..8 {
+    for number in 1..9 {
         let refusal = format!("{:?}", Refusal::from_number(number));
         let named = macros.iter().find(|(name, _)| plain(name) == plain(&refusal));
         assert_eq!(named.map(|(_, number)| *number), Some(number), "{refusal}");
     }
+    assert_eq!(Refusal::from_number(9), Refusal::Unnamed(9));
+}
+
+#[test]
+fn areas() {
+    let macros = macros();
+    assert_eq!(macros["AREA_GP_END"], Offsets::INTEGER_END);
+    assert_eq!(macros["AREA_FP_START"], Offsets::FLOAT_START);
+    assert_eq!(macros["AREA_FP_END"], Offsets::FLOAT_END);
+    assert_eq!(macros["AREA_SAVE_BYTES"], VaList::SAVE_BYTES as u64);
 }
 
 #[test]

@@ -14,8 +14,8 @@ use std::thread;
 use std::time::SystemTime;
 
 use barkpaddle::{
-    Abi, Aggregate, Architecture, Bridge, Call, Convention, Kind, Passed, Piece, Refusal, Room,
-    Rule, Rules, Scalar, System, Target, Test, Value, limits,
+    Abi, Aggregate, Architecture, Bridge, Call, Convention, Kind, Offsets, Passed, Piece, Refusal,
+    Room, Rule, Rules, Scalar, System, Target, Test, VaList, Value, limits,
 };
 
 /// Tells the reader of a test's output, also where the test passes.
@@ -119,6 +119,22 @@ fn aggregate<'a>(record: &Record, pieces: &'a [Piece]) -> Aggregate<'a> {
     aggregate
 }
 
+/// The value that an operation's record asks about. An aggregate's pieces go to `pieces`.
+fn value<'p>(
+    record: &Record,
+    records: &mut impl Iterator<Item = Record>,
+    pieces: &'p mut Vec<Piece>,
+) -> Value<'p> {
+    match record[1] {
+        0 => Value::Void,
+        1 => Scalar::new(Kind::from_number(record[2]), record[3], record[4]).into(),
+        _ => {
+            *pieces = pieces_of(record, records);
+            aggregate(record, pieces).into()
+        }
+    }
+}
+
 /// The lines of a good sheet. Its calls are kept as bridges, too, which say the same.
 fn lines(sheet: &[u8]) -> String {
     let mut out = String::new();
@@ -148,15 +164,8 @@ fn lines(sheet: &[u8]) -> String {
             operation => operation,
         };
         let call = open.expect("a call is open");
-        let pieces;
-        let value = match record[1] {
-            0 => Value::Void,
-            1 => Scalar::new(Kind::from_number(record[2]), record[3], record[4]).into(),
-            _ => {
-                pieces = pieces_of(&record, &mut records);
-                aggregate(&record, &pieces).into()
-            }
-        };
+        let mut pieces = Vec::new();
+        let value = value(&record, &mut records, &mut pieces);
         let passed = match word {
             2 => call.returns(value, &mut room),
             3 => call.argument(value, &mut room),
@@ -217,6 +226,142 @@ fn random_calls() {
         let sheet = ask(oracle, &["generate", &seed.to_string(), "100000", "good"], &[]);
         let original = ask(oracle, &["sheet"], &sheet);
         compare(&format!("random calls of seed {seed}"), &original, &lines(&sheet));
+    }
+}
+
+// ---- variable argument lists
+
+/// Reads each of the oracle's lists again. Its lines say what is asked and what is answered
+/// (oracle/README.md).
+#[test]
+fn lists() {
+    let Some(oracle) = oracle() else { return };
+    for seed in [41, seed()] {
+        tell(&format!("seed {seed} of the lists"));
+        let original = ask(oracle, &["lists", &seed.to_string(), "100000"], &[]);
+        let areas = Areas::new();
+        let mut reader = Reader::new(&areas);
+        let mut ours = String::with_capacity(original.len());
+        for line in std::str::from_utf8(&original).expect("lines are text").lines() {
+            reader.answer(line, &mut ours);
+        }
+        assert_eq!(reader.lists, 100_000);
+        assert!(areas == Areas::new(), "what was lent was written to");
+        let what = format!("{} reads of {} lists of seed {seed}", reader.reads, reader.lists);
+        compare(&what, &original, &ours);
+    }
+}
+
+/// As many bytes as any list is lent, each unlike those near it.
+#[derive(PartialEq)]
+struct Areas {
+    save: Vec<u8>,
+    overflow: Vec<u8>,
+}
+
+impl Areas {
+    fn new() -> Self {
+        let bytes = || (0..1_024).map(|at| (at % 251) as u8);
+        Self { save: bytes().collect(), overflow: bytes().rev().collect() }
+    }
+
+    /// The number of the area that a part is of, and where it begins there.
+    fn place(&self, part: &[u8]) -> [usize; 2] {
+        let saved = start_in(&self.save, part).map(|start| [1, start]);
+        let found = saved.or_else(|| start_in(&self.overflow, part).map(|start| [2, start]));
+        found.expect("a part is of one of the two areas")
+    }
+}
+
+/// Where a part begins in an area, by its address: its bytes alone couldn't tell.
+fn start_in(area: &[u8], part: &[u8]) -> Option<usize> {
+    let inside = area.as_ptr_range().contains(&part.as_ptr());
+    inside.then(|| part.as_ptr() as usize - area.as_ptr() as usize)
+}
+
+/// Does what the lines ask for.
+struct Reader<'a> {
+    areas: &'a Areas,
+    /// The caller's side: what the named parameters have left.
+    call: Call,
+    list: VaList<'a>,
+    room: Room,
+    lists: u64,
+    reads: u64,
+}
+
+impl<'a> Reader<'a> {
+    fn new(areas: &'a Areas) -> Self {
+        let call = Call::from_parts(Abi::SYSV_AMD64, 0, 0, false);
+        let list = VaList::new(&[], &[], Offsets { integer: 0, float: 0, overflow: 0 });
+        Self { areas, call, list, room: Room::new(), lists: 0, reads: 0 }
+    }
+
+    /// Prints the line again, with our answer in the place of the original's.
+    fn answer(&mut self, line: &str, out: &mut String) {
+        let (word, rest) = line.split_once(' ').unwrap_or((line, ""));
+        let mut numbers = rest.split(' ').map(|number| number.parse::<u64>().expect("a number"));
+        let mut next = || numbers.next().expect("there is a number more");
+        match word {
+            "list" => {
+                self.lists += 1;
+                self.call = Call::fresh(Abi::SYSV_AMD64).expect("a description");
+                out.push_str(line);
+            }
+            "named" => {
+                let words: Vec<u64> = numbers.collect();
+                self.perform(&words);
+                out.push_str(line);
+            }
+            "left" => self.print_left(next(), out),
+            "lent" => {
+                let (save, overflow) = (next() as usize, next() as usize);
+                let offsets = Offsets { integer: next(), float: next(), overflow: next() };
+                let Areas { save: saved, overflow: overflowed } = self.areas;
+                self.list = VaList::new(&saved[..save], &overflowed[..overflow], offsets);
+                out.push_str(line);
+            }
+            "read" => self.read(Scalar::new(Kind::from_number(next()), next(), next()), out),
+            other => panic!("the oracle says {other}"),
+        }
+        out.push('\n');
+    }
+
+    /// Asks about a result or a named parameter.
+    fn perform(&mut self, words: &[u64]) {
+        let mut records =
+            words.chunks_exact(6).map(|words| Record::try_from(words).expect("six words"));
+        let record = records.next().expect("a record");
+        let mut pieces = Vec::new();
+        let value = value(&record, &mut records, &mut pieces);
+        let passed = match record[0] {
+            2 => self.call.returns(value, &mut self.room),
+            _ => self.call.argument(value, &mut self.room),
+        };
+        self.call = passed.map_or(self.call, |passed| passed.next);
+    }
+
+    fn print_left(&self, overflow: u64, out: &mut String) {
+        let (integers, floats) = (self.call.integer_left(), self.call.float_left());
+        let offsets = Offsets::after(self.call, overflow).expect("a call of the description");
+        let Offsets { integer, float, overflow } = offsets;
+        write!(out, "left {overflow} {integers} {floats} {integer} {float}")
+            .expect("a string takes it");
+    }
+
+    fn read(&mut self, scalar: Scalar, out: &mut String) {
+        self.reads += 1;
+        let answer = match self.list.next(scalar) {
+            Ok(part) => {
+                let [area, start] = self.areas.place(part);
+                format!("0 {area} {start} {}", part.len())
+            }
+            Err(refusal) => format!("{} 0 0 0", refusal.number()),
+        };
+        let (kind, size, align) = (scalar.kind().number(), scalar.size(), scalar.align());
+        let Offsets { integer, float, overflow } = self.list.offsets();
+        write!(out, "read {kind} {size} {align} {answer} {integer} {float} {overflow}")
+            .expect("a string takes it");
     }
 }
 

@@ -93,6 +93,15 @@ WORD(what, align, 3);
 WORD(what, complex_, 4);
 WORD(what, floating, 5);
 
+WORDS(part, 7);
+WORD(part, refusal, 0);
+WORD(part, area, 1);
+WORD(part, start, 2);
+WORD(part, length, 3);
+WORD(part, gp_offset, 4);
+WORD(part, fp_offset, 5);
+WORD(part, overflow_offset, 6);
+
 static unsigned long passed;
 static unsigned long failed;
 
@@ -1307,6 +1316,443 @@ static void lookups(void)
     check_bytes("no attribute", "");
 }
 
+/* ---- reading a variable argument list ---- */
+
+/* What a read is handed: the lengths of the areas, the offsets, the scalar. */
+enum read_word { SAVE_LENGTH, OVERFLOW_LENGTH, GP_OFFSET, FP_OFFSET, OVERFLOW_OFFSET, READ_KIND, READ_SIZE, READ_ALIGN, READ_WORDS };
+
+typedef struct question {
+    uint64_t word[READ_WORDS];
+} question;
+
+#define SAVE_BYTES 176
+#define OVERFLOW_BYTES 96
+
+/* The areas have a byte more than is ever lent; nobody may change one. */
+static uint8_t save_area[SAVE_BYTES + 2], save_before[SAVE_BYTES + 2];
+static uint8_t overflow_area[OVERFLOW_BYTES + 1], overflow_before[OVERFLOW_BYTES + 1];
+
+static void fill_areas(void)
+{
+    size_t i;
+
+    for (i = 0; i < sizeof save_area; i++)
+        save_area[i] = (uint8_t)(i ^ 0xA5);
+    for (i = 0; i < sizeof overflow_area; i++)
+        overflow_area[i] = (uint8_t)(i ^ 0x5A);
+    memcpy(save_before, save_area, sizeof save_area);
+    memcpy(overflow_before, overflow_area, sizeof overflow_area);
+}
+
+/* The scalars that a reader accepts: kind, and size, which is the alignment, too. */
+static const uint64_t readable[][2] = {{0, 1}, {0, 2}, {0, 4}, {0, 8}, {0, 16}, {1, 4}, {2, 8}, {3, 16}, {4, 16}};
+
+/* A scalar that is aligned to its size, from a save area as it should be and an overflow area that is long enough. */
+static question question_of(uint64_t gp_offset, uint64_t fp_offset, uint64_t overflow_offset, uint64_t kind, uint64_t size)
+{
+    question q;
+
+    q.word[SAVE_LENGTH] = SAVE_BYTES;
+    q.word[OVERFLOW_LENGTH] = OVERFLOW_BYTES;
+    q.word[GP_OFFSET] = gp_offset;
+    q.word[FP_OFFSET] = fp_offset;
+    q.word[OVERFLOW_OFFSET] = overflow_offset;
+    q.word[READ_KIND] = kind;
+    q.word[READ_SIZE] = size;
+    q.word[READ_ALIGN] = size;
+    return q;
+}
+
+static question with(question q, enum read_word word, uint64_t number)
+{
+    q.word[word] = number;
+    return q;
+}
+
+/* The next offsets are those of the question, which are changed where it isn't so. */
+static barkpaddle_part part_of(question q, uint64_t refusal, uint64_t area, uint64_t start, uint64_t length)
+{
+    barkpaddle_part part;
+
+    part.refusal = refusal;
+    part.area = area;
+    part.start = start;
+    part.length = length;
+    part.gp_offset = q.word[GP_OFFSET];
+    part.fp_offset = q.word[FP_OFFSET];
+    part.overflow_offset = q.word[OVERFLOW_OFFSET];
+    return part;
+}
+
+static void check_part(const char *place, barkpaddle_part expected, barkpaddle_part got)
+{
+    check_number(place, "refusal", expected.refusal, got.refusal);
+    check_number(place, "area", expected.area, got.area);
+    check_number(place, "start", expected.start, got.start);
+    check_number(place, "length", expected.length, got.length);
+    check_number(place, "gp_offset", expected.gp_offset, got.gp_offset);
+    check_number(place, "fp_offset", expected.fp_offset, got.fp_offset);
+    check_number(place, "overflow_offset", expected.overflow_offset, got.overflow_offset);
+}
+
+/* The header's macro points to the part: into the area that the number says, or nowhere. */
+static void check_part_bytes(const char *place, barkpaddle_part expected, barkpaddle_part got)
+{
+    const uint8_t *bytes = BARKPADDLE_PART_BYTES(got, save_area, overflow_area);
+    const uint8_t *at = NULL;
+
+    if (expected.area == 1)
+        at = save_area + expected.start;
+    if (expected.area == 2)
+        at = overflow_area + expected.start;
+    check_number(place, "bytes that are elsewhere", 0, bytes != at);
+}
+
+static void show_question(question q)
+{
+    int i;
+
+    printf("    save length, overflow length, three offsets, scalar:");
+    for (i = 0; i < READ_WORDS; i++)
+        printf(" %llu", (unsigned long long)q.word[i]);
+    printf("\n");
+}
+
+/* An area of no bytes is lent as NULL. */
+static void check_read(const char *place, question q, barkpaddle_part expected)
+{
+    const uint64_t *w = q.word;
+    unsigned long failed_before = failed;
+    barkpaddle_part got = barkpaddle_read_scalar(
+        w[SAVE_LENGTH] == 0 ? NULL : save_area, w[SAVE_LENGTH], w[OVERFLOW_LENGTH] == 0 ? NULL : overflow_area, w[OVERFLOW_LENGTH],
+        w[GP_OFFSET], w[FP_OFFSET], w[OVERFLOW_OFFSET], w[READ_KIND], w[READ_SIZE], w[READ_ALIGN]);
+
+    check_part(place, expected, got);
+    check_part_bytes(place, expected, got);
+    check_number(place, "a difference in the save area", 0, memcmp(save_area, save_before, sizeof save_area) != 0);
+    check_number(place, "a difference in the overflow area", 0, memcmp(overflow_area, overflow_before, sizeof overflow_area) != 0);
+    if (failed > failed_before && failed <= 40)
+        show_question(q);
+}
+
+/* A refused read: an empty part of no area, and the offsets that were handed in. */
+static void check_read_refused(const char *place, question q, uint64_t refusal)
+{
+    check_read(place, q, part_of(q, refusal, BARKPADDLE_AREA_NOWHERE, 0, 0));
+}
+
+/* A scalar of a list, which is aligned to its size: where it stands, and the offsets behind it. */
+typedef struct step {
+    uint64_t kind, size, area, start, gp_offset, fp_offset, overflow_offset;
+} step;
+
+/*
+ * The scalars of a list, one after the other, from these offsets. In an overflow area of every length: where the scalar stands there the
+ * area has to reach over its last byte, and elsewhere it may be empty.
+ */
+static void check_steps(const char *place, uint64_t gp_offset, uint64_t fp_offset, uint64_t overflow_offset, const step *steps, size_t count)
+{
+    uint64_t length;
+    size_t i;
+
+    for (i = 0; i < count; i++) {
+        const step *s = &steps[i];
+        question q = question_of(gp_offset, fp_offset, overflow_offset, s->kind, s->size);
+        barkpaddle_part expected = part_of(q, BARKPADDLE_ACCEPTED, s->area, s->start, s->size);
+        uint64_t least = s->area == BARKPADDLE_AREA_OVERFLOW ? s->start + s->size : 0;
+
+        expected.gp_offset = gp_offset = s->gp_offset;
+        expected.fp_offset = fp_offset = s->fp_offset;
+        expected.overflow_offset = overflow_offset = s->overflow_offset;
+        for (length = 0; length <= OVERFLOW_BYTES; length++)
+            if (length < least)
+                check_read_refused(place, with(q, OVERFLOW_LENGTH, length), BARKPADDLE_BAD_AREA);
+            else
+                check_read(place, with(q, OVERFLOW_LENGTH, length), expected);
+    }
+}
+
+#define STEPS(place, gp_offset, fp_offset, overflow_offset, steps) \
+    check_steps(place, gp_offset, fp_offset, overflow_offset, steps, COUNT(steps))
+
+/* In a step: 1 is the save area, 2 the overflow area. */
+static void lists_in_the_save_area(void)
+{
+    static const step nine_doubles[] = {
+        {2, 8, 1, 48, 0, 64, 0},   {2, 8, 1, 64, 0, 80, 0},   {2, 8, 1, 80, 0, 96, 0},   {2, 8, 1, 96, 0, 112, 0}, {2, 8, 1, 112, 0, 128, 0},
+        {2, 8, 1, 128, 0, 144, 0}, {2, 8, 1, 144, 0, 160, 0}, {2, 8, 1, 160, 0, 176, 0}, {2, 8, 2, 0, 0, 176, 8}};
+    static const step six_integers[] = {{0, 8, 1, 0, 8, 48, 0},    {0, 8, 1, 8, 16, 48, 0},  {0, 8, 1, 16, 24, 48, 0},
+                                        {0, 8, 1, 24, 32, 48, 0},  {0, 8, 1, 32, 40, 48, 0}, {0, 8, 1, 40, 48, 48, 0},
+                                        {0, 16, 2, 0, 48, 48, 16}, {0, 8, 2, 16, 48, 48, 24}};
+    static const step one_place[] = {{0, 16, 2, 0, 40, 48, 16}, {0, 8, 1, 40, 48, 48, 16}};
+    static const step two_places[] = {{0, 16, 1, 32, 48, 48, 0}, {0, 16, 2, 0, 48, 48, 16}};
+    static const step small_integers[] = {
+        {0, 1, 1, 0, 8, 160, 0}, {0, 2, 1, 8, 16, 160, 0}, {0, 4, 1, 16, 24, 160, 0}, {0, 16, 1, 24, 40, 160, 0}, {0, 1, 1, 40, 48, 160, 0}};
+    static const step three_formats[] = {{1, 4, 1, 128, 48, 144, 8}, {4, 16, 1, 144, 48, 160, 8}, {2, 8, 1, 160, 48, 176, 8},
+                                         {1, 4, 2, 8, 48, 176, 16},  {4, 16, 2, 16, 48, 176, 32}};
+    static const step x87_first[] = {
+        {3, 16, 2, 0, 0, 48, 16}, {0, 4, 1, 0, 8, 48, 16}, {4, 16, 1, 48, 8, 64, 16}, {3, 16, 2, 16, 8, 64, 32}};
+
+    STEPS("nine Doubles", 0, 48, 0, nine_doubles);
+    STEPS("six integers, then 16 and 8", 0, 48, 0, six_integers);
+    STEPS("one integer place", 40, 48, 0, one_place);
+    STEPS("two integer places", 32, 48, 0, two_places);
+    STEPS("small integers", 0, 160, 0, small_integers);
+    STEPS("three formats", 48, 128, 8, three_formats);
+    STEPS("X87 first", 0, 48, 0, x87_first);
+}
+
+static void lists_in_the_overflow_area(void)
+{
+    static const step hole[] = {{0, 8, 2, 0, 48, 176, 8}, {4, 16, 2, 16, 48, 176, 32}};
+    static const step from_8[] = {{0, 8, 2, 8, 48, 176, 16}, {3, 16, 2, 16, 48, 176, 32}};
+    static const step wide_from_8[] = {{3, 16, 2, 16, 48, 176, 32}, {0, 2, 2, 32, 48, 176, 40}};
+    static const step from_24[] = {{2, 8, 2, 24, 48, 176, 32}, {0, 16, 2, 32, 48, 176, 48}};
+    static const step wide_from_24[] = {{0, 16, 2, 32, 48, 176, 48}, {1, 4, 2, 48, 48, 176, 56}};
+    /* taken as it is, though no caller starts there; the next one is 8 behind it */
+    static const step from_4[] = {
+        {0, 4, 2, 4, 48, 176, 12}, {0, 1, 2, 12, 48, 176, 20}, {2, 8, 2, 20, 48, 176, 28}, {4, 16, 2, 32, 48, 176, 48}};
+
+    STEPS("a hole of 8", 48, 176, 0, hole);
+    STEPS("from 8", 48, 176, 8, from_8);
+    STEPS("from 8, wide", 48, 176, 8, wide_from_8);
+    STEPS("from 24", 48, 176, 24, from_24);
+    STEPS("from 24, wide", 48, 176, 24, wide_from_24);
+    STEPS("from 4", 48, 176, 4, from_4);
+}
+
+/* A second reading of the rules, in places that are left; the question is a good one, and its numbers are small. */
+static barkpaddle_part worked_out(question q)
+{
+    const uint64_t *w = q.word;
+    uint64_t size = w[READ_SIZE];
+    uint64_t integers = (48 - w[GP_OFFSET]) / 8;
+    uint64_t floats = (176 - w[FP_OFFSET]) / 16;
+    uint64_t wanted = size == 16 ? 2 : 1;
+    uint64_t start = w[OVERFLOW_OFFSET];
+    barkpaddle_part part;
+
+    if (w[READ_KIND] == 0 && wanted <= integers) {
+        part = part_of(q, 0, 1, w[GP_OFFSET], size);
+        part.gp_offset += 8 * wanted;
+        return part;
+    }
+    if (w[READ_KIND] != 0 && w[READ_KIND] != 3 && floats > 0) {
+        part = part_of(q, 0, 1, w[FP_OFFSET], size);
+        part.fp_offset += 16;
+        return part;
+    }
+    while (size == 16 && start % 16 != 0)
+        start++;
+    if (w[OVERFLOW_LENGTH] < start + size)
+        return part_of(q, BARKPADDLE_BAD_AREA, 0, 0, 0);
+    part = part_of(q, 0, 2, start, size);
+    part.overflow_offset = start + 8 * wanted;
+    return part;
+}
+
+/* Each scalar from all offsets into the save area and many into the overflow area, which ends before, in or behind the scalar. */
+static void all_offsets(void)
+{
+    uint64_t gp, fp, overflow, length;
+    size_t i;
+
+    for (i = 0; i < COUNT(readable); i++)
+        for (gp = 0; gp <= 48; gp += 8)
+            for (fp = 48; fp <= 176; fp += 16)
+                for (overflow = 0; overflow <= 33; overflow++) {
+                    question q = question_of(gp, fp, overflow, readable[i][0], readable[i][1]);
+
+                    for (length = overflow; length <= overflow + 32; length++) {
+                        q.word[OVERFLOW_LENGTH] = length;
+                        check_read("all offsets", q, worked_out(q));
+                    }
+                }
+}
+
+static int is_readable(uint64_t kind, uint64_t size)
+{
+    size_t i;
+
+    for (i = 0; i < COUNT(readable); i++)
+        if (readable[i][0] == kind && readable[i][1] == size)
+            return 1;
+    return 0;
+}
+
+/* Each size of each kind, and each alignment of each scalar that has its size; for what stands in either area. */
+static void sizes_and_alignments(void)
+{
+    static const uint64_t large[] = {128, 256, 4096, 4097, (UINT64_C(1) << 32) + 4, (UINT64_C(1) << 32) + 16, UINT64_C(1) << 63, UINT64_MAX};
+    uint64_t kind, size, align;
+    size_t i;
+    int full;
+
+    for (full = 0; full < 2; full++)
+        for (kind = 0; kind < 5; kind++) {
+            question q = question_of(full ? 48 : 0, full ? 176 : 48, 0, kind, 0);
+
+            for (i = 0; i < COUNT(large); i++)
+                check_read_refused("a large size", with(with(q, READ_SIZE, large[i]), READ_ALIGN, large[i]), BARKPADDLE_BAD_SIZE);
+            for (size = 0; size <= 66; size++) {
+                q.word[READ_SIZE] = q.word[READ_ALIGN] = size;
+                if (!is_readable(kind, size)) {
+                    check_read_refused("a size", q, BARKPADDLE_BAD_SIZE);
+                    check_read_refused("a size, aligned to 16", with(q, READ_ALIGN, 16), BARKPADDLE_BAD_SIZE);
+                    continue;
+                }
+                check_read("a size", q, worked_out(q));
+                for (align = 0; align <= 4100; align++)
+                    if (align != size)
+                        check_read_refused("an alignment", with(q, READ_ALIGN, align), BARKPADDLE_BAD_ALIGN);
+                for (i = 0; i < COUNT(large); i++)
+                    check_read_refused("a large alignment", with(q, READ_ALIGN, large[i]), BARKPADDLE_BAD_ALIGN);
+            }
+        }
+}
+
+/* Save areas and offsets into them that can't be, for every scalar, from whichever area it comes. */
+static void bad_save_areas(question q)
+{
+    static const uint64_t far_gp[] = {(UINT64_C(1) << 32) + 8, UINT64_C(1) << 63, UINT64_MAX - 7, UINT64_MAX};
+    static const uint64_t far_fp[] = {(UINT64_C(1) << 32) + 48, UINT64_C(1) << 63, UINT64_MAX - 15, UINT64_MAX};
+    uint64_t n;
+
+    for (n = 0; n <= SAVE_BYTES + 1; n++)
+        if (n != SAVE_BYTES)
+            check_read_refused("a save area's length", with(q, SAVE_LENGTH, n), BARKPADDLE_BAD_AREA);
+    check_read_refused("both areas NULL", with(with(q, SAVE_LENGTH, 0), OVERFLOW_LENGTH, 0), BARKPADDLE_BAD_AREA);
+    for (n = 0; n <= 64; n++)
+        if (n % 8 != 0 || n > 48)
+            check_read_refused("an integer offset", with(q, GP_OFFSET, n), BARKPADDLE_BAD_AREA);
+    for (n = 0; n <= 208; n++)
+        if (n % 16 != 0 || n < 48 || n > 176)
+            check_read_refused("a float offset", with(q, FP_OFFSET, n), BARKPADDLE_BAD_AREA);
+    for (n = 0; n < COUNT(far_gp); n++)
+        check_read_refused("an integer offset", with(q, GP_OFFSET, far_gp[n]), BARKPADDLE_BAD_AREA);
+    for (n = 0; n < COUNT(far_fp); n++)
+        check_read_refused("a float offset", with(q, FP_OFFSET, far_fp[n]), BARKPADDLE_BAD_AREA);
+}
+
+/* Overflow offsets at the area's end and behind it, up to the last number: refused where the scalar is there, and otherwise handed on. */
+static void far_overflow_offsets(question q)
+{
+    static const uint64_t lengths[] = {0, 15, 16, OVERFLOW_BYTES};
+    static const uint64_t far_off[] = {0, 1, 15, 16, UINT64_C(1) << 32, UINT64_C(1) << 63, (UINT64_C(1) << 63) - 8};
+    size_t i;
+    size_t k;
+
+    for (i = 0; i < COUNT(lengths); i++) {
+        q.word[OVERFLOW_LENGTH] = lengths[i];
+        for (k = 0; k < COUNT(far_off); k++)
+            check_read_refused("behind the area", with(q, OVERFLOW_OFFSET, lengths[i] + far_off[k]), BARKPADDLE_BAD_AREA);
+        for (k = 0; k < 40; k++)
+            check_read_refused("the last offsets", with(q, OVERFLOW_OFFSET, UINT64_MAX - k), BARKPADDLE_BAD_AREA);
+    }
+}
+
+static void offsets_nobody_looks_at(question q)
+{
+    static const uint64_t offsets[] = {0, 4, OVERFLOW_BYTES, OVERFLOW_BYTES + 1, UINT64_C(1) << 63, UINT64_MAX - 14, UINT64_MAX};
+    size_t i;
+
+    for (i = 0; i < COUNT(offsets); i++) {
+        q.word[OVERFLOW_OFFSET] = offsets[i];
+        check_read("in the save area", q, worked_out(q));
+        check_read("in the save area, no other", with(q, OVERFLOW_LENGTH, 0), worked_out(q));
+    }
+}
+
+static void bad_areas(void)
+{
+    size_t i;
+
+    for (i = 0; i < COUNT(readable); i++) {
+        question whole = question_of(0, 48, 0, readable[i][0], readable[i][1]);
+        question full = question_of(48, 176, 0, readable[i][0], readable[i][1]);
+
+        bad_save_areas(whole);
+        bad_save_areas(full);
+        far_overflow_offsets(full);
+        if (readable[i][0] == BARKPADDLE_KIND_X87_EXTENDED)
+            far_overflow_offsets(whole);
+        else
+            offsets_nobody_looks_at(whole);
+    }
+}
+
+/* One thing that is wrong with a read of an integer of 8 from an overflow area of 16 bytes, and what it is refused for. */
+typedef struct fault {
+    enum read_word word;
+    uint64_t number, refusal;
+} fault;
+
+static const fault faults[] = {
+    {READ_KIND, 5, BARKPADDLE_BAD_KIND},
+    {READ_KIND, UINT64_C(1) << 32, BARKPADDLE_BAD_KIND},
+    {READ_KIND, UINT64_MAX, BARKPADDLE_BAD_KIND},
+    {READ_SIZE, 0, BARKPADDLE_BAD_SIZE},
+    {READ_SIZE, 3, BARKPADDLE_BAD_SIZE},
+    {READ_SIZE, 17, BARKPADDLE_BAD_SIZE},
+    {READ_SIZE, 64, BARKPADDLE_BAD_SIZE},
+    {READ_SIZE, 65, BARKPADDLE_BAD_SIZE},
+    {READ_ALIGN, 0, BARKPADDLE_BAD_ALIGN},
+    {READ_ALIGN, 1, BARKPADDLE_BAD_ALIGN},
+    {READ_ALIGN, 4096, BARKPADDLE_BAD_ALIGN},
+    {READ_ALIGN, 4097, BARKPADDLE_BAD_ALIGN},
+    {SAVE_LENGTH, 0, BARKPADDLE_BAD_AREA},
+    {SAVE_LENGTH, 175, BARKPADDLE_BAD_AREA},
+    {SAVE_LENGTH, 177, BARKPADDLE_BAD_AREA},
+    {GP_OFFSET, 4, BARKPADDLE_BAD_AREA},
+    {GP_OFFSET, 47, BARKPADDLE_BAD_AREA},
+    {GP_OFFSET, 56, BARKPADDLE_BAD_AREA},
+    {GP_OFFSET, (UINT64_C(1) << 32) + 8, BARKPADDLE_BAD_AREA},
+    {GP_OFFSET, UINT64_MAX - 7, BARKPADDLE_BAD_AREA},
+    {FP_OFFSET, 0, BARKPADDLE_BAD_AREA},
+    {FP_OFFSET, 40, BARKPADDLE_BAD_AREA},
+    {FP_OFFSET, 56, BARKPADDLE_BAD_AREA},
+    {FP_OFFSET, 168, BARKPADDLE_BAD_AREA},
+    {FP_OFFSET, 192, BARKPADDLE_BAD_AREA},
+    {OVERFLOW_LENGTH, 0, BARKPADDLE_BAD_AREA},
+    {OVERFLOW_LENGTH, 7, BARKPADDLE_BAD_AREA},
+    {OVERFLOW_OFFSET, 9, BARKPADDLE_BAD_AREA},
+    {OVERFLOW_OFFSET, 16, BARKPADDLE_BAD_AREA},
+    {OVERFLOW_OFFSET, 17, BARKPADDLE_BAD_AREA},
+    {OVERFLOW_OFFSET, UINT64_C(1) << 63, BARKPADDLE_BAD_AREA},
+    {OVERFLOW_OFFSET, UINT64_MAX - 14, BARKPADDLE_BAD_AREA},
+    {OVERFLOW_OFFSET, UINT64_MAX, BARKPADDLE_BAD_AREA}};
+
+/* Each fault by itself, and each two at once: the table has them in the order in which they are looked for. */
+static void faults_of_a_read(void)
+{
+    question good = with(question_of(48, 176, 0, BARKPADDLE_KIND_INTEGER, 8), OVERFLOW_LENGTH, 16);
+    size_t i;
+    size_t k;
+
+    check_read("no fault", good, worked_out(good));
+    for (i = 0; i < COUNT(faults); i++) {
+        question one = with(good, faults[i].word, faults[i].number);
+
+        check_read_refused("a fault", one, faults[i].refusal);
+        for (k = i + 1; k < COUNT(faults); k++)
+            if (faults[k].word != faults[i].word)
+                check_read_refused("two faults", with(one, faults[k].word, faults[k].number), faults[i].refusal);
+    }
+    check_read_refused("an X87 of 12", question_of(0, 48, 0, BARKPADDLE_KIND_X87_EXTENDED, 12), BARKPADDLE_BAD_SIZE);
+    check_read_refused("a Single of 8", question_of(0, 48, 0, BARKPADDLE_KIND_SINGLE, 8), BARKPADDLE_BAD_SIZE);
+}
+
+static void variable_lists(void)
+{
+    fill_areas();
+    lists_in_the_save_area();
+    lists_in_the_overflow_area();
+    all_offsets();
+    sizes_and_alignments();
+    bad_areas();
+    faults_of_a_read();
+}
+
 int main(void)
 {
     check_number("the archive", "version", BARKPADDLE_VERSION, barkpaddle_version());
@@ -1328,6 +1774,7 @@ int main(void)
     descriptions();
     names();
     lookups();
+    variable_lists();
     printf("%lu checks passed, %lu failed\n", passed, failed);
     return failed != 0;
 }

@@ -5,14 +5,16 @@
 -- of the lent buffer afterwards, meet that function's contract as the checker reads it. What is asked beside has its definition here and its exported
 -- entry in Entries.antt (`in-memory-entry` of `in-memory-refused` and `in-memory-as-rust`, and so on); any other function promises the definition
 -- itself. That no second answer meets a promise is in each crate's proofs/Unique.antt. docs/PROMISES.md has each function with its statements.
-use Prim.Native.Nat.{ℕ, _/_, _≤_, _<_}
+use Prim.Native.Nat.{ℕ, _+_, _*_, _/_, _%_, _≤_, _<_}
 use mathlib.Core.Path.{_≡_}
 use mathlib.Core.Bool.{Bool, true, false, _&&_, cond}
-use mathlib.Core.List.{List, [], map}
+use mathlib.Core.List.{List, [], _∷_, _++_, map}
 use mathlib.Core.Option.Option.{none, some}
 use lib.Dec.{eqb}
-use lib.ListN.{length, take, getElem?}
+use lib.ListN.{length, take, drop, getD, getElem?}
+use Rattle.shape.specs.declared.Arg.{Arg}
 use Rattle.shape.specs.declared.Arg.the-variants.{Aggregate}
+use Rattle.shape.specs.declared.Scalar.{Scalar}
 use Rattle.shape.specs.declared.Shape.{Shape}
 use Rattle.shape.specs.Numbers.{accepted, most-size, most-offset, oneIf}
 use Rattle.shape.specs.Words.{pieceSize, piecesOf, scalarsOf, putAt}
@@ -35,8 +37,9 @@ use Rattle.classify.specs.declared.Answer.{Answer}
 use Rattle.classify.specs.Pass.{wayOf}
 use Rattle.classify.specs.Classify as rust
 use Rattle.classify.specs.Answers.{unmarked, callWith, refusalOf, done, freshAnswer, variadicAnswer, inMemoryAnswer}
-use Rattle.ledger.specs.Ledger.{Operation, mark, return, argument, bufferOf, answerFor, writtenFor, history, Ledger}
-use Rattle.ledger.specs.Twelve.{Entry, twelve, callOn, answeredTo, expected}
+use Rattle.ledger.specs.Ledger.{Operation, mark, return, argument, variadic-argument, integers, floats, bufferOf, answerFor, writtenFor, callAfter, history, Ledger}
+use Rattle.ledger.specs.Twelve.{Entry, twelve, callOn, answeredTo}
+use Rattle.ledger.specs.Twelve as table
 use Rattle.ledger.proofs.Ledger.{ledger}
 use Rattle.ledger.proofs.Twelve as calls
 use Rattle.psabi.specs.Domain as psabi
@@ -47,17 +50,27 @@ use Rattle.psabi.proofs.Answers.{Says}
 use Rattle.aapcs64.specs.Domain as aapcs64
 use Rattle.aapcs64.specs.Reading.{mostNatural}
 use Rattle.aapcs64.proofs.Answered as row-1
+use Rattle.varargs.specs.declared.Offsets.{Offsets}
+use Rattle.varargs.specs.Lists.{located, Inside, Shown, readsAs}
+use Rattle.placement.specs.Caller.{Machine, Whole, Value, State, placeAll, saved}
+use Rattle.placement.specs.Back.{Ready, IsValue, AllValues, AllInside, isStacked, stackEnd, offsetsOf, Stays, Keeps, namedState, used, readings, expected, tooShort}
+use Rattle.placement.specs.Examples.{Example, examples, places, stateOf, valuesOf, readsOf}
+use Rattle.placement.proofs.Asked as asking
+use Rattle.placement.proofs.Back as lists
+use Rattle.placement.proofs.Examples as shown
 use Rattle.export_numbers.specs.Numbers.{callFrom, shapeFrom, told}
 use Rattle.export_numbers.proofs.ReadBack as numbers
 use Rattle.export_questions.specs.Answers.{alignTold, countTold, lengthTold, yesTold, formatTold, recordNumbers}
 use Rattle.export_questions.specs.Descriptions.{noDescription, fieldsOf, descriptionAnswer, ruleIn, returnRuleAnswer, argumentRuleAnswer}
-use Rattle.demands.specs.Refusals.{refusalsOf, numberRefusals, inMemoryRefusals, memberRefusals, recordRefusals, nameRefusals, attributeRefusals, questionRefusals, IsRefusal, Refused, RefusedTold, RefusedAs, noRecord, noRule}
+use Rattle.demands.specs.Refusals.{refusalsOf, numberRefusals, inMemoryRefusals, memberRefusals, recordRefusals, nameRefusals, attributeRefusals, questionRefusals, readRefusals, IsRefusal, Refused, RefusedTold, RefusedAs, noRecord, noRule, noBytes}
 use Rattle.demands.specs.Rust.{rustPasses, rulesSpend, Accepts, AsRust, recordAlign, recordSize}
 use Rattle.demands.specs.Standards.{SaysArgument, SaysResult}
 use Rattle.demands.specs.Performed.{Started, Performed, AllPerformed}
+use Rattle.demands.specs.Lists.{AllPlaced, IsRead, AllRead}
 use Rattle.demands.proofs.Refusing as refusing
 use Rattle.demands.proofs.Answering as answering
 use Rattle.demands.proofs.Performed as performing
+use Rattle.demands.proofs.Listing as listing
 
 -- ---- Demand 1: every entry answers every input; a refusal is one of its numbers, all else is 0, and what was handed in or lent is as it was
 
@@ -318,10 +331,92 @@ shape-read-back = numbers.shape-read-back
 
 -- ---- The table of twelve calls (REFERENCE 9.8)
 
-pub twelve-calls : map answeredTo twelve ≡ map expected twelve
+pub twelve-calls : map answeredTo twelve ≡ map table.expected twelve
 twelve-calls = calls.twelve-calls
 
 -- the same of the functions: whichever is asked what an entry of the table asks, on the entry's call, answers and leaves what the entry says
 pub performed-twelve-calls : (n : ℕ) (e : Entry) → getElem? twelve n ≡ some e → (a : Answer) (after : List ℕ) → Performed (callOn e) (e .asked) a after
-    → (a, after) ≡ expected e
+    → (a, after) ≡ table.expected e
 performed-twelve-calls = performing.performed-twelve-calls
+
+-- ---- Reading a variable argument list: the callee's side of description 0 (REFERENCE 15)
+--
+-- The caller is crates/placement/specs/Caller.antt, which has nothing of the reader: a machine, and where each value goes by the classifier's answers.
+-- `expected` (specs/Back.antt beside it) has one entry for each value: nothing refused, its own bytes, and the offsets of the call and the stack offset
+-- that the placing left there. `AllPlaced` and `AllRead` (specs/Lists.antt here) say the same of functions, by their own contracts: each value asked
+-- about, after the dots or as a fixed argument, by whichever function performs that, and each scalar read by `varargs::read`, `find` or the entry.
+
+-- a refused read has one of its numbers, no bytes, and the offsets that were handed in
+pub read-refused : (save overflow : List ℕ) (at : Offsets) (s : Scalar) → IsRefusal (readsAs save overflow at s .refusal)
+    → RefusedAs readRefusals (readsAs save overflow at s .refusal) (noBytes (readsAs save overflow at s .refusal) at) (readsAs save overflow at s)
+read-refused = listing.read-refused
+
+pub performed-read-refused : (save overflow : List ℕ) (at : Offsets) (s : Scalar) (r : Shown) → IsRead save overflow at s r → IsRefusal (r .refusal)
+    → RefusedAs readRefusals (r .refusal) (noBytes (r .refusal) at) r
+performed-read-refused = listing.reads-refused
+
+-- any other has as many bytes as the scalar, and they lie in their area
+pub read-part : (save overflow : List ℕ) (at : Offsets) (s : Scalar) → readsAs save overflow at s .refusal ≡ accepted
+    → (length (readsAs save overflow at s .bytes) ≡ s .size) × Inside (length save) (length overflow) (located (length save) (length overflow) at s)
+read-part save overflow at s e = (listing.read-part save overflow at s e, listing.located-part (length save) (length overflow) at s e .1)
+
+pub performed-read-part : (save overflow : List ℕ) (at : Offsets) (s : Scalar) (r : Shown) → IsRead save overflow at s r → r .refusal ≡ accepted → length (r .bytes) ≡ s .size
+performed-read-part = listing.reads-part
+
+-- 1. What was placed is read: place any list of values, run the prologue, and read the same scalars from the offsets of the starting call. The registers
+-- that the call had spent and the bytes below the stack offset stay as they were (`Keeps`)
+pub what-was-placed-is-read : (st : State) (vs : List Value) → Ready st → AllValues vs → AllInside (length (st .machine .area)) st vs
+    → (readings (saved (placeAll st vs .machine)) (placeAll st vs .machine .area) (offsetsOf st) vs ≡ expected st vs) × Keeps st (placeAll st vs .machine)
+what-was-placed-is-read = lists.what-was-placed-is-read
+
+pub performed-what-was-placed-is-read : (st : State) (vs : List Value) (to : State) (seen : List Shown) → Ready st → AllValues vs → AllInside (length (st .machine .area)) st vs
+    → AllPlaced st vs to → AllRead (saved (to .machine)) (to .machine .area) (offsetsOf st) vs seen → (seen ≡ expected st vs) × Keeps st (to .machine)
+performed-what-was-placed-is-read = listing.placed-is-read
+
+-- the prologue stores integer register k at 8k of the save area, and float register k at 48 + 16k
+pub prologue-stores : (m : Machine) → Whole m
+    → ((k : ℕ) → k < 6 → take 8 (drop (8 * k) (saved m)) ≡ getD (m .integers) k []) × ((k : ℕ) → k < 8 → take 16 (drop (48 + 16 * k) (saved m)) ≡ getD (m .floats) k [])
+prologue-stores m w = (lists.integer-stored m w, lists.float-stored m w)
+
+-- 2. After named parameters, any operations on description 0: the first offsets are 8 times and 48 plus 16 times what these were given and passed over.
+-- No register of theirs and no byte below the stack offset changes (`Stays`)
+pub after-named-parameters : (ops : List Operation) (m : Machine) (stack : ℕ) (vs : List Value) → Whole m → stack % 8 ≡ 0 → AllValues vs
+    → AllInside (length (m .area)) (namedState ops m stack) vs
+    → (offsetsOf (namedState ops m stack) ≡ record { integer = 8 * used integers ops; float = 48 + 16 * used floats ops; overflow = stack })
+    × (readings (saved (placeAll (namedState ops m stack) vs .machine)) (placeAll (namedState ops m stack) vs .machine .area) (offsetsOf (namedState ops m stack)) vs
+    ≡ expected (namedState ops m stack) vs)
+    × Stays (used integers ops) (used floats ops) stack m (placeAll (namedState ops m stack) vs .machine)
+after-named-parameters = lists.after-named
+
+pub performed-after-named-parameters : (first : Answer) → Started 0 first → (ops : List Operation) (past : List Answer) → AllPerformed (first .next) ops past
+    → (m : Machine) (stack : ℕ) (vs : List Value) (to : State) (seen : List Shown) → Whole m → stack % 8 ≡ 0 → AllValues vs → AllInside (length (m .area)) (namedState ops m stack) vs
+    → AllPlaced (record { machine = m; call = callAfter (first .next) past; stack = stack }) vs to
+    → AllRead (saved (to .machine)) (to .machine .area) (record { integer = 8 * used integers ops; float = 48 + 16 * used floats ops; overflow = stack }) vs seen
+    → (seen ≡ expected (namedState ops m stack) vs) × Stays (used integers ops) (used floats ops) stack m (to .machine)
+performed-after-named-parameters = listing.after-named
+
+-- 3. A short area: where so many bytes are lent, and they end before the last byte of v, which stands on the stack behind the values before it, the
+-- reads before it are as in 1, and its own is BAD_AREA with no bytes and the offsets that it was handed (`tooShort`)
+pub a-short-area : (st : State) (before : List Value) (v : Value) (behind : List Value) → Ready st → AllValues before → IsValue v → AllValues behind
+    → (bytes : ℕ) → bytes ≤ length (st .machine .area) → AllInside bytes st before → isStacked (placeAll st before) v ≡ true → bytes < stackEnd (placeAll st before) v
+    → readings (saved (placeAll st (before ++ v ∷ behind) .machine)) (take bytes (placeAll st (before ++ v ∷ behind) .machine .area)) (offsetsOf st) (before ++ v ∷ [])
+    ≡ expected st before ++ tooShort (placeAll st before) ∷ []
+a-short-area = lists.a-short-area
+
+pub performed-a-short-area : (st : State) (before : List Value) (v : Value) (behind : List Value) (to : State) (seen : List Shown)
+    → Ready st → AllValues before → IsValue v → AllValues behind
+    → (bytes : ℕ) → bytes ≤ length (st .machine .area) → AllInside bytes st before → isStacked (placeAll st before) v ≡ true → bytes < stackEnd (placeAll st before) v
+    → AllPlaced st (before ++ v ∷ behind) to → AllRead (saved (to .machine)) (take bytes (to .machine .area)) (offsetsOf st) (before ++ v ∷ []) seen
+    → seen ≡ expected st before ++ tooShort (placeAll st before) ∷ []
+performed-a-short-area = listing.short-area
+
+-- 4. On description 0 a fixed argument is answered as one after the dots
+pub fixed-as-variadic : (c : Call) → c .abi ≡ 0 → (arg : Arg) (words out : List ℕ) → answerFor (argument arg words out) c ≡ answerFor (variadic-argument arg words out) c
+fixed-as-variadic = asking.alike
+
+-- 5. Lists to look at, computed: where each scalar stands, and that it is read as it was placed
+pub examples-found : map (λ (e : Example). places (offsetsOf (stateOf e)) (e .scalars)) examples ≡ map (λ (e : Example). e .found) examples
+examples-found = shown.examples-found
+
+pub examples-read : map readsOf examples ≡ map (λ (e : Example). expected (stateOf e) (valuesOf e)) examples
+examples-read = shown.examples-read

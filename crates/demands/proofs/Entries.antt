@@ -1,7 +1,7 @@
 -- What the page says of what is asked beside the operations on a call, said of the exported entries themselves, by their own contracts: first their
 -- refusals, where they have any, then what they answer as the Rust. The functions of layouts, abis, targets and attributes behind them promise the
 -- page's definitions themselves.
-use Prim.Native.Nat.{ℕ, _/_, _≤_, _<_}
+use Prim.Native.Nat.{ℕ, _+_, _/_, _≤_, _<_}
 use mathlib.Core.Path.{_≡_, ap, _∙_}
 use mathlib.Core.Bool.{true, false, _&&_, cond}
 use mathlib.Core.List.{List, []}
@@ -12,7 +12,7 @@ use lib.ListN.{length}
 use Rattle.shape.specs.declared.Arg.the-variants.{Aggregate}
 use Rattle.shape.specs.declared.Shape.{Shape}
 use Rattle.shape.specs.Numbers.{accepted, most-size, most-offset, oneIf}
-use Rattle.shape.specs.Words.{pieceSize, piecesOf, scalarsOf, putAt}
+use Rattle.shape.specs.Words.{pieceSize, scalar, piecesOf, scalarsOf, putAt}
 use Rattle.checks.specs.Check.{orElse, listRefusal, piecesRefusal}
 use Rattle.layouts.specs.Record.{isFloating, recorded}
 use Rattle.layouts.specs.Members.{membersRefusal, placed, piecesWords}
@@ -51,12 +51,16 @@ use Rattle.export_questions.proofs.barkpaddle_asked.Reads as entry-asked
 use Rattle.export_questions.proofs.barkpaddle_attribute.Reads as entry-attribute
 use Rattle.export_questions.proofs.barkpaddle_callee_pops.Reads as entry-callee-pops
 use Rattle.export_questions.proofs.barkpaddle_version.Reads as entry-version
+use Rattle.export_varargs.specs.declared.Part.{Part}
+use Rattle.export_varargs.specs.Numbers.{offsetsFrom, partNumbers, areaFrom}
+use Rattle.export_varargs.proofs.barkpaddle_read_scalar.Reads as entry-read-scalar
 use Rattle.demands.specs.Contracts.{Answers, AnswersAlone}
 use Rattle.demands.specs.Performed.{handed}
-use Rattle.demands.specs.Refusals.{numberRefusals, inMemoryRefusals, memberRefusals, recordRefusals, nameRefusals, attributeRefusals, questionRefusals, IsRefusal, RefusedTold, RefusedAs, noRecord, noRule}
+use Rattle.demands.specs.Refusals.{numberRefusals, inMemoryRefusals, memberRefusals, recordRefusals, nameRefusals, attributeRefusals, questionRefusals, readRefusals, IsRefusal, RefusedTold, RefusedAs, noRecord, noRule, noPart}
 use Rattle.demands.specs.Rust.{recordAlign, recordSize}
 use Rattle.demands.proofs.Refusing as refusing
 use Rattle.demands.proofs.Answering as answering
+use Rattle.demands.proofs.Listing as listing
 
 -- ---- the alignment in the argument area: the method of a call, and the entry
 
@@ -170,3 +174,16 @@ callee-pops-entry κs convention r s p = p ∙ ap oneIf (answering.callee-pops-a
 
 pub version-entry : (κs : Lfts 0) → AnswersAlone (entry-version.Post κs) tt (λ (r : ℕ). r ≡ headerVersion)
 version-entry κs r s p = p
+
+-- ---- a scalar of a variable argument list: refused, no part and the offsets that were handed in; otherwise a part of its size in one of the areas
+
+pub read-scalar-entry : (κs : Lfts 1) (save overflow : RefT (List ℕ)) (gp fp over kind size align : ℕ)
+    → AnswersAlone (entry-read-scalar.Post κs) (save, (overflow, (gp, (fp, (over, (kind, (size, (align, tt))))))))
+    (λ (r : Part). (IsRefusal (r .refusal) → RefusedAs readRefusals (r .refusal) (noPart (r .refusal) gp fp over) r)
+    × (r .refusal ≡ accepted → (r .length ≡ size) × (r .start + r .length ≤ length (areaFrom (r .area) (now save) (now overflow)))))
+read-scalar-entry κs save overflow gp fp over kind size align r s p =
+    rw p (
+      λ h. let z = listing.located-refused (length (now save)) (length (now overflow)) (offsetsFrom gp fp over) (scalar kind size align) h in
+          record { one-of-them = z .one-of-them; rest-zero = ap partNumbers (z .rest-zero) },
+      λ h. listing.located-numbers (now save) (now overflow) (offsetsFrom gp fp over) (scalar kind size align) h,
+    )

@@ -3,3 +3,4 @@ pub mod Entries
 mod Refusing
 mod Answering
 mod Performed
+mod Listing

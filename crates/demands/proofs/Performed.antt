@@ -135,7 +135,7 @@ module _ (c : Call) (shape : Shape) (words out : List ℕ) (a : Answer) (after :
 
 -- ---- a call, and a history on it
 
-started-defined : (d : ℕ) (a : Answer) → Started d a → a ≡ freshAnswer d
+pub started-defined : (d : ℕ) (a : Answer) → Started d a → a ≡ freshAnswer d
 started-defined d a (by.fresh κs m) = m .1
 started-defined d a (by.barkpaddle-fresh κs m) = m .1
 

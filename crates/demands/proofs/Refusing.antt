@@ -45,12 +45,12 @@ use Rattle.export_questions.specs.Descriptions.{noDescription, fieldsOf, descri
 use Rattle.demands.specs.Refusals.{valueRefusals, markRefusals, refusalsOf, numberRefusals, inMemoryRefusals, memberRefusals, recordRefusals, nameRefusals, attributeRefusals, questionRefusals, IsRefusal, isOneOf, OneOf, Refused, RefusedTold, RefusedAs, noRecord, noRule}
 
 -- nothing, or one of them
-abbrev Within : List ℕ → ℕ → Type 0
+abbrev pub Within : List ℕ → ℕ → Type 0
 Within numbers zero = Unit {0}
 Within numbers (suc n) = OneOf numbers (suc n)
 
 module _ (numbers : List ℕ) where
-  refuse-within : (b : Bool) (n rest : ℕ) → Within numbers n → Within numbers rest → Within numbers (refuse b n rest)
+  pub refuse-within : (b : Bool) (n rest : ℕ) → Within numbers n → Within numbers rest → Within numbers (refuse b n rest)
   refuse-within true n rest h k = h
   refuse-within false n rest h k = k
 

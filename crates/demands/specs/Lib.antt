@@ -3,3 +3,4 @@ pub mod Rust
 pub mod Standards
 pub mod Performed
 pub mod Contracts
+pub mod Lists

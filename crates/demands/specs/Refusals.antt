@@ -5,7 +5,7 @@ use mathlib.Core.Path.{_≡_}
 use mathlib.Core.Bool.{Bool, true, false, _||_}
 use mathlib.Core.List.{List, [], _∷_}
 use lib.Dec.{eqb}
-use Rattle.shape.specs.Numbers.{accepted, bad-abi, bad-call, bad-list, bad-kind, bad-size, bad-align, no-room}
+use Rattle.shape.specs.Numbers.{accepted, bad-abi, bad-call, bad-list, bad-kind, bad-size, bad-align, no-room, bad-area}
 use Rattle.spend.specs.Ways.{nothing}
 use Rattle.classify.specs.declared.Call.{Call}
 use Rattle.classify.specs.declared.Outcome.{Outcome}
@@ -15,6 +15,9 @@ use Rattle.export_numbers.specs.declared.Told.{Told}
 use Rattle.export_questions.specs.declared.members.RecordNumbers.{RecordNumbers}
 use Rattle.export_questions.specs.declared.descriptions.RuleNumbers.{RuleNumbers}
 use Rattle.export_questions.specs.Descriptions.{ruleMade}
+use Rattle.varargs.specs.declared.Offsets.{Offsets}
+use Rattle.varargs.specs.Lists.{Shown}
+use Rattle.export_varargs.specs.declared.Part.{Part}
 
 -- ---- the numbers: one more is a word in the lists of the entries that can answer it, and of the proofs only the law of its check changes
 
@@ -52,6 +55,10 @@ attributeRefusals = no-room ∷ []
 
 abbrev pub questionRefusals : List ℕ
 questionRefusals = bad-abi ∷ bad-size ∷ []
+
+-- a scalar of a variable argument list
+abbrev pub readRefusals : List ℕ
+readRefusals = bad-kind ∷ bad-size ∷ bad-align ∷ bad-area ∷ []
 
 -- ---- a refusal
 
@@ -92,3 +99,10 @@ noRecord refusal = record { refusal = refusal; size = 0; align = 0; complex = 0;
 
 abbrev pub noRule : RuleNumbers
 noRule = ruleMade bad-abi 0 0 0 0
+
+-- of a read: no bytes, and the offsets that were handed in
+abbrev pub noBytes : ℕ → Offsets → Shown
+noBytes refusal at = record { refusal = refusal; bytes = []; next = at }
+
+abbrev pub noPart : ℕ → ℕ → ℕ → ℕ → Part
+noPart refusal gp fp overflow = record { refusal = refusal; area = 0; start = 0; length = 0; «gp_offset» = gp; «fp_offset» = fp; «overflow_offset» = overflow }

@@ -53,6 +53,9 @@ bad-align = 6
 abbrev pub no-room : ℕ
 no-room = 7
 
+abbrev pub bad-area : ℕ
+bad-area = 8
+
 -- the largest size of a scalar or a piece
 abbrev pub most-size : ℕ
 most-size = 64

@@ -43,6 +43,8 @@ pub const BAD_ALIGN: u64 = 6;
 
 pub const NO_ROOM: u64 = 7;
 
+pub const BAD_AREA: u64 = 8;
+
 // The largest number of 64 bits.
 const MOST_WORD: u64 = 18446744073709551615;
 

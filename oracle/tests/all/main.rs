@@ -7,5 +7,6 @@ mod every_count;
 mod find;
 mod generate;
 mod layouts;
+mod lists;
 mod shapes;
 mod sheet;

@@ -1,0 +1,5 @@
+pub mod Stored
+pub mod Asked
+pub mod Steps
+pub mod Back
+pub mod Examples

@@ -1,0 +1,140 @@
+-- The caller's side of a variable argument list on description 0 (REFERENCE 15.4): where a caller that asks the classifier puts each value, and
+-- what the prologue of the function that is called stores. Nothing here is the reader's: that it finds what was put there is a theorem.
+use Prim.Native.Nat.{ℕ, zero, suc, _+_, max}
+use mathlib.Core.Path.{_≡_}
+use mathlib.Core.Bool.{cond}
+use mathlib.Core.List.{List, [], _∷_, _++_}
+use lib.Dec.{ltb}
+use lib.ListN.{length, take, drop, set, getD}
+use Rattle.shape.specs.declared.Arg.the-variants.{Scalar}
+use Rattle.shape.specs.declared.Scalar as scalars
+use Rattle.shape.specs.Words.{putAt}
+use Rattle.layouts.specs.Record.{roundUp}
+use Rattle.abis.specs.Abis.{described}
+use Rattle.classify.specs.declared.Call.{Call}
+use Rattle.classify.specs.declared.Answer.{Answer}
+use Rattle.classify.specs.Answers.{variadicArgumentAnswer}
+use Rattle.ledger.specs.Ledger.{Bank, integers, floats, runOf, given}
+
+-- ---- the machine
+
+-- the bytes that a register holds
+abbrev pub Register : Type 0
+Register = List ℕ
+
+-- the registers of arguments, and the argument area, bytes from an address on that is a multiple of 16
+pub record Machine : Type 0 where
+  pub integers : List Register
+  pub floats : List Register
+  pub area : List ℕ
+
+-- so many registers of so many bytes
+pub data Registers (bytes : ℕ) : ℕ → List Register → Type 0 where
+  no-more : Registers bytes zero []
+  and-then : {count : ℕ} {register : Register} {registers : List Register} → length register ≡ bytes → Registers bytes count registers
+      → Registers bytes (suc count) (register ∷ registers)
+
+-- six integer registers of 8 bytes and eight float registers of 16, whatever they hold
+pub record Whole (m : Machine) : Type 0 where
+  pub six : Registers 8 6 (m .integers)
+  pub eight : Registers 16 8 (m .floats)
+
+-- ---- what is placed
+
+-- a scalar and its bytes
+pub record Value : Type 0 where
+  pub scalar : scalars.Scalar
+  pub bytes : List ℕ
+
+-- between two values: the machine, the call, and where the stack goes on
+pub record State : Type 0 where
+  pub machine : Machine
+  pub call : Call
+  pub stack : ℕ
+
+-- ---- registers
+
+-- bytes go to the front of a register, and the bytes behind them stay
+unfoldable pub toFront : List Register → ℕ → List ℕ → List Register
+toFront registers r bytes = set registers r (putAt (getD registers r []) 0 bytes)
+
+-- bytes 8k to 8k + 7 of a value go to the front of the k-th of so many registers, from r on
+unfoldable pub spread : ℕ → ℕ → List ℕ → List Register → List Register
+spread zero r bytes registers = registers
+spread (suc n) r bytes registers = spread n (suc r) (drop 8 bytes) (toFront registers r (take 8 bytes))
+
+-- the first register that an answer gave: those of its run that are passed over come before it (REFERENCE 10)
+abbrev pub firstGiven : Bank → Call → Answer → ℕ
+firstGiven b c a = runOf b (described 0 .banks) c a .first + runOf b (described 0 .banks) c a .passes
+
+-- ---- the stack: the psABI's rule for what has no register
+
+-- the offset is rounded up to the larger of 8 and the alignment
+abbrev pub stackStart : ℕ → scalars.Scalar → ℕ
+stackStart offset s = roundUp offset (max 8 (s .align))
+
+-- and moves on by the size, rounded up to 8
+abbrev pub stackNext : ℕ → scalars.Scalar → ℕ
+stackNext offset s = stackStart offset s + roundUp (s .size) 8
+
+-- ---- a value is placed, by the answer that the classifier gave
+
+abbrev pub inIntegers : Answer → State → Value → State
+inIntegers a st v =
+    record {
+      machine = record {
+        integers = spread (given integers a) (firstGiven integers (st .call) a) (v .bytes) (st .machine .integers);
+        floats = st .machine .floats;
+        area = st .machine .area;
+      };
+      call = a .next;
+      stack = st .stack;
+    }
+
+abbrev pub inFloats : Answer → State → Value → State
+inFloats a st v =
+    record {
+      machine = record {
+        integers = st .machine .integers;
+        floats = toFront (st .machine .floats) (firstGiven floats (st .call) a) (v .bytes);
+        area = st .machine .area;
+      };
+      call = a .next;
+      stack = st .stack;
+    }
+
+abbrev pub onStack : Answer → State → Value → State
+onStack a st v =
+    record {
+      machine = record {
+        integers = st .machine .integers;
+        floats = st .machine .floats;
+        area = putAt (st .machine .area) (stackStart (st .stack) (v .scalar)) (v .bytes);
+      };
+      call = a .next;
+      stack = stackNext (st .stack) (v .scalar);
+    }
+
+-- in the integer registers that it was given, in the float register, or, given nothing in either bank, on the stack
+unfoldable pub placedBy : Answer → State → Value → State
+placedBy a st v = cond (ltb 0 (given integers a)) (inIntegers a st v) (cond (ltb 0 (given floats a)) (inFloats a st v) (onStack a st v))
+
+-- what the classifier answers about an argument after the dots
+abbrev pub asked : Call → scalars.Scalar → Answer
+asked c s = variadicArgumentAnswer c (Scalar s) [] []
+
+abbrev pub place : State → Value → State
+place st v = placedBy (asked (st .call) (v .scalar)) st v
+
+unfoldable pub placeAll : State → List Value → State
+placeAll st [] = st
+placeAll st (v ∷ vs) = placeAll (place st v) vs
+
+-- ---- the prologue: one register behind the other, so integer register k at 8k of the save area, and float register k at 48 + 16k
+
+unfoldable pub stored : List Register → List ℕ
+stored [] = []
+stored (register ∷ registers) = register ++ stored registers
+
+abbrev pub saved : Machine → List ℕ
+saved m = stored (m .integers) ++ stored (m .floats)

@@ -1,0 +1,4 @@
+pub mod Scalars
+pub mod Lists
+pub mod Promised
+mod Unique
