@@ -17,9 +17,15 @@ typedef struct {
     outcome outcome;
 } answer;
 
+typedef struct {
+    u64 refusal, area, start, length, integer, float_, overflow;
+} part;
+
 enum { DIRECT = 1, MEMORY = 4 };
 
-enum { BAD_ABI = 1, BAD_CALL, BAD_LIST, BAD_KIND, BAD_SIZE, BAD_ALIGN, NO_ROOM };
+enum { SAVE = 1 };
+
+enum { BAD_ABI = 1, BAD_CALL, BAD_LIST, BAD_KIND, BAD_SIZE, BAD_ALIGN, NO_ROOM, BAD_AREA };
 
 /* the registers that each of the thirty starts with, and the one that takes the mark */
 static const uint8_t integers[30] = {6, 8, 8, 8, 4, 8, 0, 1, 2, 3, 0, 1, 2, 3, 0, 1, 2, 3, 0, 1, 2, 3, 2, 2, 0, 0, 0, 2, 0, 2};
@@ -61,4 +67,16 @@ answer barkpaddle_argument_aggregate(u64 abi, u64 integer, u64 float_, u64 mark,
     }
     REFUSE_IF(length < 6, NO_ROOM) /* two slots */
     return (answer){{abi, integer, float_, mark}, {.way = MEMORY}};
+}
+
+#define NO_PART_IF(test, number)                                                                                                               \
+    if (test)                                                                                                                                  \
+        return (part){number, 0, 0, 0, integer, float_, overflow};
+
+part barkpaddle_read_scalar(const uint8_t *save, u64 save_length, const uint8_t *area, u64 length, u64 integer, u64 float_, u64 overflow, u64 kind, u64 size, u64 align) {
+    NO_PART_IF(kind > 4, BAD_KIND)
+    NO_PART_IF(size > 16, BAD_SIZE)
+    NO_PART_IF(align != size, BAD_ALIGN)
+    NO_PART_IF(save_length != 176 || integer > 48 || integer % 8 || float_ < 48 || float_ > 176 || float_ % 16 || length < overflow + size, BAD_AREA)
+    return (part){0, SAVE, integer, size, integer + 8, float_, overflow};
 }

@@ -16,7 +16,7 @@ use std::process::exit;
 use std::time::Instant;
 
 use original::Row;
-use sides::{Asked, ROOM, Refused, Side};
+use sides::{Asked, ROOM, Read, Refused, Side};
 use values::ROWS;
 
 /// A place for a counter to cut.
@@ -29,6 +29,7 @@ extern "C" fn bench_mark() {
 enum Cell<'a> {
     Argument(&'static Row, u64, &'a Asked),
     Refused(&'a Refused),
+    Read(&'a Read),
 }
 
 impl Cell<'_> {
@@ -36,6 +37,7 @@ impl Cell<'_> {
         match self {
             Self::Argument(_, row, asked) => format!("{row}\t{}", asked.value.name),
             Self::Refused(refused) => format!("refused\t{}", refused.name),
+            Self::Read(read) => format!("read\t{}", read.name),
         }
     }
 
@@ -54,6 +56,11 @@ impl Cell<'_> {
                     sum = sum.wrapping_add(black_box(black_box(*refused).turn(slots)));
                 }
             }
+            Self::Read(read) => {
+                for _ in 0..turns {
+                    sum = sum.wrapping_add(black_box(black_box(*read).turn()));
+                }
+            }
         }
         sum
     }
@@ -64,12 +71,14 @@ fn main() {
     let words: Vec<&str> = arguments.iter().map(String::as_str).collect();
     let asked = sides::asked();
     let refused = sides::refused();
+    let reads = sides::reads();
     let mut cells: Vec<Cell<'_>> = Vec::new();
     for number in ROWS {
         let row = original::row(number);
         cells.extend(asked.iter().map(|asked| Cell::Argument(row, number, asked)));
     }
     cells.extend(refused.iter().map(Cell::Refused));
+    cells.extend(reads.iter().map(Cell::Read));
     match *words {
         ["cells"] => cells.iter().for_each(|cell| println!("{}", cell.name())),
         ["same"] => same(&cells),

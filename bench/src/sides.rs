@@ -1,5 +1,6 @@
 //! The sides: each starts a call and asks for one argument, and answers a sum of all that was said,
-//! so that nothing is left out and both can be held against each other.
+//! so that nothing is left out and both can be held against each other. And what the library alone
+//! has: refused operations, and reads of variable argument lists.
 
 use crate::original::{self, Given, Row};
 use crate::values::{self, Numbers, Value};
@@ -37,11 +38,23 @@ struct Answer {
     outcome: Outcome,
 }
 
+#[repr(C)]
+struct Part {
+    refusal: u64,
+    area: u64,
+    start: u64,
+    length: u64,
+    gp_offset: u64,
+    fp_offset: u64,
+    overflow_offset: u64,
+}
+
 #[rustfmt::skip]
 unsafe extern "C" {
     safe fn barkpaddle_fresh(abi: u64) -> Answer;
     fn barkpaddle_argument_scalar(abi: u64, integer: u64, float: u64, integers_only: u64, kind: u64, size: u64, align: u64, slots: *mut u64, slots_length: u64) -> Answer;
     fn barkpaddle_argument_aggregate(abi: u64, integer: u64, float: u64, integers_only: u64, size: u64, align: u64, complex: u64, floating: u64, words: *const u64, words_length: u64, slots: *mut u64, slots_length: u64) -> Answer;
+    fn barkpaddle_read_scalar(save: *const u8, save_length: u64, overflow: *const u8, overflow_length: u64, gp_offset: u64, fp_offset: u64, overflow_offset: u64, kind: u64, size: u64, align: u64) -> Part;
 }
 
 /// A value as each side takes it.
@@ -126,7 +139,7 @@ impl Refused {
     }
 }
 
-/// One refused operation for each number but BAD_ABI's fresh call.
+/// One refused operation for each number that an argument can be refused with.
 pub fn refused() -> Vec<Refused> {
     const CALL: Call = Call { abi: 0, integer: 6, float: 8, integers_only: 0 };
     const NO_ABI: Call = Call { abi: 30, integer: 0, float: 0, integers_only: 0 };
@@ -147,5 +160,58 @@ pub fn refused() -> Vec<Refused> {
         make("BAD_SIZE of the second piece", 5, CALL, two(|words| words[5] = 65), ROOM),
         make("BAD_ALIGN of the second piece", 6, CALL, two(|words| words[6] = 4_097), ROOM),
         make("NO_ROOM for two slots", 7, CALL, two(|_| ()), 2 * SLOT_WORDS - 1),
+    ]
+}
+
+/// A read from a variable argument list: of a scalar of this kind and size, from these offsets on.
+pub struct Read {
+    pub name: &'static str,
+    pub refusal: u64,
+    pub offsets: [u64; 3],
+    pub kind: u64,
+    pub size: u64,
+}
+
+impl Read {
+    #[inline(never)]
+    pub fn turn(&self) -> u64 {
+        static SAVE: [u8; 176] = [0; 176];
+        static OVERFLOW: [u8; 64] = [0; 64];
+        let [gp_offset, fp_offset, overflow_offset] = self.offsets;
+        let (kind, size, align) = (self.kind, self.size, self.size);
+        let [save, overflow] = [SAVE.len() as u64, OVERFLOW.len() as u64];
+        // SAFETY: the areas are the two arrays.
+        let part = unsafe {
+            barkpaddle_read_scalar(
+                SAVE.as_ptr(),
+                save,
+                OVERFLOW.as_ptr(),
+                overflow,
+                gp_offset,
+                fp_offset,
+                overflow_offset,
+                kind,
+                size,
+                align,
+            )
+        };
+        assert!(part.refusal == self.refusal, "{} is {}", self.name, part.refusal);
+        let next = part.gp_offset + part.fp_offset + part.overflow_offset;
+        part.area + part.start + part.length + next
+    }
+}
+
+/// A read from each place that a scalar can be in, and those that are refused last and first.
+pub fn reads() -> Vec<Read> {
+    let make = |name, refusal, offsets, kind, size| Read { name, refusal, offsets, kind, size };
+    vec![
+        make("Int8 in the save area", 0, [0, 48, 0], 0, 8),
+        make("Int16 in the save area", 0, [0, 48, 0], 0, 16),
+        make("Double in the save area", 0, [0, 48, 0], 2, 8),
+        make("Int16 in the overflow area", 0, [40, 48, 0], 0, 16),
+        make("Quad in the overflow area", 0, [48, 176, 8], 4, 16),
+        make("X87", 0, [0, 48, 0], 3, 16),
+        make("BAD_KIND", 4, [0, 48, 0], 5, 8),
+        make("BAD_AREA, too short", 8, [0, 48, 60], 3, 16),
     ]
 }

@@ -38,8 +38,7 @@ use Rattle.classify.specs.Pass.{wayOf}
 use Rattle.classify.specs.Classify as rust
 use Rattle.classify.specs.Answers.{unmarked, callWith, refusalOf, done, freshAnswer, variadicAnswer, inMemoryAnswer}
 use Rattle.ledger.specs.Ledger.{Operation, mark, return, argument, variadic-argument, integers, floats, bufferOf, answerFor, writtenFor, callAfter, history, Ledger}
-use Rattle.ledger.specs.Twelve.{Entry, twelve, callOn, answeredTo}
-use Rattle.ledger.specs.Twelve as table
+use Rattle.ledger.specs.Twelve.{Entry, twelve, callOn, answeredTo, expected}
 use Rattle.ledger.proofs.Ledger.{ledger}
 use Rattle.ledger.proofs.Twelve as calls
 use Rattle.psabi.specs.Domain as psabi
@@ -53,7 +52,7 @@ use Rattle.aapcs64.proofs.Answered as row-1
 use Rattle.varargs.specs.declared.Offsets.{Offsets}
 use Rattle.varargs.specs.Lists.{located, Inside, Shown, readsAs}
 use Rattle.placement.specs.Caller.{Machine, Whole, Value, State, placeAll, saved}
-use Rattle.placement.specs.Back.{Ready, IsValue, AllValues, AllInside, isStacked, stackEnd, offsetsOf, Stays, Keeps, namedState, used, readings, expected, tooShort}
+use Rattle.placement.specs.Back.{Ready, IsValue, AllValues, AllInside, isStacked, stackEnd, offsetsOf, Stays, Keeps, namedState, used, readings, asPlaced, tooShort}
 use Rattle.placement.specs.Examples.{Example, examples, places, stateOf, valuesOf, readsOf}
 use Rattle.placement.proofs.Asked as asking
 use Rattle.placement.proofs.Back as lists
@@ -331,18 +330,18 @@ shape-read-back = numbers.shape-read-back
 
 -- ---- The table of twelve calls (REFERENCE 9.8)
 
-pub twelve-calls : map answeredTo twelve ≡ map table.expected twelve
+pub twelve-calls : map answeredTo twelve ≡ map expected twelve
 twelve-calls = calls.twelve-calls
 
 -- the same of the functions: whichever is asked what an entry of the table asks, on the entry's call, answers and leaves what the entry says
 pub performed-twelve-calls : (n : ℕ) (e : Entry) → getElem? twelve n ≡ some e → (a : Answer) (after : List ℕ) → Performed (callOn e) (e .asked) a after
-    → (a, after) ≡ table.expected e
+    → (a, after) ≡ expected e
 performed-twelve-calls = performing.performed-twelve-calls
 
 -- ---- Reading a variable argument list: the callee's side of description 0 (REFERENCE 15)
 --
 -- The caller is crates/placement/specs/Caller.antt, which has nothing of the reader: a machine, and where each value goes by the classifier's answers.
--- `expected` (specs/Back.antt beside it) has one entry for each value: nothing refused, its own bytes, and the offsets of the call and the stack offset
+-- `asPlaced` (specs/Back.antt beside it) has one entry for each value: nothing refused, its own bytes, and the offsets of the call and the stack offset
 -- that the placing left there. `AllPlaced` and `AllRead` (specs/Lists.antt here) say the same of functions, by their own contracts: each value asked
 -- about, after the dots or as a fixed argument, by whichever function performs that, and each scalar read by `varargs::read`, `find` or the entry.
 
@@ -366,11 +365,11 @@ performed-read-part = listing.reads-part
 -- 1. What was placed is read: place any list of values, run the prologue, and read the same scalars from the offsets of the starting call. The registers
 -- that the call had spent and the bytes below the stack offset stay as they were (`Keeps`)
 pub what-was-placed-is-read : (st : State) (vs : List Value) → Ready st → AllValues vs → AllInside (length (st .machine .area)) st vs
-    → (readings (saved (placeAll st vs .machine)) (placeAll st vs .machine .area) (offsetsOf st) vs ≡ expected st vs) × Keeps st (placeAll st vs .machine)
+    → (readings (saved (placeAll st vs .machine)) (placeAll st vs .machine .area) (offsetsOf st) vs ≡ asPlaced st vs) × Keeps st (placeAll st vs .machine)
 what-was-placed-is-read = lists.what-was-placed-is-read
 
 pub performed-what-was-placed-is-read : (st : State) (vs : List Value) (to : State) (seen : List Shown) → Ready st → AllValues vs → AllInside (length (st .machine .area)) st vs
-    → AllPlaced st vs to → AllRead (saved (to .machine)) (to .machine .area) (offsetsOf st) vs seen → (seen ≡ expected st vs) × Keeps st (to .machine)
+    → AllPlaced st vs to → AllRead (saved (to .machine)) (to .machine .area) (offsetsOf st) vs seen → (seen ≡ asPlaced st vs) × Keeps st (to .machine)
 performed-what-was-placed-is-read = listing.placed-is-read
 
 -- the prologue stores integer register k at 8k of the save area, and float register k at 48 + 16k
@@ -384,7 +383,7 @@ pub after-named-parameters : (ops : List Operation) (m : Machine) (stack : ℕ) 
     → AllInside (length (m .area)) (namedState ops m stack) vs
     → (offsetsOf (namedState ops m stack) ≡ record { integer = 8 * used integers ops; float = 48 + 16 * used floats ops; overflow = stack })
     × (readings (saved (placeAll (namedState ops m stack) vs .machine)) (placeAll (namedState ops m stack) vs .machine .area) (offsetsOf (namedState ops m stack)) vs
-    ≡ expected (namedState ops m stack) vs)
+    ≡ asPlaced (namedState ops m stack) vs)
     × Stays (used integers ops) (used floats ops) stack m (placeAll (namedState ops m stack) vs .machine)
 after-named-parameters = lists.after-named
 
@@ -392,7 +391,7 @@ pub performed-after-named-parameters : (first : Answer) → Started 0 first → 
     → (m : Machine) (stack : ℕ) (vs : List Value) (to : State) (seen : List Shown) → Whole m → stack % 8 ≡ 0 → AllValues vs → AllInside (length (m .area)) (namedState ops m stack) vs
     → AllPlaced (record { machine = m; call = callAfter (first .next) past; stack = stack }) vs to
     → AllRead (saved (to .machine)) (to .machine .area) (record { integer = 8 * used integers ops; float = 48 + 16 * used floats ops; overflow = stack }) vs seen
-    → (seen ≡ expected (namedState ops m stack) vs) × Stays (used integers ops) (used floats ops) stack m (to .machine)
+    → (seen ≡ asPlaced (namedState ops m stack) vs) × Stays (used integers ops) (used floats ops) stack m (to .machine)
 performed-after-named-parameters = listing.after-named
 
 -- 3. A short area: where so many bytes are lent, and they end before the last byte of v, which stands on the stack behind the values before it, the
@@ -400,14 +399,14 @@ performed-after-named-parameters = listing.after-named
 pub a-short-area : (st : State) (before : List Value) (v : Value) (behind : List Value) → Ready st → AllValues before → IsValue v → AllValues behind
     → (bytes : ℕ) → bytes ≤ length (st .machine .area) → AllInside bytes st before → isStacked (placeAll st before) v ≡ true → bytes < stackEnd (placeAll st before) v
     → readings (saved (placeAll st (before ++ v ∷ behind) .machine)) (take bytes (placeAll st (before ++ v ∷ behind) .machine .area)) (offsetsOf st) (before ++ v ∷ [])
-    ≡ expected st before ++ tooShort (placeAll st before) ∷ []
+    ≡ asPlaced st before ++ tooShort (placeAll st before) ∷ []
 a-short-area = lists.a-short-area
 
 pub performed-a-short-area : (st : State) (before : List Value) (v : Value) (behind : List Value) (to : State) (seen : List Shown)
     → Ready st → AllValues before → IsValue v → AllValues behind
     → (bytes : ℕ) → bytes ≤ length (st .machine .area) → AllInside bytes st before → isStacked (placeAll st before) v ≡ true → bytes < stackEnd (placeAll st before) v
     → AllPlaced st (before ++ v ∷ behind) to → AllRead (saved (to .machine)) (take bytes (to .machine .area)) (offsetsOf st) (before ++ v ∷ []) seen
-    → seen ≡ expected st before ++ tooShort (placeAll st before) ∷ []
+    → seen ≡ asPlaced st before ++ tooShort (placeAll st before) ∷ []
 performed-a-short-area = listing.short-area
 
 -- 4. On description 0 a fixed argument is answered as one after the dots
@@ -418,5 +417,5 @@ fixed-as-variadic = asking.alike
 pub examples-found : map (λ (e : Example). places (offsetsOf (stateOf e)) (e .scalars)) examples ≡ map (λ (e : Example). e .found) examples
 examples-found = shown.examples-found
 
-pub examples-read : map readsOf examples ≡ map (λ (e : Example). expected (stateOf e) (valuesOf e)) examples
+pub examples-read : map readsOf examples ≡ map (λ (e : Example). asPlaced (stateOf e) (valuesOf e)) examples
 examples-read = shown.examples-read

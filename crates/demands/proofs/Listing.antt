@@ -14,12 +14,12 @@ use Rattle.ledger.specs.Ledger.{Operation, integers, floats, history, callAfter
 use Rattle.varargs.specs.declared.Offsets.{Offsets}
 use Rattle.varargs.specs.declared.Located.{Located}
 use Rattle.varargs.specs.Lists as lists
-use Rattle.varargs.specs.Lists.{isOwnSize, refused, located, Inside, partOf, Shown, shownAt, readsAs}
+use Rattle.varargs.specs.Lists.{isOwnSize, locatedNowhere, located, Inside, partOf, Shown, shownAt, readsAs}
 use Rattle.varargs.proofs.Lists.{located-so, located-inside, area-bytes, part-length}
 use Rattle.varargs.proofs.Scalars.{listed}
 use Rattle.placement.specs.Caller.{Machine, Whole, Value, State, saved, placedBy, place, placeAll}
 use Rattle.placement.specs.Back as back
-use Rattle.placement.specs.Back.{Ready, IsValue, AllValues, AllInside, isStacked, stackEnd, offsetsOf, Stays, Keeps, namedState, used, readings, expected, tooShort}
+use Rattle.placement.specs.Back.{Ready, IsValue, AllValues, AllInside, isStacked, stackEnd, offsetsOf, Stays, Keeps, namedState, used, readings, asPlaced, tooShort}
 use Rattle.placement.proofs.Asked.{asked-so, alike}
 use Rattle.placement.proofs.Steps.{step}
 use Rattle.placement.proofs.Back as theorems
@@ -46,8 +46,8 @@ all-read-so save overflow _ _ _ (by.next at v vs r rest is more) = rw (all-read-
 
 -- ---- a refused one, and one that isn't
 
-list-within : (s : Scalar) → Within readRefusals (lists.scalarRefusal s)
-unfolding lists.scalarRefusal isOneOf
+list-within : (s : Scalar) → Within readRefusals (lists.unnamedRefusal s)
+unfolding lists.unnamedRefusal isOneOf
 list-within s =
     refuse-within readRefusals (ltb quad (s .kind)) bad-kind _ refl
     (refuse-within readRefusals (ltb most-size (s .size) || not (isOwnSize (s .kind) (s .size))) bad-size _ refl
@@ -58,14 +58,14 @@ one-of zero w h = absurd (h refl)
 one-of (suc n) w h = w
 
 pub located-refused : (save overflow : ℕ) (at : Offsets) (s : Scalar) → IsRefusal (located save overflow at s .refusal)
-    → RefusedAs readRefusals (located save overflow at s .refusal) (refused (located save overflow at s .refusal) at) (located save overflow at s)
+    → RefusedAs readRefusals (located save overflow at s .refusal) (locatedNowhere (located save overflow at s .refusal) at) (located save overflow at s)
 unfolding isOneOf
 located-refused save overflow at s =
-    located-so (λ (l : Located). IsRefusal (l .refusal) → RefusedAs readRefusals (l .refusal) (refused (l .refusal) at) l) s at
+    located-so (λ (l : Located). IsRefusal (l .refusal) → RefusedAs readRefusals (l .refusal) (locatedNowhere (l .refusal) at) l) s at
     (λ h. record { one-of-them = refl; rest-zero = refl }) (λ l e z h. absurd (h e)) save overflow
     (λ wrong h. record { one-of-them = one-of _ (list-within s) wrong; rest-zero = refl })
 
-no-part : (save overflow : List ℕ) (n : ℕ) (at : Offsets) → partOf save overflow (refused n at) ≡ []
+no-part : (save overflow : List ℕ) (n : ℕ) (at : Offsets) → partOf save overflow (locatedNowhere n at) ≡ []
 unfolding partOf
 no-part save overflow n at = refl
 
@@ -134,7 +134,7 @@ placed-so _ _ _ ready (back.and-then is are) (by.next st to v vs op a after asks
 -- ---- the theorems, of the functions
 
 pub placed-is-read : (st : State) (vs : List Value) (to : State) (seen : List Shown) → Ready st → AllValues vs → AllInside (length (st .machine .area)) st vs
-    → AllPlaced st vs to → AllRead (saved (to .machine)) (to .machine .area) (offsetsOf st) vs seen → (seen ≡ expected st vs) × Keeps st (to .machine)
+    → AllPlaced st vs to → AllRead (saved (to .machine)) (to .machine .area) (offsetsOf st) vs seen → (seen ≡ asPlaced st vs) × Keeps st (to .machine)
 placed-is-read st vs to seen ready are inside p r =
     let both = theorems.what-was-placed-is-read st vs ready are inside in
     let there : to ≡ placeAll st vs = placed-so st vs to ready are p in
@@ -144,7 +144,7 @@ placed-is-read st vs to seen ready are inside p r =
 pub short-area : (st : State) (before : List Value) (v : Value) (behind : List Value) (to : State) (seen : List Shown) → Ready st → AllValues before → IsValue v → AllValues behind
     → (bytes : ℕ) → bytes ≤ length (st .machine .area) → AllInside bytes st before → isStacked (placeAll st before) v ≡ true → bytes < stackEnd (placeAll st before) v
     → AllPlaced st (before ++ v ∷ behind) to → AllRead (saved (to .machine)) (take bytes (to .machine .area)) (offsetsOf st) (before ++ v ∷ []) seen
-    → seen ≡ expected st before ++ tooShort (placeAll st before) ∷ []
+    → seen ≡ asPlaced st before ++ tooShort (placeAll st before) ∷ []
 short-area st before v behind to seen ready are is more bytes lent inside stacked early p r =
     let there : to ≡ placeAll st (before ++ v ∷ behind) = placed-so st (before ++ v ∷ behind) to ready (theorems.all-values before (v ∷ behind) are (back.and-then is more)) p in
     all-read-so _ _ _ (before ++ v ∷ []) seen r ∙ ap (λ (x : State). readings (saved (x .machine)) (take bytes (x .machine .area)) (offsetsOf st) (before ++ v ∷ [])) there
@@ -161,7 +161,7 @@ pub after-named : (first : Answer) → Started 0 first → (ops : List Operation
     → (m : Machine) (stack : ℕ) (vs : List Value) (to : State) (seen : List Shown) → Whole m → stack % 8 ≡ 0 → AllValues vs → AllInside (length (m .area)) (namedState ops m stack) vs
     → AllPlaced (record { machine = m; call = callAfter (first .next) past; stack = stack }) vs to
     → AllRead (saved (to .machine)) (to .machine .area) (record { integer = 8 * used integers ops; float = 48 + 16 * used floats ops; overflow = stack }) vs seen
-    → (seen ≡ expected (namedState ops m stack) vs) × Stays (used integers ops) (used floats ops) stack m (to .machine)
+    → (seen ≡ asPlaced (namedState ops m stack) vs) × Stays (used integers ops) (used floats ops) stack m (to .machine)
 after-named first s ops past h m stack vs to seen w eights are inside p r =
     let ready : Ready (namedState ops m stack) = record { row = theorems.named-row ops; passes = theorems.named-passes ops; whole = w; eights = eights } in
     let three = theorems.after-named ops m stack vs w eights are inside in

@@ -38,7 +38,7 @@ use Rattle.varargs.specs.declared.Located.{Located}
 use Rattle.varargs.specs.declared.Area.the-variants.{Save}
 use Rattle.varargs.specs.Lists.{inOverflow, inIntegers, inFloats, standing}
 use Rattle.varargs.proofs.Scalars.{Listed, integer-1, integer-2, integer-4, integer-8, integer-16, a-single, a-double, an-x87, a-quad}
-use Rattle.placement.specs.Caller.{asked}
+use Rattle.placement.specs.Caller.{behindDots}
 use Rattle.placement.specs.Back.{offsetsAt}
 
 -- ---- nothing refuses it, it travels as itself, and so needs no slots
@@ -143,7 +143,7 @@ module _ (c : Call) (row : c .abi ≡ 0) (passes : callRefusal c ≡ accepted) w
   answer-is s is ws out = rw row (answer-0 (c .left) left-good no-mark-here s is ws out)
 
   -- so none of them matters
-  pub asked-so : (s : scalars.Scalar) → Listed s → (ws out : List ℕ) → variadicArgumentAnswer c (Scalar s) ws out ≡ asked c s
+  pub asked-so : (s : scalars.Scalar) → Listed s → (ws out : List ℕ) → variadicArgumentAnswer c (Scalar s) ws out ≡ behindDots c s
   asked-so s is ws out = answer-is s is ws out ∙ sym (answer-is s is [] [])
 
 -- a fixed argument is answered alike: description 0 makes no difference after the dots

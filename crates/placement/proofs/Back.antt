@@ -20,7 +20,7 @@ use Rattle.ledger.proofs.Ledger.{ledger}
 use Rattle.varargs.specs.declared.Offsets.{Offsets}
 use Rattle.varargs.specs.Lists.{Shown, readsAs}
 use Rattle.placement.specs.Caller.{Machine, Whole, Value, State, stored, saved, place, placeAll}
-use Rattle.placement.specs.Back.{Ready, IsValue, AllValues, no-more, and-then, AllInside, isStacked, stackEnd, offsetsOf, Stays, Keeps, callNamed, namedState, used, readings, expected, tooShort}
+use Rattle.placement.specs.Back.{Ready, IsValue, AllValues, no-more, and-then, AllInside, isStacked, stackEnd, offsetsOf, Stays, Keeps, callNamed, namedState, used, readings, asPlaced, tooShort}
 use Rattle.placement.specs.Back as back
 use Rattle.placement.proofs.Stored.{register-at, length-stored}
 use Rattle.placement.proofs.Steps.{Step, step}
@@ -81,8 +81,8 @@ module _ (m : Machine) (w : Whole m) (bytes : ℕ) (lent : bytes ≤ length (m .
   followed x y e vs rest h = rw e (ap (λ (xs : List Shown). y ∷ xs) h)
 
   all-read : (vs : List Value) (st : State) → Ready st → AllValues vs → AllInside bytes st vs → Keeps (placeAll st vs) m → (last : List Value)
-      → reads (offsetsOf st) (vs ++ last) ≡ expected st vs ++ reads (offsetsOf (placeAll st vs)) last
-  unfolding placeAll readings expected
+      → reads (offsetsOf st) (vs ++ last) ≡ asPlaced st vs ++ reads (offsetsOf (placeAll st vs)) last
+  unfolding placeAll readings asPlaced
   all-read [] st ready no-more back.no-more k last = refl
   all-read (v ∷ vs) st ready (and-then is are) (back.and-then inside rest) k last =
       let s = step st ready v is in
@@ -91,14 +91,14 @@ module _ (m : Machine) (w : Whole m) (bytes : ℕ) (lent : bytes ≤ length (m .
 -- ---- what was placed is read
 
 pub what-was-placed-is-read : (st : State) (vs : List Value) → Ready st → AllValues vs → AllInside (length (st .machine .area)) st vs
-    → (readings (saved (placeAll st vs .machine)) (placeAll st vs .machine .area) (offsetsOf st) vs ≡ expected st vs) × Keeps st (placeAll st vs .machine)
+    → (readings (saved (placeAll st vs .machine)) (placeAll st vs .machine .area) (offsetsOf st) vs ≡ asPlaced st vs) × Keeps st (placeAll st vs .machine)
 what-was-placed-is-read st vs ready are inside =
     let m : Machine = placeAll st vs .machine in
     let kept : Keeps st m = all-keep vs st ready are m (keeps-itself (placeAll st vs)) in
     let w : Whole m = all-ready vs st ready are .whole in
     let all : take (length (st .machine .area)) (m .area) ≡ m .area = take-all (length (st .machine .area)) (m .area) (omega (arith, kept .as-long)) in
     let read = all-read m w (length (st .machine .area)) (omega (arith, kept .as-long)) vs st ready are inside (keeps-itself (placeAll st vs)) [] in
-    (rw (all, append-nil vs, reads-none (saved m) (m .area) (offsetsOf (placeAll st vs)), append-nil (expected st vs)) at read, kept)
+    (rw (all, append-nil vs, reads-none (saved m) (m .area) (offsetsOf (placeAll st vs)), append-nil (asPlaced st vs)) at read, kept)
 
 -- ---- a short area
 
@@ -115,7 +115,7 @@ all-values (v ∷ vs) ws (and-then is are) more = and-then is (all-values vs ws 
 pub a-short-area : (st : State) (before : List Value) (v : Value) (behind : List Value) → Ready st → AllValues before → IsValue v → AllValues behind
     → (bytes : ℕ) → bytes ≤ length (st .machine .area) → AllInside bytes st before → isStacked (placeAll st before) v ≡ true → bytes < stackEnd (placeAll st before) v
     → readings (saved (placeAll st (before ++ v ∷ behind) .machine)) (take bytes (placeAll st (before ++ v ∷ behind) .machine .area)) (offsetsOf st) (before ++ v ∷ [])
-    ≡ expected st before ++ tooShort (placeAll st before) ∷ []
+    ≡ asPlaced st before ++ tooShort (placeAll st before) ∷ []
 a-short-area st before v behind ready are is more bytes lent inside stacked early =
     let to : State = placeAll st before in
     let end : State = placeAll st (before ++ v ∷ behind) in
@@ -126,7 +126,7 @@ a-short-area st before v behind ready are is more bytes lent inside stacked earl
     let long : length (m .area) ≡ length (st .machine .area) = all-keep before st ready are m kept .as-long in
     let here : bytes ≤ length (m .area) = omega (arith, long, lent) in
     all-read m w bytes here before st ready are inside kept (v ∷ [])
-    ∙ ap (λ (xs : List Shown). expected st before ++ xs)
+    ∙ ap (λ (xs : List Shown). asPlaced st before ++ xs)
     (reads-one m w bytes here (offsetsOf to) v ∙ ap (λ (x : Shown). x ∷ []) (step to (all-ready before st ready are) v is .short m w bytes here stacked early))
 
 -- ---- after named parameters
@@ -159,7 +159,7 @@ pub after-named : (ops : List Operation) (m : Machine) (stack : ℕ) (vs : List 
     → AllInside (length (m .area)) (namedState ops m stack) vs
     → (offsetsOf (namedState ops m stack) ≡ record { integer = 8 * used integers ops; float = 48 + 16 * used floats ops; overflow = stack })
     × (readings (saved (placeAll (namedState ops m stack) vs .machine)) (placeAll (namedState ops m stack) vs .machine .area) (offsetsOf (namedState ops m stack)) vs
-    ≡ expected (namedState ops m stack) vs)
+    ≡ asPlaced (namedState ops m stack) vs)
     × Stays (used integers ops) (used floats ops) stack m (placeAll (namedState ops m stack) vs .machine)
 after-named ops m stack vs w eights are inside =
     let ready : Ready (namedState ops m stack) = record { row = named-row ops; passes = named-passes ops; whole = w; eights = eights } in

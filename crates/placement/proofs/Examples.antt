@@ -16,9 +16,9 @@ use Rattle.placement.specs.Back as back
 use Rattle.placement.specs.Examples.{Example, examples, places, numbered, stateOf, valuesOf, readsOf}
 
 pub examples-found : map (λ (e : Example). places (back.offsetsOf (stateOf e)) (e .scalars)) examples ≡ map (λ (e : Example). e .found) examples
-unfolding roundUp lists.isOwnSize lists.scalarRefusal lists.startOf lists.inOverflow lists.inIntegers lists.inFloats lists.standing lists.located places
+unfolding roundUp lists.isOwnSize lists.unnamedRefusal lists.overflowStart lists.inOverflow lists.inIntegers lists.inFloats lists.standing lists.located places
 examples-found = refl
 
-pub examples-read : map readsOf examples ≡ map (λ (e : Example). back.expected (stateOf e) (valuesOf e)) examples
-unfolding checks.scalarRefusal piecesOf putAt roundUp abis.descriptions abis.described rules.wantOf lone.integerArgument lone.scalarInRegisters lone.scalarArgument rust.registers rust.afterScalar rust.scalar rust.argument rust.variadicArgument spending.scalarBy spending.variadicArgumentChoice answers.leftRefusal answers.argRefusal answers.checked answers.rowRefusal answers.refusalBy answers.answerTo answers.variadicArgumentAnswerBy answers.variadicArgumentAnswer lists.isOwnSize lists.scalarRefusal lists.startOf lists.inOverflow lists.inIntegers lists.inFloats lists.standing lists.located lists.partOf caller.toFront caller.spread caller.placedBy caller.placeAll caller.stored back.readings back.expected numbered
+pub examples-read : map readsOf examples ≡ map (λ (e : Example). back.asPlaced (stateOf e) (valuesOf e)) examples
+unfolding checks.scalarRefusal piecesOf putAt roundUp abis.descriptions abis.described rules.wantOf lone.integerArgument lone.scalarInRegisters lone.scalarArgument rust.registers rust.afterScalar rust.scalar rust.argument rust.variadicArgument spending.scalarBy spending.variadicArgumentChoice answers.leftRefusal answers.argRefusal answers.checked answers.rowRefusal answers.refusalBy answers.answerTo answers.variadicArgumentAnswerBy answers.variadicArgumentAnswer lists.isOwnSize lists.unnamedRefusal lists.overflowStart lists.inOverflow lists.inIntegers lists.inFloats lists.standing lists.located lists.partOf caller.toFront caller.spread caller.placedBy caller.placeAll caller.stored back.readings back.asPlaced numbered
 examples-read = refl

@@ -27,10 +27,10 @@ use Rattle.ledger.proofs.Fair.{Fair, fair}
 use Rattle.varargs.specs.declared.Offsets.{Offsets}
 use Rattle.varargs.specs.declared.Located.{Located}
 use Rattle.varargs.specs.declared.Area.the-variants.{Overflow}
-use Rattle.varargs.specs.Lists.{scalarRefusal, isSaveArea, refused, startOf, inOverflow, standing, located, partOf, shownAt, readsAs}
+use Rattle.varargs.specs.Lists.{unnamedRefusal, isSaveArea, locatedNowhere, overflowStart, inOverflow, standing, located, partOf, shownAt, readsAs}
 use Rattle.varargs.proofs.Lists.{lies-there, ends-within}
 use Rattle.varargs.proofs.Scalars.{Listed, listed, sized, integer-1, integer-2, integer-4, integer-8, integer-16, a-single, a-double, an-x87, a-quad}
-use Rattle.placement.specs.Caller.{Registers, Machine, Whole, Value, State, asked, stackStart, stackNext, spread, toFront, stored, saved, placedBy, place}
+use Rattle.placement.specs.Caller.{Registers, Machine, Whole, Value, State, behindDots, stackStart, stackNext, spread, toFront, stored, saved, placedBy, place}
 use Rattle.placement.specs.Back.{Ready, IsValue, isStacked, stackEnd, offsetsAt, offsetsOf, Keeps, tooShort}
 use Rattle.placement.proofs.Stored.{part-within, same-part, length-of-put, put-keeps, put-read, front-registers, spread-registers, front-keeps, spread-keeps, stored-same, front-read, pair-read, length-stored}
 use Rattle.placement.proofs.Asked as asking
@@ -49,20 +49,20 @@ pub record Next (c : Call) (a : Answer) (i f : ℕ) : Type 0 where
   pub floats-passed : passedOver floats a ≡ 0
 
 module _ (c : Call) (row : c .abi ≡ 0) (passes : callRefusal c ≡ accepted) (s : scalars.Scalar) where
-  fair-here : Fair (rowRefusal (c .abi)) (described (c .abi)) c (asked c s)
+  fair-here : Fair (rowRefusal (c .abi)) (described (c .abi)) c (behindDots c s)
   unfolding callRefusal variadicArgumentAnswer
   fair-here = fair (rowRefusal (c .abi)) (described (c .abi)) c passes (variadic-argument (Scalar s) [] [])
 
-  still-passes : callRefusal (asked c s .next) ≡ accepted
+  still-passes : callRefusal (behindDots c s .next) ≡ accepted
   unfolding callRefusal
   still-passes = rw (fair-here .same-abi) (fair-here .acceptable)
 
-  next-by : (i f : ℕ) → asked c s .outcome .spent ≡ spends 0 i 0 f → Next c (asked c s) i f
+  next-by : (i f : ℕ) → behindDots c s .outcome .spent ≡ spends 0 i 0 f → Next c (behindDots c s) i f
   next-by i f e =
-      let gi : given integers (asked c s) ≡ i = ap (λ (x : Spent). x .«integers_given») e in
-      let gf : given floats (asked c s) ≡ f = ap (λ (x : Spent). x .«floats_given») e in
-      let pi : passedOver integers (asked c s) ≡ 0 = ap (λ (x : Spent). x .«integers_passed») e in
-      let pf : passedOver floats (asked c s) ≡ 0 = ap (λ (x : Spent). x .«floats_passed») e in
+      let gi : given integers (behindDots c s) ≡ i = ap (λ (x : Spent). x .«integers_given») e in
+      let gf : given floats (behindDots c s) ≡ f = ap (λ (x : Spent). x .«floats_given») e in
+      let pi : passedOver integers (behindDots c s) ≡ 0 = ap (λ (x : Spent). x .«integers_passed») e in
+      let pf : passedOver floats (behindDots c s) ≡ 0 = ap (λ (x : Spent). x .«floats_passed») e in
       record {
         row = fair-here .same-abi ∙ row;
         passes = still-passes;
@@ -104,7 +104,7 @@ in-area : (save overflow : List ℕ) (start size : ℕ) (next : Offsets) → par
 unfolding partOf
 in-area save overflow start size next = refl
 
-in-none : (save overflow : List ℕ) (refusal : ℕ) (at : Offsets) → partOf save overflow (refused refusal at) ≡ []
+in-none : (save overflow : List ℕ) (refusal : ℕ) (at : Offsets) → partOf save overflow (locatedNowhere refusal at) ≡ []
 unfolding partOf
 in-none save overflow refusal at = refl
 
@@ -119,7 +119,7 @@ module _ (st : State) (ready : Ready st) (v : Value) (is : IsValue v) where
   c = st .call
 
   abbrev a : Answer
-  a = asked (st .call) (v .scalar)
+  a = behindDots (st .call) (v .scalar)
 
   kind-is : Listed (v .scalar)
   kind-is = listed (v .scalar) (is .taken)
@@ -146,7 +146,7 @@ module _ (st : State) (ready : Ready st) (v : Value) (is : IsValue v) where
   module _ (m : Machine) (w : Whole m) (bytes : ℕ) (lent : bytes ≤ length (m .area)) where
     located-so : located (length (saved m)) (length (take bytes (m .area))) (offsetsOf st) (v .scalar) ≡ standing bytes (offsetsOf st) (v .scalar)
     unfolding located
-    located-so = rw (save-length m w, length-take-le bytes (m .area) lent, eq-eqb (scalarRefusal (v .scalar)) accepted (is .taken), offsets-good)
+    located-so = rw (save-length m w, length-take-le bytes (m .area) lent, eq-eqb (unnamedRefusal (v .scalar)) accepted (is .taken), offsets-good)
 
     read-so : (l : Located) → standing bytes (offsetsOf st) (v .scalar) ≡ l → readsAs (saved m) (take bytes (m .area)) (offsetsOf st) (v .scalar) ≡ shownAt (saved m) (take bytes (m .area)) l
     read-so l e = ap (shownAt (saved m) (take bytes (m .area))) (located-so ∙ e)
@@ -265,8 +265,8 @@ module _ (st : State) (ready : Ready st) (v : Value) (is : IsValue v) where
       }
 
   -- where the reader looks is where it was put: the stack offset is in eightbytes
-  start-same : (s : scalars.Scalar) → Listed s → startOf (st .stack) (s .align) ≡ stackStart (st .stack) s
-  unfolding startOf roundUp
+  start-same : (s : scalars.Scalar) → Listed s → overflowStart (st .stack) (s .align) ≡ stackStart (st .stack) s
+  unfolding overflowStart roundUp
   start-same s integer-1 = omega (arith, ready .eights)
   start-same s integer-2 = omega (arith, ready .eights)
   start-same s integer-4 = omega (arith, ready .eights)
@@ -300,7 +300,7 @@ module _ (st : State) (ready : Ready st) (v : Value) (is : IsValue v) where
     unfolding placedBy
     placed-stack = rw (nx .integers-given, nx .floats-given)
 
-    stack-offsets : offsetsOf onStack ≡ record { integer = 8 * (6 - c .left .integer); float = 48 + 16 * (8 - c .left .float); overflow = startOf (st .stack) (v .scalar .align) + roundUp (v .scalar .size) 8 }
+    stack-offsets : offsetsOf onStack ≡ record { integer = 8 * (6 - c .left .integer); float = 48 + 16 * (8 - c .left .float); overflow = overflowStart (st .stack) (v .scalar .align) + roundUp (v .scalar .size) 8 }
     stack-offsets =
         same-offsets _ _ _ _ _ _ (omega (arith, nx .integers-left)) (omega (arith, nx .floats-left))
         (ap (λ (n : ℕ). n + roundUp (v .scalar .size) 8) (sym (start-same (v .scalar) kind-is)))
@@ -309,7 +309,7 @@ module _ (st : State) (ready : Ready st) (v : Value) (is : IsValue v) where
     is-stacked = rw (nx .integers-given, nx .floats-given)
 
     stack-read : (m : Machine) → Keeps onStack m → (bytes : ℕ) → bytes ≤ length (m .area) → stackEnd st v ≤ bytes
-        → take (v .scalar .size) (drop (startOf (st .stack) (v .scalar .align)) (take bytes (m .area))) ≡ v .bytes
+        → take (v .scalar .size) (drop (overflowStart (st .stack) (v .scalar .align)) (take bytes (m .area))) ≡ v .bytes
     stack-read m k bytes lent inside =
         let long : length (m .area) ≡ length (st .machine .area) = k .as-long ∙ length-of-put (st .machine .area) _ (v .bytes) in
         rw (start-same (v .scalar) kind-is)
@@ -327,12 +327,12 @@ module _ (st : State) (ready : Ready st) (v : Value) (is : IsValue v) where
           floats-grow = omega (arith, nx .floats-left);
           stack-grows = omega (arith, after (v .scalar) kind-is .starts, after (v .scalar) kind-is .behind);
           reads = λ m w k bytes lent inside.
-              let there : startOf (st .stack) (v .scalar .align) + v .scalar .size ≤ bytes = rw (start-same (v .scalar) kind-is) (inside is-stacked) in
+              let there : overflowStart (st .stack) (v .scalar .align) + v .scalar .size ≤ bytes = rw (start-same (v .scalar) kind-is) (inside is-stacked) in
               read-so m w bytes lent _ (stands bytes (st .stack) ∙ sym (lies-there bytes (offsetsOf st) (v .scalar) there))
               ∙ show _ _ _ (v .bytes) (in-area _ _ _ _ _ ∙ stack-read m k bytes lent (inside is-stacked))
               ∙ ap (λ (next : Offsets). record { refusal = accepted; bytes = v .bytes; next = next }) (sym stack-offsets);
           short = λ m w bytes lent stacked early.
-              let there : bytes < startOf (st .stack) (v .scalar .align) + v .scalar .size = rw (start-same (v .scalar) kind-is) early in
+              let there : bytes < overflowStart (st .stack) (v .scalar .align) + v .scalar .size = rw (start-same (v .scalar) kind-is) early in
               read-so m w bytes lent _ (stands bytes (st .stack) ∙ sym (ends-within bytes (offsetsOf st) (v .scalar) there))
               ∙ show _ _ _ [] (in-none _ _ bad-area (offsetsOf st));
         })
@@ -349,7 +349,7 @@ module _ (st : State) (ready : Ready st) (v : Value) (is : IsValue v) where
       → take (v .scalar .size) (drop (8 * (6 - c .left .integer)) (stored (spread 2 (6 - c .left .integer) (v .bytes) (st .machine .integers)) ++ rest)) ≡ v .bytes
   two-read z enough rest = rw z (pair-read 6 (st .machine .integers) (ready .whole .six) (6 - c .left .integer) (omega arith) (v .bytes) (is .sized ∙ z) rest)
 
-  spent-is : (spent : Spent) → asked c (v .scalar) .outcome .spent ≡ spent → Lot c (v .scalar) spent → Step st v (place st v)
+  spent-is : (spent : Spent) → behindDots c (v .scalar) .outcome .spent ≡ spent → Lot c (v .scalar) spent → Step st v (place st v)
   spent-is spent e (one-word z enough small stands) = words-step 1 refl (next-by c (ready .row) (ready .passes) (v .scalar) 1 0 (e ∙ z)) enough small (one-read small enough) stands
   spent-is spent e (two-words z enough size stands) =
       words-step 2 refl (next-by c (ready .row) (ready .passes) (v .scalar) 2 0 (e ∙ z)) enough (omega (arith, size)) (two-read size enough) stands

@@ -11,8 +11,8 @@ use Rattle.classify.specs.declared.Call.{Call}
 use Rattle.classify.specs.Answers.{callRefusal}
 use Rattle.ledger.specs.Ledger.{Bank, integers, floats, given, passedOver, Operation, total, callAfter, freshCall, history}
 use Rattle.varargs.specs.declared.Offsets.{Offsets}
-use Rattle.varargs.specs.Lists.{scalarRefusal, Shown, readsAs}
-use Rattle.placement.specs.Caller.{Machine, Whole, Value, State, asked, stackStart, place}
+use Rattle.varargs.specs.Lists.{unnamedRefusal, Shown, readsAs}
+use Rattle.placement.specs.Caller.{Machine, Whole, Value, State, behindDots, stackStart, place}
 
 -- ---- where placing starts
 
@@ -27,7 +27,7 @@ pub record Ready (st : State) : Type 0 where
 
 -- a scalar that the reader takes, with as many bytes as its size
 pub record IsValue (v : Value) : Type 0 where
-  pub taken : scalarRefusal (v .scalar) ≡ accepted
+  pub taken : unnamedRefusal (v .scalar) ≡ accepted
   pub sized : length (v .bytes) ≡ v .scalar .size
 
 pub data AllValues : List Value → Type 0 where
@@ -36,7 +36,7 @@ pub data AllValues : List Value → Type 0 where
 
 -- one that is given nothing in either bank
 abbrev pub isStacked : State → Value → Bool
-isStacked st v = eqb (given integers (asked (st .call) (v .scalar))) 0 && eqb (given floats (asked (st .call) (v .scalar))) 0
+isStacked st v = eqb (given integers (behindDots (st .call) (v .scalar))) 0 && eqb (given floats (behindDots (st .call) (v .scalar))) 0
 
 abbrev pub stackEnd : State → Value → ℕ
 stackEnd st v = stackStart (st .stack) (v .scalar) + v .scalar .size
@@ -86,9 +86,9 @@ readings save overflow at [] = []
 readings save overflow at (v ∷ vs) = readsAs save overflow at (v .scalar) ∷ readings save overflow (readsAs save overflow at (v .scalar) .next) vs
 
 -- none is refused, each shows its value's own bytes, and the offsets after it are those of the call and the stack offset that the placing left
-unfoldable pub expected : State → List Value → List Shown
-expected st [] = []
-expected st (v ∷ vs) = record { refusal = accepted; bytes = v .bytes; next = offsetsOf (place st v) } ∷ expected (place st v) vs
+unfoldable pub asPlaced : State → List Value → List Shown
+asPlaced st [] = []
+asPlaced st (v ∷ vs) = record { refusal = accepted; bytes = v .bytes; next = offsetsOf (place st v) } ∷ asPlaced (place st v) vs
 
 -- the area ends too early: no bytes, and the offsets that were handed in
 abbrev pub tooShort : State → Shown

@@ -79,8 +79,8 @@ stackNext offset s = stackStart offset s + roundUp (s .size) 8
 
 -- ---- a value is placed, by the answer that the classifier gave
 
-abbrev pub inIntegers : Answer → State → Value → State
-inIntegers a st v =
+abbrev pub placedInIntegers : Answer → State → Value → State
+placedInIntegers a st v =
     record {
       machine = record {
         integers = spread (given integers a) (firstGiven integers (st .call) a) (v .bytes) (st .machine .integers);
@@ -91,8 +91,8 @@ inIntegers a st v =
       stack = st .stack;
     }
 
-abbrev pub inFloats : Answer → State → Value → State
-inFloats a st v =
+abbrev pub placedInFloats : Answer → State → Value → State
+placedInFloats a st v =
     record {
       machine = record {
         integers = st .machine .integers;
@@ -103,8 +103,8 @@ inFloats a st v =
       stack = st .stack;
     }
 
-abbrev pub onStack : Answer → State → Value → State
-onStack a st v =
+abbrev pub placedOnStack : Answer → State → Value → State
+placedOnStack a st v =
     record {
       machine = record {
         integers = st .machine .integers;
@@ -117,14 +117,14 @@ onStack a st v =
 
 -- in the integer registers that it was given, in the float register, or, given nothing in either bank, on the stack
 unfoldable pub placedBy : Answer → State → Value → State
-placedBy a st v = cond (ltb 0 (given integers a)) (inIntegers a st v) (cond (ltb 0 (given floats a)) (inFloats a st v) (onStack a st v))
+placedBy a st v = cond (ltb 0 (given integers a)) (placedInIntegers a st v) (cond (ltb 0 (given floats a)) (placedInFloats a st v) (placedOnStack a st v))
 
 -- what the classifier answers about an argument after the dots
-abbrev pub asked : Call → scalars.Scalar → Answer
-asked c s = variadicArgumentAnswer c (Scalar s) [] []
+abbrev pub behindDots : Call → scalars.Scalar → Answer
+behindDots c s = variadicArgumentAnswer c (Scalar s) [] []
 
 abbrev pub place : State → Value → State
-place st v = placedBy (asked (st .call) (v .scalar)) st v
+place st v = placedBy (behindDots (st .call) (v .scalar)) st v
 
 unfoldable pub placeAll : State → List Value → State
 placeAll st [] = st

@@ -16,7 +16,7 @@ use Rattle.varargs.specs.declared.Offsets.{Offsets}
 use Rattle.varargs.specs.declared.Located.{Located}
 use Rattle.varargs.specs.declared.Area.{Area}
 use Rattle.varargs.specs.declared.Area.the-variants.{Nowhere, Save, Overflow}
-use Rattle.varargs.specs.Lists.{integerEnd, floatPlace, floatEnd, saveBytes, isIntegerOffset, isOwnSize, scalarRefusal, isSaveArea, refused, startOf, inOverflow, inIntegers, inFloats, standing, located, bytesOf, roomOf, Inside, partOf, shownAt}
+use Rattle.varargs.specs.Lists.{integerEnd, floatPlace, floatEnd, saveBytes, isIntegerOffset, isOwnSize, unnamedRefusal, isSaveArea, locatedNowhere, overflowStart, inOverflow, inIntegers, inFloats, standing, located, bytesOf, roomOf, Inside, partOf, shownAt}
 use Rattle.varargs.proofs.Scalars.{sized, own-listed, listed}
 
 -- ---- so many bytes behind a start
@@ -39,26 +39,26 @@ or-true true b e = refl
 or-true false b e = e
 
 module _ (s : Scalar) where
-  pub kind-refused : quad < s .kind → bad-kind ≡ scalarRefusal s
-  unfolding scalarRefusal
+  pub kind-refused : quad < s .kind → bad-kind ≡ unnamedRefusal s
+  unfolding unnamedRefusal
   kind-refused k = rw (lt-ltb _ _ k)
 
   module _ (k : s .kind ≤ quad) (own : Bool) (is : own ≡ isOwnSize (s .kind) (s .size)) where
-    pub size-refused : not own ≡ true → bad-size ≡ scalarRefusal s
-    unfolding scalarRefusal
+    pub size-refused : not own ≡ true → bad-size ≡ unnamedRefusal s
+    unfolding unnamedRefusal
     size-refused z = rw (le-ltb _ _ k, or-true (ltb most-size (s .size)) _ (rw is at z))
 
     module _ (z : not own ≡ false) where
       small : s .size ≤ 16
       small = sized _ (own-listed (s .kind) (s .size) k (sym is ∙ not-false _ z)) .1
 
-      pub align-refused : (s .align ≡ s .size → ⊥) → bad-align ≡ scalarRefusal s
-      unfolding scalarRefusal
+      pub align-refused : (s .align ≡ s .size → ⊥) → bad-align ≡ unnamedRefusal s
+      unfolding unnamedRefusal
       align-refused a =
           rw (le-ltb _ _ k, le-ltb most-size (s .size) (omega (arith, small)), ← is, z, ne-eqb _ _ a, or-true (ltb most-align (s .align)) true refl)
 
-      pub scalar-taken : s .align ≡ s .size → accepted ≡ scalarRefusal s
-      unfolding scalarRefusal
+      pub scalar-taken : s .align ≡ s .size → accepted ≡ unnamedRefusal s
+      unfolding unnamedRefusal
       scalar-taken a =
           rw (le-ltb _ _ k, le-ltb most-size (s .size) (omega (arith, small)), ← is, z, a, le-ltb most-align (s .size) (omega (arith, small)), eq-eqb (s .size) (s .size) refl)
 
@@ -70,29 +70,29 @@ rounded-at : (n : ℕ) (b : Bool) → (n ≤ cond b ((n + 15) / 16 * 16) n) × (
 rounded-at n true = (omega arith, omega arith)
 rounded-at n false = (omega arith, omega arith)
 
-pub start-at : (overflow align : ℕ) → (overflow ≤ startOf overflow align) × (startOf overflow align < overflow + 16)
-unfolding startOf roundUp
+pub start-at : (overflow align : ℕ) → (overflow ≤ overflowStart overflow align) × (overflowStart overflow align < overflow + 16)
+unfolding overflowStart roundUp
 start-at overflow align = rounded-at overflow (ltb 8 align)
 
 module _ (bytes : ℕ) (at : Offsets) (s : Scalar) where
-  pub ends-before : bytes < at .overflow → refused bad-area at ≡ inOverflow bytes at s
+  pub ends-before : bytes < at .overflow → locatedNowhere bad-area at ≡ inOverflow bytes at s
   unfolding inOverflow
-  ends-before h = rw (lt-ltb bytes (startOf (at .overflow) (s .align) + s .size) (omega (arith, start-at (at .overflow) (s .align) .0)))
+  ends-before h = rw (lt-ltb bytes (overflowStart (at .overflow) (s .align) + s .size) (omega (arith, start-at (at .overflow) (s .align) .0)))
 
-  pub ends-within : bytes < startOf (at .overflow) (s .align) + s .size → refused bad-area at ≡ inOverflow bytes at s
+  pub ends-within : bytes < overflowStart (at .overflow) (s .align) + s .size → locatedNowhere bad-area at ≡ inOverflow bytes at s
   unfolding inOverflow
-  ends-within h = rw (lt-ltb bytes (startOf (at .overflow) (s .align) + s .size) h)
+  ends-within h = rw (lt-ltb bytes (overflowStart (at .overflow) (s .align) + s .size) h)
 
-  pub lies-there : startOf (at .overflow) (s .align) + s .size ≤ bytes
+  pub lies-there : overflowStart (at .overflow) (s .align) + s .size ≤ bytes
       → record {
         refusal = accepted;
         area = Overflow;
-        start = startOf (at .overflow) (s .align);
+        start = overflowStart (at .overflow) (s .align);
         length = s .size;
-        next = record { integer = at .integer; float = at .float; overflow = startOf (at .overflow) (s .align) + roundUp (s .size) 8 };
+        next = record { integer = at .integer; float = at .float; overflow = overflowStart (at .overflow) (s .align) + roundUp (s .size) 8 };
       } ≡ inOverflow bytes at s
   unfolding inOverflow
-  lies-there h = rw (le-ltb bytes (startOf (at .overflow) (s .align) + s .size) h)
+  lies-there h = rw (le-ltb bytes (overflowStart (at .overflow) (s .align) + s .size) h)
 
 -- ---- the save area
 
@@ -122,17 +122,17 @@ module _ (bytes : ℕ) (at : Offsets) (s : Scalar) (small : (1 ≤ s .size) × (
 
 -- ---- which of them it is
 
-pub taken-small : (s : Scalar) (n : ℕ) → n ≡ scalarRefusal s → n ≡ accepted → (1 ≤ s .size) × (s .size ≤ 16)
+pub taken-small : (s : Scalar) (n : ℕ) → n ≡ unnamedRefusal s → n ≡ accepted → (1 ≤ s .size) × (s .size ≤ 16)
 taken-small s n is taken = sized s (listed s (sym is ∙ taken))
 
-module _ (save overflow : ℕ) (at : Offsets) (s : Scalar) (n : ℕ) (is : n ≡ scalarRefusal s) where
-  pub refused-scalar : (n ≡ accepted → ⊥) → refused n at ≡ located save overflow at s
+module _ (save overflow : ℕ) (at : Offsets) (s : Scalar) (n : ℕ) (is : n ≡ unnamedRefusal s) where
+  pub refused-scalar : (n ≡ accepted → ⊥) → locatedNowhere n at ≡ located save overflow at s
   unfolding located
   refused-scalar h = rw (← is, ne-eqb n accepted h)
 
   module _ (taken : n ≡ accepted) where
     module _ (good : Bool) (is-good : good ≡ isSaveArea save at) where
-      pub refused-area : not good ≡ true → refused bad-area at ≡ located save overflow at s
+      pub refused-area : not good ≡ true → locatedNowhere bad-area at ≡ located save overflow at s
       unfolding located
       refused-area h = rw (← is, eq-eqb n accepted taken, ← is-good, h)
 
@@ -164,8 +164,8 @@ module _ (bytes : ℕ) (at : Offsets) (s : Scalar) (small : s .size ≤ 16) wher
   overflow-inside : (save : ℕ) → Inside save bytes (inOverflow bytes at s)
   unfolding inOverflow
   overflow-inside save =
-      by-test (Inside save bytes) (ltb bytes (startOf (at .overflow) (s .align) + s .size)) _ _ (λ h. omega arith)
-      (λ h. ltb-false bytes (startOf (at .overflow) (s .align) + s .size) h)
+      by-test (Inside save bytes) (ltb bytes (overflowStart (at .overflow) (s .align) + s .size)) _ _ (λ h. omega arith)
+      (λ h. ltb-false bytes (overflowStart (at .overflow) (s .align) + s .size) h)
 
   integers-inside : Inside saveBytes bytes (inIntegers bytes at s)
   unfolding inIntegers roundUp
@@ -192,7 +192,7 @@ save-bytes n at h =
 pub located-inside : (save overflow : ℕ) (at : Offsets) (s : Scalar) → Inside save overflow (located save overflow at s)
 unfolding located
 located-inside save overflow at s =
-    by-test (Inside save overflow) (not (eqb (scalarRefusal s) accepted)) _ _ (λ h. omega arith) (λ h.
+    by-test (Inside save overflow) (not (eqb (unnamedRefusal s) accepted)) _ _ (λ h. omega arith) (λ h.
     let small : s .size ≤ 16 = sized s (listed s (eqb-true _ _ (not-false _ h))) .1 in
     by-test (Inside save overflow) (not (isSaveArea save at)) _ _ (λ h′. omega arith) (λ h′.
     rw (save-bytes save at (not-false _ h′)) (standing-inside overflow at s small)))
@@ -204,10 +204,10 @@ shown-so save overflow l r bytes e parts = rw (parts, e)
 
 -- ---- it is refused, with the offsets that were handed in, or it is a part of the scalar's size
 
-module _ (P : Located → Type 0) (s : Scalar) (at : Offsets) (short : P (refused bad-area at)) (part : (l : Located) → l .refusal ≡ accepted → l .length ≡ s .size → P l) where
+module _ (P : Located → Type 0) (s : Scalar) (at : Offsets) (short : P (locatedNowhere bad-area at)) (part : (l : Located) → l .refusal ≡ accepted → l .length ≡ s .size → P l) where
   overflow-so : (bytes : ℕ) → P (inOverflow bytes at s)
   unfolding inOverflow
-  overflow-so bytes = by-test P (ltb bytes (startOf (at .overflow) (s .align) + s .size)) _ _ (λ h. short) (λ h. part _ refl refl)
+  overflow-so bytes = by-test P (ltb bytes (overflowStart (at .overflow) (s .align) + s .size)) _ _ (λ h. short) (λ h. part _ refl refl)
 
   standing-so : (bytes : ℕ) → P (standing bytes at s)
   unfolding standing inIntegers inFloats
@@ -216,10 +216,10 @@ module _ (P : Located → Type 0) (s : Scalar) (at : Offsets) (short : P (refuse
       (λ h. by-test P (eqb (s .kind) x87-extended) _ _ (λ h′. overflow-so bytes)
       (λ h′. by-test P (leb (at .float + floatPlace) floatEnd) _ _ (λ h″. part _ refl refl) (λ h″. overflow-so bytes)))
 
-  pub located-so : (save overflow : ℕ) → ((scalarRefusal s ≡ accepted → ⊥) → P (refused (scalarRefusal s) at)) → P (located save overflow at s)
+  pub located-so : (save overflow : ℕ) → ((unnamedRefusal s ≡ accepted → ⊥) → P (locatedNowhere (unnamedRefusal s) at)) → P (located save overflow at s)
   unfolding located
   located-so save overflow wrong =
-      by-test P (not (eqb (scalarRefusal s) accepted)) _ _ (λ h. wrong (eqb-false _ _ (not-true _ h)))
+      by-test P (not (eqb (unnamedRefusal s) accepted)) _ _ (λ h. wrong (eqb-false _ _ (not-true _ h)))
       (λ h. by-test P (not (isSaveArea save at)) _ _ (λ h′. short) (λ h′. standing-so overflow))
 
 -- a part's bytes are as many as its length: it lies in its area

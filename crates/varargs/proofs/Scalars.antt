@@ -10,7 +10,7 @@ use Rattle.shape.specs.Numbers.{integer, single, double, x87-extended, quad, ac
 use Rattle.shape.specs.Words.{scalar}
 use Rattle.shape.proofs.Bools.{both-false}
 use Rattle.checks.proofs.Accepted.{refuse-none}
-use Rattle.varargs.specs.Lists.{isOwnSize, scalarRefusal}
+use Rattle.varargs.specs.Lists.{isOwnSize, unnamedRefusal}
 
 pub data Listed : Scalar → Type 0 where
   integer-1 : Listed (scalar integer 1 1)
@@ -63,8 +63,8 @@ pub own-listed : (k z : ℕ) → k ≤ quad → isOwnSize k z ≡ true → Liste
 unfolding isOwnSize
 own-listed k z l h = kinds k z _ _ _ _ refl refl refl refl l h
 
-pub listed : (s : Scalar) → scalarRefusal s ≡ accepted → Listed s
-unfolding scalarRefusal
+pub listed : (s : Scalar) → unnamedRefusal s ≡ accepted → Listed s
+unfolding unnamedRefusal
 listed s e =
     let k = refuse-none (ltb quad (s .kind)) 3 _ e in
     let z = refuse-none (ltb most-size (s .size) || not (isOwnSize (s .kind) (s .size))) 4 _ (k .1) in

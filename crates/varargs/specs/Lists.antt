@@ -51,8 +51,8 @@ isOwnSize kind size =
     (cond (eqb kind double) (eqb size 8) (eqb size 16)))
 
 -- a scalar, by kind, size, alignment: the limits of every scalar, and those of a list's
-unfoldable pub scalarRefusal : Scalar → ℕ
-scalarRefusal s =
+unfoldable pub unnamedRefusal : Scalar → ℕ
+unnamedRefusal s =
     refuse (ltb quad (s .kind)) bad-kind
     (refuse (ltb most-size (s .size) || not (isOwnSize (s .kind) (s .size))) bad-size
     (refuse (ltb most-align (s .align) || not (eqb (s .align) (s .size))) bad-align accepted))
@@ -68,20 +68,20 @@ isFloatOffset n = (leb floatStart n && leb n floatEnd) && eqb (n % floatPlace) 0
 abbrev pub isSaveArea : ℕ → Offsets → Bool
 isSaveArea bytes at = (eqb bytes saveBytes && isIntegerOffset (at .integer)) && isFloatOffset (at .float)
 
-abbrev pub refused : ℕ → Offsets → Located
-refused refusal at = record { refusal = refusal; area = Nowhere; start = 0; length = 0; next = at }
+abbrev pub locatedNowhere : ℕ → Offsets → Located
+locatedNowhere refusal at = record { refusal = refusal; area = Nowhere; start = 0; length = 0; next = at }
 
 -- ---- where a scalar stands
 
 -- an alignment above 8 rounds the overflow offset up to 16
-unfoldable pub startOf : ℕ → ℕ → ℕ
-startOf overflow align = cond (ltb 8 align) (roundUp overflow 16) overflow
+unfoldable pub overflowStart : ℕ → ℕ → ℕ
+overflowStart overflow align = cond (ltb 8 align) (roundUp overflow 16) overflow
 
 -- in an area of so many bytes: the next offset is behind the scalar, in eightbytes, and may lie behind the area's end
 unfoldable pub inOverflow : ℕ → Offsets → Scalar → Located
 inOverflow bytes at s =
-    let start : ℕ = startOf (at .overflow) (s .align) in
-    cond (ltb bytes (start + s .size)) (refused bad-area at)
+    let start : ℕ = overflowStart (at .overflow) (s .align) in
+    cond (ltb bytes (start + s .size)) (locatedNowhere bad-area at)
     (record {
       refusal = accepted;
       area = Overflow;
@@ -125,8 +125,8 @@ standing bytes at s =
 -- by the lengths of the save area and of the overflow area
 unfoldable pub located : ℕ → ℕ → Offsets → Scalar → Located
 located save overflow at s =
-    cond (not (eqb (scalarRefusal s) accepted)) (refused (scalarRefusal s) at)
-    (cond (not (isSaveArea save at)) (refused bad-area at) (standing overflow at s))
+    cond (not (eqb (unnamedRefusal s) accepted)) (locatedNowhere (unnamedRefusal s) at)
+    (cond (not (isSaveArea save at)) (locatedNowhere bad-area at) (standing overflow at s))
 
 -- ---- its bytes
 

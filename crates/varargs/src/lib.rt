@@ -15,7 +15,7 @@ ghost use mathlib.Core.Path.{_≡_};
 ghost use Prim.Native.Nat.{_+_, _≤_, _<_};
 ghost use lib.ListN.{length, take, drop};
 ghost use Rattle.layouts.specs.Record.{roundUp};
-ghost use Rattle.varargs.specs.Lists.{areaNumber, isOwnSize, scalarRefusal, isSaveArea, startOf, refused, inOverflow, inIntegers, inFloats, located, partOf, Inside, shown, readsAs};
+ghost use Rattle.varargs.specs.Lists.{areaNumber, isOwnSize, unnamedRefusal, isSaveArea, overflowStart, locatedNowhere, inOverflow, inIntegers, inFloats, located, partOf, Inside, shown, readsAs};
 
 // The save area: the integer places, 8 bytes each from 0, and behind them the float places, 16 bytes each.
 const INTEGER_PLACE: u64 = 8;
@@ -100,12 +100,12 @@ fn bytes_at<'a>(area: &'a [u8], start: u64, count: u64) -> &'a [u8]
 pub fn find<'a>(save: &'a [u8], overflow: &'a [u8], at: Offsets, s: Scalar) -> Located
     ensures { λ r. ⌜ r ≡ located (length (now (save .entry))) (length (now (overflow .entry))) at s ⌝ }
 {
-    let refusal = check_scalar(s);
+    let refusal = check_unnamed(s);
     if refusal != ACCEPTED {
-        return refuse(refusal, at);
+        return located_nowhere(refusal, at);
     }
     if !is_save_area(save.len() as u64, at) {
-        return refuse(BAD_AREA, at);
+        return located_nowhere(BAD_AREA, at);
     }
     if s.kind == INTEGER {
         return in_integers(overflow, at, s);
@@ -129,8 +129,8 @@ pub fn area_number(area: Area) -> u64
 
 // ---- what is refused
 
-fn refuse(refusal: u64, at: Offsets) -> Located
-    ensures { λ r. ⌜ r ≡ refused refusal at ⌝ }
+fn located_nowhere(refusal: u64, at: Offsets) -> Located
+    ensures { λ r. ⌜ r ≡ locatedNowhere refusal at ⌝ }
 {
     Located {
         refusal,
@@ -142,8 +142,8 @@ fn refuse(refusal: u64, at: Offsets) -> Located
 }
 
 // A list's scalars are of their own sizes and aligned to them, so that the limits of other scalars are kept.
-fn check_scalar(s: Scalar) -> u64
-    ensures { λ r. ⌜ r ≡ scalarRefusal s ⌝ }
+fn check_unnamed(s: Scalar) -> u64
+    ensures { λ r. ⌜ r ≡ unnamedRefusal s ⌝ }
 {
     if s.kind > QUAD {
         return BAD_KIND;
@@ -230,11 +230,11 @@ fn in_overflow(overflow: &[u8], at: Offsets, s: Scalar) -> Located
     let length = overflow.len() as u64;
     // an offset past the end goes no further: no number wraps
     if length < at.overflow {
-        return refuse(BAD_AREA, at);
+        return located_nowhere(BAD_AREA, at);
     }
-    let start = start_of(at.overflow, s.align);
+    let start = overflow_start(at.overflow, s.align);
     if length < start + s.size {
-        return refuse(BAD_AREA, at);
+        return located_nowhere(BAD_AREA, at);
     }
     Located {
         refusal: ACCEPTED,
@@ -250,9 +250,9 @@ fn in_overflow(overflow: &[u8], at: Offsets, s: Scalar) -> Located
 }
 
 // Where an alignment may start, from an overflow offset on.
-fn start_of(overflow: u64, align: u64) -> u64
+fn overflow_start(overflow: u64, align: u64) -> u64
     requires { ⌜ overflow < 9223372036854775808 ⌝ }
-    ensures { λ r. ⌜ r ≡ startOf overflow align ⌝ }
+    ensures { λ r. ⌜ r ≡ overflowStart overflow align ⌝ }
 {
     if align > 8 {
         return (overflow + 15) / 16 * 16;

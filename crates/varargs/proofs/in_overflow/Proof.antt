@@ -11,11 +11,11 @@ in-overflow-spec =
     tie.close
     (tie.spec
     (λ c κs. search needs)
-    (λ c. c .refuse .ensures ∙ ends-before _ _ _ (c .before .if1 .taken))
+    (λ c. c .located-nowhere .ensures ∙ ends-before _ _ _ (c .before .if1 .taken))
     (λ c κs. search needs)
-    (λ c. omega (arith, c .before .start-of .ensures, start-at (c .before .before .before .before .before .args .at .overflow) (c .before .before .before .before .before .args .s .align) .1))
+    (λ c. omega (arith, c .before .overflow-start .ensures, start-at (c .before .before .before .before .before .args .at .overflow) (c .before .before .before .before .before .args .s .align) .1))
     (λ c κs. search needs)
-    (λ c. c .refuse2 .ensures ∙ ends-within _ _ _ (rw (c .before .before .before .start-of .ensures) at (c .before .if2 .taken)))
+    (λ c. c .located-nowhere2 .ensures ∙ ends-within _ _ _ (rw (c .before .before .before .overflow-start .ensures) at (c .before .if2 .taken)))
     (λ c κs. search needs)
-    (λ c. omega (arith, c .before .before .before .start-of .ensures, start-at (c .before .before .before .before .before .before .before .args .at .overflow) (c .before .before .before .before .before .before .before .args .s .align) .1, rounded-small _ (c .before .before .before .before .before .before .before .pre) _ (c .rounded .ensures)))
-    (λ c. rw (c .before .before .before .start-of .ensures, c .rounded .ensures) (lies-there _ _ _ (rw (c .before .before .before .start-of .ensures) at (c .before .if2 .left)))))
+    (λ c. omega (arith, c .before .before .before .overflow-start .ensures, start-at (c .before .before .before .before .before .before .before .args .at .overflow) (c .before .before .before .before .before .before .before .args .s .align) .1, rounded-small _ (c .before .before .before .before .before .before .before .pre) _ (c .rounded .ensures)))
+    (λ c. rw (c .before .before .before .overflow-start .ensures, c .rounded .ensures) (lies-there _ _ _ (rw (c .before .before .before .overflow-start .ensures) at (c .before .if2 .left)))))
