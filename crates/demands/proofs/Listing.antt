@@ -14,8 +14,8 @@ use Rattle.ledger.specs.Ledger.{Operation, integers, floats, history, callAfter
 use Rattle.varargs.specs.declared.Offsets.{Offsets}
 use Rattle.varargs.specs.declared.Located.{Located}
 use Rattle.varargs.specs.Lists as lists
-use Rattle.varargs.specs.Lists.{isOwnSize, locatedNowhere, located, Inside, partOf, Shown, shownAt, readsAs}
-use Rattle.varargs.proofs.Lists.{located-so, located-inside, area-bytes, part-length}
+use Rattle.varargs.specs.Lists.{isOwnSize, locatedNowhere, located, Inside, Shown, shownAt, readsAs}
+use Rattle.varargs.proofs.Lists.{located-so, located-inside, area-bytes, part-length, nowhere-part}
 use Rattle.varargs.proofs.Scalars.{listed}
 use Rattle.placement.specs.Caller.{Machine, Whole, Value, State, saved, placedBy, place, placeAll}
 use Rattle.placement.specs.Back as back
@@ -65,10 +65,6 @@ located-refused save overflow at s =
     (λ h. record { one-of-them = refl; rest-zero = refl }) (λ l e z h. absurd (h e)) save overflow
     (λ wrong h. record { one-of-them = one-of _ (list-within s) wrong; rest-zero = refl })
 
-no-part : (save overflow : List ℕ) (n : ℕ) (at : Offsets) → partOf save overflow (locatedNowhere n at) ≡ []
-unfolding partOf
-no-part save overflow n at = refl
-
 pub read-refused : (save overflow : List ℕ) (at : Offsets) (s : Scalar) → IsRefusal (readsAs save overflow at s .refusal)
     → RefusedAs readRefusals (readsAs save overflow at s .refusal) (noBytes (readsAs save overflow at s .refusal) at) (readsAs save overflow at s)
 read-refused save overflow at s h =
@@ -76,7 +72,7 @@ read-refused save overflow at s h =
     let r = located-refused (length save) (length overflow) at s h in
     record {
       one-of-them = r .one-of-them;
-      rest-zero = ap (shownAt save overflow) (r .rest-zero) ∙ ap (λ (bytes : List ℕ). record { refusal = l .refusal; bytes = bytes; next = at }) (no-part save overflow (l .refusal) at);
+      rest-zero = ap (shownAt save overflow) (r .rest-zero) ∙ ap (λ (bytes : List ℕ). record { refusal = l .refusal; bytes = bytes; next = at }) (nowhere-part save overflow (l .refusal) at);
     }
 
 pub located-part : (save overflow : ℕ) (at : Offsets) (s : Scalar) → located save overflow at s .refusal ≡ accepted

@@ -27,8 +27,8 @@ use Rattle.ledger.proofs.Fair.{Fair, fair}
 use Rattle.varargs.specs.declared.Offsets.{Offsets}
 use Rattle.varargs.specs.declared.Located.{Located}
 use Rattle.varargs.specs.declared.Area.the-variants.{Overflow}
-use Rattle.varargs.specs.Lists.{unnamedRefusal, isSaveArea, locatedNowhere, overflowStart, inOverflow, standing, located, partOf, shownAt, readsAs}
-use Rattle.varargs.proofs.Lists.{lies-there, ends-within}
+use Rattle.varargs.specs.Lists.{unnamedRefusal, isSaveArea, overflowStart, inOverflow, standing, located, partOf, shownAt, readsAs}
+use Rattle.varargs.proofs.Lists.{lies-there, ends-within, nowhere-part}
 use Rattle.varargs.proofs.Scalars.{Listed, listed, sized, integer-1, integer-2, integer-4, integer-8, integer-16, a-single, a-double, an-x87, a-quad}
 use Rattle.placement.specs.Caller.{Registers, Machine, Whole, Value, State, behindDots, stackStart, stackNext, spread, toFront, stored, saved, placedBy, place}
 use Rattle.placement.specs.Back.{Ready, IsValue, isStacked, stackEnd, offsetsAt, offsetsOf, Keeps, tooShort}
@@ -103,10 +103,6 @@ in-save save overflow start s next = refl
 in-area : (save overflow : List ℕ) (start size : ℕ) (next : Offsets) → partOf save overflow (record { refusal = accepted; area = Overflow; start = start; length = size; next = next }) ≡ take size (drop start overflow)
 unfolding partOf
 in-area save overflow start size next = refl
-
-in-none : (save overflow : List ℕ) (refusal : ℕ) (at : Offsets) → partOf save overflow (locatedNowhere refusal at) ≡ []
-unfolding partOf
-in-none save overflow refusal at = refl
 
 some-word : (n : ℕ) → ltb 0 n ≡ true → eqb n 0 && eqb 0 0 ≡ true → ⊥
 some-word n some e = let z : n ≡ 0 = eqb-true n 0 (both-true (eqb n 0) (eqb 0 0) e .0) in omega (arith, ltb-true 0 n some)
@@ -334,7 +330,7 @@ module _ (st : State) (ready : Ready st) (v : Value) (is : IsValue v) where
           short = λ m w bytes lent stacked early.
               let there : bytes < overflowStart (st .stack) (v .scalar .align) + v .scalar .size = rw (start-same (v .scalar) kind-is) early in
               read-so m w bytes lent _ (stands bytes (st .stack) ∙ sym (ends-within bytes (offsetsOf st) (v .scalar) there))
-              ∙ show _ _ _ [] (in-none _ _ bad-area (offsetsOf st));
+              ∙ show _ _ _ [] (nowhere-part _ _ bad-area (offsetsOf st));
         })
 
   -- ---- whichever it is

@@ -235,3 +235,8 @@ pub part-length : (save overflow : List ℕ) (l : Located) → Inside (length sa
 unfolding partOf
 part-length save overflow l inside =
     length-take-le (l .length) _ (omega (arith, length-drop (l .start) (bytesOf (l .area) save overflow), area-bytes l save overflow, inside))
+
+-- where it is refused there are none
+pub nowhere-part : (save overflow : List ℕ) (refusal : ℕ) (at : Offsets) → partOf save overflow (locatedNowhere refusal at) ≡ []
+unfolding partOf
+nowhere-part save overflow refusal at = refl
