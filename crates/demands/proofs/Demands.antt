@@ -345,6 +345,10 @@ performed-twelve-calls = performing.performed-twelve-calls
 -- that the placing left there. `AllPlaced` and `AllRead` (specs/Lists.antt here) say the same of functions, by their own contracts: each value asked
 -- about, after the dots or as a fixed argument, by whichever function performs that, and each scalar read by `varargs::read`, `find` or the entry.
 
+-- whichever function reads a scalar, it reads what the psABI's rules say (`readsAs`, crates/varargs/specs/Lists.antt): the refusal, the bytes, the offsets
+pub performed-read : (save overflow : List ℕ) (at : Offsets) (s : Scalar) (r : Shown) → IsRead save overflow at s r → r ≡ readsAs save overflow at s
+performed-read = listing.is-read-so
+
 -- a refused read has one of its numbers, no bytes, and the offsets that were handed in
 pub read-refused : (save overflow : List ℕ) (at : Offsets) (s : Scalar) → IsRefusal (readsAs save overflow at s .refusal)
     → RefusedAs readRefusals (readsAs save overflow at s .refusal) (noBytes (readsAs save overflow at s .refusal) at) (readsAs save overflow at s)

@@ -34,7 +34,7 @@ use Rattle.demands.proofs.Performed.{performed-defined, started-defined
 
 -- ---- a read
 
-is-read-so : (save overflow : List ℕ) (at : Offsets) (s : Scalar) (r : Shown) → IsRead save overflow at s r → r ≡ readsAs save overflow at s
+pub is-read-so : (save overflow : List ℕ) (at : Offsets) (s : Scalar) (r : Shown) → IsRead save overflow at s r → r ≡ readsAs save overflow at s
 is-read-so save overflow at s _ (by.read κs sv ov r e hs ho m) = rw (hs, ho) at m
 is-read-so save overflow at s _ (by.find κs sv ov r hs ho m) = ap (shownAt save overflow) (rw (hs, ho) at (m .1))
 is-read-so save overflow at s _ (by.barkpaddle-read-scalar κs sv ov r hs ho m) = rw (rw (hs, ho) at (m .1)) (shown-back save overflow _)
@@ -103,10 +103,6 @@ module _ (save overflow : List ℕ) (at : Offsets) (s : Scalar) (r : Shown) (is 
 
   pub reads-part : r .refusal ≡ accepted → length (r .bytes) ≡ s .size
   reads-part = rw (is-read-so save overflow at s r is) (read-part save overflow at s)
-
-  -- no other function reads anything else
-  pub reads-alike : r ≡ readsAs save overflow at s
-  reads-alike = is-read-so save overflow at s r is
 
 -- ---- a value placed by a function's answer
 
