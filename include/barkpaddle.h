@@ -37,7 +37,7 @@ extern "C" {
 /* The version of this header: one number, raised with each change of the header. A program that may be linked to an archive that was made
  * elsewhere compares it with barkpaddle_version() before it asks anything else. Where they differ the archive goes with another header: it
  * may lack what this one names, or answer what this one doesn't. Link the archive that tools/staticlib makes beside this header. */
-#define BARKPADDLE_VERSION UINT64_C(2)
+#define BARKPADDLE_VERSION UINT64_C(3)
 
 /* The version of the header that the archive goes with. Refuses nothing. */
 uint64_t barkpaddle_version(void);
@@ -223,7 +223,7 @@ uint64_t barkpaddle_version(void);
 #define BARKPADDLE_TRAVEL_AS_ONE_INTEGER UINT64_C(3)
 #define BARKPADDLE_TRAVEL_BY_REFERENCE UINT64_C(4)
 #define BARKPADDLE_TRAVEL_IN_MEMORY UINT64_C(5)
-#define BARKPADDLE_TRAVEL_IN_MEMORY_AND_SPEND UINT64_C(6)
+#define BARKPADDLE_TRAVEL_IN_MEMORY_AND_SPEND UINT64_C(6) /* an argument's words pass registers over: these carry nothing */
 
 /* What happens where an argument's slots want more registers than are left. */
 #define BARKPADDLE_SHORT_UNCHANGED UINT64_C(0)

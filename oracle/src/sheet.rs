@@ -243,7 +243,8 @@ impl Open {
 }
 
 /// Whether the Rust and the rules say the same: the way, its number of slots, and of each bank
-/// that what was there is what was passed over, given and left.
+/// that what was there is what was passed over, given and left. What the Rust has in memory no
+/// register carries (REFERENCE 9.1), so the rules may give it none.
 fn agree(before: Before, pass: &Pass, left: [u64; 2], outcome: Outcome) -> bool {
     let way = match pass {
         Pass::Ignore => Way::Ignore,
@@ -253,7 +254,9 @@ fn agree(before: Before, pass: &Pass, left: [u64; 2], outcome: Outcome) -> bool 
         Pass::Memory => Way::Memory,
     };
     let adds_up = |was: u64, spent: Spent, is: u64| was == spent.passed_over + spent.given + is;
+    let given = outcome.integers.given + outcome.floats.given;
     way == outcome.way
+        && (way != Way::Memory || given == 0)
         && adds_up(before.integers, outcome.integers, left[0])
         && adds_up(before.floats, outcome.floats, left[1])
 }
@@ -304,6 +307,18 @@ mod tests {
     fn another_way_or_number_of_slots_contradicts() {
         assert!(!agree(BEFORE, &Pass::Memory, [5, 8], OUTCOME));
         assert!(!agree(BEFORE, &slots(2), [5, 8], OUTCOME));
+    }
+
+    #[test]
+    fn what_is_in_memory_is_given_nothing() {
+        let spent = Spent { passed_over: 1, given: 0 };
+        let passed = Outcome { way: Way::Memory, integers: spent, floats: Spent::default() };
+        assert!(agree(BEFORE, &Pass::Memory, [5, 8], passed));
+        let given = Outcome { integers: Spent { passed_over: 0, given: 1 }, ..passed };
+        assert!(!agree(BEFORE, &Pass::Memory, [5, 8], given));
+        let float = Spent { passed_over: 0, given: 1 };
+        let given = Outcome { integers: Spent::default(), floats: float, ..passed };
+        assert!(!agree(BEFORE, &Pass::Memory, [6, 7], given));
     }
 
     #[test]

@@ -266,11 +266,12 @@ fn travel(
     let slots = match rule.then {
         Travel::Ignore => return decides(nothing(Way::Ignore)),
         Travel::InMemory => return decides(nothing(Way::Memory)),
-        // In memory, and still an argument takes a register for each of its words.
+        // In memory, and as an argument it passes a register over for each of its words: they
+        // carry nothing.
         Travel::InMemoryAndSpend => {
             return decides(match side {
                 Side::Argument => {
-                    integers(Way::Memory, gives(want(shape.size, row), before.integers))
+                    integers(Way::Memory, passes(want(shape.size, row), before.integers))
                 }
                 Side::Return => nothing(Way::Memory),
             });
@@ -333,6 +334,11 @@ fn want(size: u64, row: &AbiDescription) -> u64 {
 /// Takes so many, or all that are left.
 fn gives(count: u64, left: u64) -> Spent {
     Spent { passed_over: 0, given: count.min(left) }
+}
+
+/// Passes over so many, or all that are left.
+fn passes(count: u64, left: u64) -> Spent {
+    Spent { passed_over: count.min(left), given: 0 }
 }
 
 /// Passes a bank over whole if it was short.

@@ -280,7 +280,8 @@ numbered! {
         ByReference = 4,
         /// As its own bytes in the argument area.
         InMemory = 5,
-        /// The same, with an integer register spent for each of its words.
+        /// The same, and an argument passes an integer register over for each of its words, as far
+        /// as there are any. They carry nothing.
         InMemoryAndSpend = 6,
     }
 }

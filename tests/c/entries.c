@@ -449,7 +449,7 @@ static void twelve(void)
 static void beside_the_twelve(void)
 {
     static const uint64_t seven_passed[] = {0, 8, 7, 0, 0, 0}, seven_given[] = {0, 8, 0, 7, 0, 0};
-    static const uint64_t fastcall_passed[] = {0, 0, 2, 0, 0, 0}, fastcall_given[] = {0, 0, 0, 2, 0, 0};
+    static const uint64_t fastcall_passed[] = {0, 0, 2, 0, 0, 0};
     static const uint64_t marked[] = {7, 8, 0, 1, 0, 0}, one_int[] = {0, 0, 8};
     static const uint64_t float_given[] = {8, 7, 0, 0, 0, 1};
     static const uint64_t all_given[] = {0, 8, 0, 8, 0, 0};
@@ -465,7 +465,7 @@ static void beside_the_twelve(void)
     BARE("seven words evenly", ARGUMENT, call_of(1, 7, 8, 0), scalar(0, 56, 16), BARKPADDLE_WAY_DIRECT, seven_passed);
     BARE("seven words", ARGUMENT, call_of(2, 7, 8, 0), scalar(0, 56, 16), BARKPADDLE_WAY_DIRECT, seven_given);
     BARE("fastcall, wide", ARGUMENT, call_of(22, 2, 0, 0), scalar(0, 8, 8), BARKPADDLE_WAY_DIRECT, fastcall_passed);
-    BARE("fastcall, record", ARGUMENT, call_of(22, 2, 0, 0), aggregate(8, 4, NULL, 0), BARKPADDLE_WAY_MEMORY, fastcall_given);
+    BARE("fastcall, record", ARGUMENT, call_of(22, 2, 0, 0), aggregate(8, 4, NULL, 0), BARKPADDLE_WAY_MEMORY, fastcall_passed);
 
     /* any number but 0 is the mark; it comes back as it was */
     for (mark = 1; mark != 0; mark <<= 1) {
@@ -503,6 +503,86 @@ static void beside_the_twelve(void)
         v.floating = mark;
         BARE("a floating mode on fastcall", ARGUMENT, call_of(22, 2, 0, 0), v, BARKPADDLE_WAY_MEMORY, complex_drain);
     }
+}
+
+/* ---- what carries nothing ---- */
+
+/* A size, its words on 32-bit x86, and the slots that it comes back in where small records do. */
+static const struct sized {
+    uint64_t size, words, slots_count, slots[6];
+} sized[] = {
+    {1, 1, 1, {0, 0, 1}}, {3, 1, 0, {0}}, {4, 1, 1, {0, 0, 4}}, {5, 2, 0, {0}}, {8, 2, 2, {0, 0, 4, 0, 4, 4}}, {9, 3, 0, {0}},
+    {16777216, 4194304, 0, {0}}};
+
+/* fastcall's record of a size as an argument: in memory, and so many of the registers left as it has words are passed over, none given. */
+static void fastcall_argument(enum operation operation, barkpaddle_call c, const struct sized *record)
+{
+    uint64_t passed_over = record->words < c.integer ? record->words : c.integer;
+    const uint64_t passes[6] = {c.integer - passed_over, 0, passed_over, 0, 0, 0}, spends_nothing[6] = {c.integer, 0, 0, 0, 0, 0};
+    value v = aggregate(record->size, 4, NULL, 0);
+
+    BARE("fastcall, a record", operation, c, v, BARKPADDLE_WAY_MEMORY, passes);
+    v.complex_ = 1;
+    BARE("fastcall, a complex record", operation, c, v, BARKPADDLE_WAY_MEMORY, spends_nothing);
+    v.floating = 1;
+    BARE("fastcall, complex and floating", operation, c, v, BARKPADDLE_WAY_MEMORY, spends_nothing);
+    v.complex_ = 0;
+    BARE("fastcall, a floating record", operation, c, v, BARKPADDLE_WAY_MEMORY, spends_nothing);
+}
+
+/* The same record as a result: nothing is passed over. On row 22 every record comes back through an address, on the others the large ones. */
+static void fastcall_return(barkpaddle_call c, const struct sized *record)
+{
+    uint64_t given = c.integer == 0 ? 0 : 1;
+    const uint64_t address[6] = {c.integer - given, 0, 0, given, 0, 0}, spends_nothing[6] = {c.integer, 0, 0, 0, 0, 0};
+    value v = aggregate(record->size, 4, NULL, 0);
+
+    if (c.abi == 22 || record->slots_count == 0)
+        BARE("fastcall, a record back", RETURN, c, v, BARKPADDLE_WAY_REFERENCE, address);
+    else
+        check_line("fastcall, a small record back", RETURN, c, v, BARKPADDLE_WAY_PIECES, spends_nothing, record->slots, record->slots_count);
+}
+
+static void fastcall_refusals(enum operation operation, uint64_t row)
+{
+    static const uint64_t kind_5[] = {5, 4, 4, 0};
+
+    check_refused("fastcall, a kind", operation, call_of(row, 2, 0, 0), aggregate(4, 4, kind_5, 4), ROOM, BARKPADDLE_BAD_KIND);
+    check_refused("fastcall, a size", operation, call_of(row, 2, 0, 0), aggregate(16777217, 4, NULL, 0), ROOM, BARKPADDLE_BAD_SIZE);
+    check_refused("fastcall, three left", operation, call_of(row, 3, 0, 0), aggregate(4, 4, NULL, 0), ROOM, BARKPADDLE_BAD_CALL);
+    check_refused("fastcall, a mark", operation, call_of(row, 2, 0, 1), aggregate(4, 4, NULL, 0), ROOM, BARKPADDLE_BAD_CALL);
+}
+
+/* Registers that a record in memory is counted against carry nothing (REFERENCE 9.1, 9.3): the rows of fastcall, and those beside them. */
+static void carries_nothing(void)
+{
+    static const uint64_t fastcall_rows[] = {22, 23, 27, 29}, rows_beside[] = {24, 25, 26, 28};
+    static const uint64_t no_registers[] = {0, 0, 0, 0, 0, 0};
+    static const enum operation operations[] = {RETURN, ARGUMENT, VARIADIC_ARGUMENT};
+    size_t row, operation, i;
+    uint64_t left;
+
+    for (row = 0; row < COUNT(fastcall_rows); row++) {
+        for (operation = 0; operation < COUNT(operations); operation++)
+            fastcall_refusals(operations[operation], fastcall_rows[row]);
+        for (left = 0; left <= 2; left++) {
+            barkpaddle_call c = call_of(fastcall_rows[row], left, 0, 0);
+            const uint64_t as_it_was[6] = {left, 0, 0, 0, 0, 0};
+
+            for (operation = 0; operation < COUNT(operations); operation++)
+                BARE("fastcall, an empty record", operations[operation], c, aggregate(0, 1, NULL, 0), BARKPADDLE_WAY_IGNORE, as_it_was);
+            for (i = 0; i < COUNT(sized); i++) {
+                fastcall_argument(ARGUMENT, c, &sized[i]);
+                fastcall_argument(VARIADIC_ARGUMENT, c, &sized[i]);
+                fastcall_return(c, &sized[i]);
+            }
+        }
+    }
+    for (row = 0; row < COUNT(rows_beside); row++)
+        for (i = 0; i < COUNT(sized); i++)
+            BARE(
+                "no registers", ARGUMENT, call_of(rows_beside[row], 0, 0, 0), aggregate(sized[i].size, 4, NULL, 0), BARKPADDLE_WAY_MEMORY,
+                no_registers);
 }
 
 /* ---- refused operations ---- */
@@ -1759,6 +1839,7 @@ int main(void)
     starts();
     twelve();
     beside_the_twelve();
+    carries_nothing();
     refusals_of(RETURN);
     refusals_of(ARGUMENT);
     refusals_of(VARIADIC_ARGUMENT);

@@ -1,40 +1,49 @@
--- Which rows a field sets apart: antt computes that no other row has its number, and past the last row none has.
-use mathlib.Core.Path.{_≡_, refl, ap}
-use mathlib.Core.Bool.{Bool, true, false, _&&_, _||_, not}
+-- Which rows a field or a way of travel sets apart: antt computes that no other row has its number, and past the last row none has.
+use mathlib.Core.Path.{_≡_, refl, sym, ap, _∙_}
+use mathlib.Core.Bool.{Bool, true, false, _&&_, _||_, not, false≢true}
 use mathlib.Core.List.{List, [], _∷_}
+use mathlib.Core.Logic.{_⊎_, inl, inr}
 use Prim.Native.Nat.{ℕ, zero, suc, _+_}
 use native.Mathlib.Omega.{arith}
 use borrow.Author.Tests.{eq-eqb}
 use lib.Dec.{T, eqb, eqb→eq}
 use lib.ListN.{getD}
-use Rattle.shape.proofs.Bools.{and-left, and-right}
+use Rattle.shape.proofs.Bools.{and-left, and-right, or-cases}
+use Rattle.shape.specs.Numbers.{oneIf}
 use Rattle.describe.specs.declared.Variadic.the-variants.{AlwaysMemory, IntegersOnly, UnnamedIntegers}
 use Rattle.describe.specs.declared.StackArgs.the-variants.{Packed}
 use Rattle.describe.specs.Description.{Description}
 use Rattle.rows.specs.Codes.{variadicCode, stackArgsCode}
 use Rattle.abis.specs.Abis.{described, descriptions, blank}
+use Rattle.abis.specs.Apart.{isFastcall, spendsInMemory}
 
--- Of the rows from i on, none but row k has the number n.
-abbrev onlyAt : (Description → ℕ) → ℕ → ℕ → ℕ → List Description → Bool
-onlyAt code n k i [] = true
-onlyAt code n k i (D ∷ Ds) = (not (eqb (code D) n) || eqb i k) && onlyAt code n k (suc i) Ds
+-- Of the rows from i on, none but those within has the number n.
+abbrev onlyWithin : (Description → ℕ) → ℕ → (ℕ → Bool) → ℕ → List Description → Bool
+onlyWithin code n within i [] = true
+onlyWithin code n within i (D ∷ Ds) = (not (eqb (code D) n) || within i) && onlyWithin code n within (suc i) Ds
 
 the-one : (a b : Bool) → T (not a || b) → a ≡ true → T b
 the-one true b t e = t
-the-one false b t e = absurd (let z : _≡_ {A = ℕ} 0 1 = cc in omega arith)
+the-one false b t e = absurd (false≢true e)
 
-from : (code : Description → ℕ) (n k : ℕ) → (code blank ≡ n → ⊥) → (Ds : List Description) (i : ℕ) → T (onlyAt code n k i Ds) → (j : ℕ) → code (getD Ds j blank) ≡ n → i + j ≡ k
-from code n k none [] i t j e = absurd (none e)
-from code n k none (D ∷ Ds) i t zero e =
-    let at : i ≡ k = eqb→eq i k (the-one (eqb (code D) n) (eqb i k) (and-left (not (eqb (code D) n) || eqb i k) (onlyAt code n k (suc i) Ds) t) (eq-eqb (code D) n e)) in
-    omega arith
-from code n k none (D ∷ Ds) i t (suc j) e =
-    let later : suc i + j ≡ k = from code n k none Ds (suc i) (and-right (not (eqb (code D) n) || eqb i k) (onlyAt code n k (suc i) Ds) t) j e in
-    omega arith
+from : (code : Description → ℕ) (n : ℕ) (within : ℕ → Bool) → (code blank ≡ n → ⊥) → (Ds : List Description) (i : ℕ) → T (onlyWithin code n within i Ds)
+    → (j k : ℕ) → k ≡ i + j → code (getD Ds j blank) ≡ n → T (within k)
+from code n within none [] i t j k ek e = absurd (none e)
+from code n within none (D ∷ Ds) i t zero k ek e =
+    let here : k ≡ i = omega arith in
+    rw here (the-one (eqb (code D) n) (within i) (and-left (not (eqb (code D) n) || within i) (onlyWithin code n within (suc i) Ds) t) (eq-eqb (code D) n e))
+from code n within none (D ∷ Ds) i t (suc j) k ek e =
+    from code n within none Ds (suc i) (and-right (not (eqb (code D) n) || within i) (onlyWithin code n within (suc i) Ds) t) j k (omega arith) e
 
-only : (code : Description → ℕ) (n k : ℕ) → (code blank ≡ n → ⊥) → T (onlyAt code n k 0 descriptions) → (d : ℕ) → code (described d) ≡ n → d ≡ k
+only-within : (code : Description → ℕ) (n : ℕ) (within : ℕ → Bool) → (code blank ≡ n → ⊥) → T (onlyWithin code n within 0 descriptions)
+    → (d : ℕ) → code (described d) ≡ n → T (within d)
 unfolding described
-only code n k none t d e = let there : 0 + d ≡ k = from code n k none descriptions 0 t d e in omega arith
+only-within code n within none t d e = from code n within none descriptions 0 t d d (omega arith) e
+
+-- ---- one row alone
+
+only : (code : Description → ℕ) (n k : ℕ) → (code blank ≡ n → ⊥) → T (onlyWithin code n (λ i. eqb i k) 0 descriptions) → (d : ℕ) → code (described d) ≡ n → d ≡ k
+only code n k none t d e = eqb→eq d k (only-within code n (λ i. eqb i k) none t d e)
 
 pub integers-only : (described 3 .variadic ≡ IntegersOnly) × ((d : ℕ) → described d .variadic ≡ IntegersOnly → d ≡ 3)
 unfolding described descriptions
@@ -55,3 +64,46 @@ pub packed : (described 2 .«stack_args» ≡ Packed) × ((d : ℕ) → describe
 unfolding described descriptions
 packed =
     (refl, λ d e. only (λ (D : Description). stackArgsCode (D .«stack_args»)) 1 2 (λ h. omega arith) tt d (ap stackArgsCode e))
+
+-- ---- several rows, and none
+
+exactly : (has : Description → Bool) (within : ℕ → Bool) → has blank ≡ false → T (onlyWithin (λ D. oneIf (has D)) 1 within 0 descriptions)
+    → ((d : ℕ) → T (within d) → has (described d) ≡ true) → (d : ℕ) → has (described d) ≡ within d
+exactly has within none t there d = go (has (described d)) refl (within d) refl
+  where
+    nowhere : oneIf (has blank) ≡ 1 → ⊥
+    nowhere h = let z : oneIf false ≡ 1 = rw none at h in omega arith
+
+    go : (x : Bool) → has (described d) ≡ x → (y : Bool) → within d ≡ y → x ≡ y
+    go true e true w = refl
+    go true e false w = absurd (rw w at (only-within (λ D. oneIf (has D)) 1 within nowhere t d (rw e)))
+    go false e true w = absurd (false≢true (sym e ∙ there d (rw w tt)))
+    go false e false w = refl
+
+-- What holds of each row of fastcall.
+pub each-fastcall : (P : ℕ → Type 0) → P 22 → P 23 → P 27 → P 29 → (d : ℕ) → T (isFastcall d) → P d
+each-fastcall P p22 p23 p27 p29 d t = third (or-cases ((eqb d 22 || eqb d 23) || eqb d 27) (eqb d 29) t)
+  where
+    row : (n : ℕ) → P n → T (eqb d n) → P d
+    row n p h = rw (eqb→eq d n h) p
+
+    first : T (eqb d 22) ⊎ T (eqb d 23) → P d
+    first (inl h) = row 22 p22 h
+    first (inr h) = row 23 p23 h
+
+    second : T (eqb d 22 || eqb d 23) ⊎ T (eqb d 27) → P d
+    second (inl h) = first (or-cases (eqb d 22) (eqb d 23) h)
+    second (inr h) = row 27 p27 h
+
+    third : T ((eqb d 22 || eqb d 23) || eqb d 27) ⊎ T (eqb d 29) → P d
+    third (inl h) = second (or-cases (eqb d 22 || eqb d 23) (eqb d 27) h)
+    third (inr h) = row 29 p29 h
+
+-- The rows whose rules for arguments have InMemoryAndSpend are those of fastcall, and no row's rules for returns have it.
+pub in-memory-and-spend : ((d : ℕ) → spendsInMemory (described d .arguments) ≡ isFastcall d) × ((d : ℕ) → spendsInMemory (described d .returns) ≡ false)
+unfolding described descriptions
+in-memory-and-spend = (
+  exactly (λ (D : Description). spendsInMemory (D .arguments)) isFastcall refl tt
+      (each-fastcall (λ (d : ℕ). spendsInMemory (described d .arguments) ≡ true) refl refl refl refl),
+  exactly (λ (D : Description). spendsInMemory (D .returns)) (λ d. false) refl tt (λ d t. absurd t),
+)

@@ -135,6 +135,10 @@ module _ (arg : args.Arg) (ps : List Piece) (left : Left) where
         → Chooses (passed p (less n left)) (chosen (made.plain way (made.spends 0 (min n I) 0 0)) when)
     takes-integers p way n ew es = plainly p way _ _ 0 (min n I) 0 0 ew es (omega arith)
 
+    passes-integers : (p : Pass) (way : Way) (n : ℕ) → wayOf p ≡ way → passSlots p ≡ []
+        → Chooses (passed p (less n left)) (chosen (made.plain way (made.spends (min n I) 0 0 0)) when)
+    passes-integers p way n ew es = plainly p way _ _ (min n I) 0 0 0 ew es (omega arith)
+
     spends-nothing : (p : Pass) (way : Way) → wayOf p ≡ way → passSlots p ≡ [] → Chooses (passed p left) (chosen (made.plain way made.nothing) when)
     spends-nothing p way ew es = plainly p way _ _ 0 0 0 0 ew es (omega arith)
 
@@ -278,7 +282,7 @@ module _ (arg : args.Arg) (ps : List Piece) (left : Left) where
     travels D InMemory short shape returning ss es = spends-nothing when memory _ refl refl
     travels D InMemoryAndSpend short shape true ss es = spends-nothing when memory _ refl refl
     travels D InMemoryAndSpend short shape false ss es =
-        rw (registers-wanted (shape .size) (D .banks .«integer_width»)) (takes-integers when memory _ _ refl refl)
+        rw (registers-wanted (shape .size) (D .banks .«integer_width»)) (passes-integers when memory _ _ refl refl)
 
 -- ---- the walk over the rules
 

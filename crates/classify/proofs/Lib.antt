@@ -6,5 +6,7 @@ pub mod Accepted
 pub mod Ends
 pub mod Walking
 pub mod Operations
+pub mod Given
+pub mod Fastcall
 pub mod Eight
 mod Unique

@@ -217,6 +217,13 @@ module _ (source : ℕ) (D : Description) (c : Call) (arg : args.Arg) (ws out : 
       → Leaves (answerTo refusal c p (k .decision .spent) out) (writtenTo refusal p out) r after
   meets r after e = record { answers = e .answers ∙ answer-is; writes = e .writes ∙ words-are }
 
+-- after the dots they agree where the checks pass
+pub agreed : (source : ℕ) (D : Description) (c : Call) (arg : args.Arg) (ws : List ℕ) → refusalBy source D c arg ws ≡ accepted
+    → Agrees (c .left) (rust.variadicArgument D (c .left) arg (piecesOf ws)) (rules.variadicArgumentChoice D (c .left) arg (piecesOf ws) .decision)
+    (slotsFor (rules.variadicArgumentChoice D (c .left) arg (piecesOf ws)) arg (piecesOf ws))
+agreed source D c arg ws z =
+    variadic-argument-agrees D (c .left) arg (piecesOf ws) (λ e. unmarked D c (sound source D c (call-checked source D c arg ws z) .1) (rw e))
+
 module _ (source : ℕ) (D : Description) (c : Call) (arg : args.Arg) (ws out : List ℕ) (r : Answer) (after : List ℕ) where
   pub returns-by : parts.From source D true false c arg ws out r after → Leaves (returnsAnswerBy source D c arg ws out) (returnsWrittenBy source D c arg ws out) r after
   unfolding returnsAnswerBy returnsWrittenBy refusalBy rules.returnChoice parts.performedBy parts.performedByIn
@@ -226,15 +233,10 @@ module _ (source : ℕ) (D : Description) (c : Call) (arg : args.Arg) (ws out : 
   unfolding argumentAnswerBy argumentWrittenBy refusalBy rules.argumentChoice parts.performedBy parts.performedByIn
   argument-by = meets source D c arg ws out _ _ (λ _. argument-agrees D (c .left) arg (piecesOf ws)) r after
 
-  agreed : refusalBy source D c arg ws ≡ accepted
-      → Agrees (c .left) (rust.variadicArgument D (c .left) arg (piecesOf ws)) (rules.variadicArgumentChoice D (c .left) arg (piecesOf ws) .decision)
-      (slotsFor (rules.variadicArgumentChoice D (c .left) arg (piecesOf ws)) arg (piecesOf ws))
-  agreed z = variadic-argument-agrees D (c .left) arg (piecesOf ws) (λ e. unmarked D c (sound source D c (call-checked source D c arg ws z) .1) (rw e))
-
   pub variadic-argument-by : parts.From source D false true c arg ws out r after
       → Leaves (variadicArgumentAnswerBy source D c arg ws out) (variadicArgumentWrittenBy source D c arg ws out) r after
   unfolding variadicArgumentAnswerBy variadicArgumentWrittenBy refusalBy rules.variadicArgumentChoice parts.performedBy parts.performedByIn
-  variadic-argument-by = meets source D c arg ws out _ _ agreed r after
+  variadic-argument-by = meets source D c arg ws out _ _ (agreed source D c arg ws) r after
 
 -- ---- the operations of a call on a row
 

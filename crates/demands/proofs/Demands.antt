@@ -22,14 +22,18 @@ use Rattle.checks.specs.Check.{orElse, listRefusal, piecesRefusal}
 use Rattle.layouts.specs.Record.{isFloating, recorded, recordAnswer}
 use Rattle.layouts.specs.Members.{membersRefusal, placed, piecesWords, piecesAnswer, piecesWritten}
 use Rattle.describe.specs.Questions.{isByReference, returnsByReference, wideReturnsIn}
+use Rattle.describe.specs.Description.{Description}
 use Rattle.abis.specs.Abis.{described, description-count}
+use Rattle.abis.specs.Apart.{isFastcall, spendsInMemory}
 use Rattle.abis.specs.Answers.{isByReferenceAnswer, returnsByReferenceAnswer, wideReturnsInAnswer, nameAnswer, nameWritten}
+use Rattle.abis.proofs.Apart as apart
 use Rattle.targets.specs.Codes.{isTarget, isConvention, architectureOf, systemOf, conventionOf, codeOf, noneNumber}
 use Rattle.targets.specs.Followed.{forTarget, forConvention, calleePops}
 use Rattle.targets.specs.Answers.{numberOf, targetAnswer, conventionAnswer, popsAnswer}
 use Rattle.attributes.specs.Attributes.{asked}
 use Rattle.attributes.specs.Spellings.{attribute}
 use Rattle.attributes.specs.Answers.{askedAnswer, attributeAnswer, attributeWritten}
+use Rattle.spend.specs.declared.Way.the-variants.{Memory}
 use Rattle.spend.specs.Ways.{marked, wayNumber}
 use Rattle.stack_align.specs.InMemory.{inMemory}
 use Rattle.classify.specs.declared.Call.{Call}
@@ -37,7 +41,7 @@ use Rattle.classify.specs.declared.Answer.{Answer}
 use Rattle.classify.specs.Pass.{wayOf}
 use Rattle.classify.specs.Classify as rust
 use Rattle.classify.specs.Answers.{unmarked, callWith, refusalOf, done, freshAnswer, variadicAnswer, inMemoryAnswer}
-use Rattle.ledger.specs.Ledger.{Operation, mark, return, argument, variadic-argument, integers, floats, bufferOf, answerFor, writtenFor, callAfter, history, Ledger}
+use Rattle.ledger.specs.Ledger.{Operation, mark, return, argument, variadic-argument, answerBy, answerFor, bufferOf, writtenFor, callAfter, history, Bank, integers, floats, given, Ledger}
 use Rattle.ledger.specs.Twelve.{Entry, twelve, callOn, answeredTo, expected}
 use Rattle.ledger.proofs.Ledger.{ledger}
 use Rattle.ledger.proofs.Twelve as calls
@@ -64,12 +68,14 @@ use Rattle.export_questions.specs.Descriptions.{noDescription, fieldsOf, descri
 use Rattle.demands.specs.Refusals.{refusalsOf, numberRefusals, inMemoryRefusals, memberRefusals, recordRefusals, nameRefusals, attributeRefusals, questionRefusals, readRefusals, IsRefusal, Refused, RefusedTold, RefusedAs, noRecord, noRule, noBytes}
 use Rattle.demands.specs.Rust.{rustPasses, rulesSpend, Accepts, AsRust, recordAlign, recordSize}
 use Rattle.demands.specs.Standards.{SaysArgument, SaysResult}
-use Rattle.demands.specs.Performed.{Started, Performed, AllPerformed}
+use Rattle.demands.specs.Performed.{Started, Asks, Performed, AllPerformed}
+use Rattle.demands.specs.Fastcall.{fastcallOutcome}
 use Rattle.demands.specs.Lists.{AllPlaced, IsRead, AllRead}
 use Rattle.demands.proofs.Refusing as refusing
 use Rattle.demands.proofs.Answering as answering
 use Rattle.demands.proofs.Performed as performing
 use Rattle.demands.proofs.Listing as listing
+use Rattle.demands.proofs.Carried as carried
 
 -- ---- Demand 1: every entry answers every input; a refusal is one of its numbers, all else is 0, and what was handed in or lent is as it was
 
@@ -307,7 +313,7 @@ pub performed-result-is-aapcs64 : (c : Call) (shape : Shape) (words out : List �
     → SaysResult c shape words natural a out after
 performed-result-is-aapcs64 = performing.result-aapcs64
 
--- ---- Demand 3: the ledger
+-- ---- Demand 3: the ledger, and what the registers carry
 
 -- any description, any operations in any order, refused ones among them, after any number of them: `Ledger` has one clause for each sentence of
 -- REFERENCE 10
@@ -319,6 +325,30 @@ every-register-once = ledger
 pub every-register-once-performed : (d : ℕ) → d < description-count → (first : Answer) → Started d first → (ops : List Operation) (past : List Answer)
     → AllPerformed (first .next) ops past → (past ≡ history d ops) × ((n : ℕ) → Ledger d (take n past))
 every-register-once-performed = performing.ledger-performed
+
+-- what travels as Memory is given nothing, on any description and with any refusals of its source: a given register carries the value or its
+-- address, and this value's bytes are in the argument area
+pub memory-is-given-nothing : (source : ℕ) (D : Description) (op : Operation) (c : Call) → answerBy source D op c .outcome .way ≡ wayNumber Memory
+    → (b : Bank) → given b (answerBy source D op c) ≡ 0
+memory-is-given-nothing = carried.memory-is-given-nothing
+
+-- the same, whichever function performed it
+pub performed-memory-is-given-nothing : (c : Call) (op : Operation) (a : Answer) (after : List ℕ) → Performed c op a after → a .outcome .way ≡ wayNumber Memory
+    → (b : Bank) → given b a ≡ 0
+performed-memory-is-given-nothing = performing.performed-memory-is-given-nothing
+
+-- an aggregate in memory is counted against registers (InMemoryAndSpend) as an argument of descriptions 22, 23, 27 and 29, fastcall's, and nowhere else
+pub counted-in-memory : ((d : ℕ) → spendsInMemory (described d .arguments) ≡ isFastcall d) × ((d : ℕ) → spendsInMemory (described d .returns) ≡ false)
+counted-in-memory = apart.in-memory-and-spend
+
+-- and these registers are passed over: the whole outcome of an aggregate argument there, fixed or after the dots (`fastcallOutcome`)
+pub fastcall-aggregate : (c : Call) → isFastcall (c .abi) ≡ true → (shape : Shape) (op : Operation) → Asks (Aggregate shape) op → answerFor op c .outcome .refusal ≡ accepted
+    → answerFor op c .outcome ≡ fastcallOutcome shape (c .left .integer)
+fastcall-aggregate = carried.fastcall-aggregate
+
+pub performed-fastcall-aggregate : (c : Call) (op : Operation) (a : Answer) (after : List ℕ) → Performed c op a after → isFastcall (c .abi) ≡ true
+    → (shape : Shape) → Asks (Aggregate shape) op → a .outcome .refusal ≡ accepted → a .outcome ≡ fastcallOutcome shape (c .left .integer)
+performed-fastcall-aggregate = performing.performed-fastcall-aggregate
 
 -- what an entry hands back in numbers the next one reads as it was: every number of a call, its mark too
 pub call-read-back : (c : Call) → callFrom (c .abi) (c .left .integer) (c .left .float) (c .left .«integers_only») ≡ c

@@ -4,3 +4,4 @@ mod Refusing
 mod Answering
 mod Performed
 mod Listing
+mod Carried

@@ -6,6 +6,7 @@ use mathlib.Core.List.{List, [], _∷_, _++_}
 use native.Mathlib.Omega.{arith}
 use lib.Dec.{ltb, eqb}
 use lib.ListN.{length, take}
+use Rattle.shape.specs.declared.Arg as args
 use Rattle.shape.specs.declared.Scalar.{Scalar}
 use Rattle.shape.specs.Numbers.{quad, accepted, bad-kind, bad-size, bad-align, most-size, most-align}
 use Rattle.classify.specs.declared.Call.{Call}
@@ -26,9 +27,9 @@ use Rattle.placement.proofs.Back as theorems
 use Rattle.export_varargs.specs.Numbers.{partNumbers, areaFrom}
 use Rattle.export_varargs.proofs.Shown.{area-back, shown-back}
 use Rattle.demands.specs.Refusals.{IsRefusal, OneOf, isOneOf, RefusedAs, readRefusals, noBytes}
-use Rattle.demands.specs.Performed.{Started, Performed, AllPerformed}
+use Rattle.demands.specs.Performed.{Started, Performed, Asks, as-fixed, as-variadic, AllPerformed}
 use Rattle.demands.specs.Lists as by
-use Rattle.demands.specs.Lists.{Asks, AllPlaced, IsRead, AllRead}
+use Rattle.demands.specs.Lists.{AllPlaced, IsRead, AllRead}
 use Rattle.demands.proofs.Refusing.{refuse-within, Within}
 use Rattle.demands.proofs.Performed.{performed-defined, started-defined, ledger-performed}
 
@@ -106,12 +107,12 @@ module _ (save overflow : List ℕ) (at : Offsets) (s : Scalar) (r : Shown) (is 
 
 -- ---- a value placed by a function's answer
 
-answered-so : (st : State) → Ready st → (v : Value) → IsValue v → (op : Operation) (a : Answer) (after : List ℕ) → Asks (v .scalar) op → Performed (st .call) op a after
+answered-so : (st : State) → Ready st → (v : Value) → IsValue v → (op : Operation) (a : Answer) (after : List ℕ) → Asks (args.the-variants.Scalar (v .scalar)) op → Performed (st .call) op a after
     → placedBy a st v ≡ place st v
-answered-so st ready v is _ a after (by.as-variadic words out) p =
+answered-so st ready v is _ a after (as-variadic words out) p =
     ap (λ (x : Answer). placedBy x st v)
     (performed-defined (st .call) _ a after p .answers ∙ asked-so (st .call) (ready .row) (ready .passes) (v .scalar) (listed (v .scalar) (is .taken)) words out)
-answered-so st ready v is _ a after (by.as-fixed words out) p =
+answered-so st ready v is _ a after (as-fixed words out) p =
     ap (λ (x : Answer). placedBy x st v)
     (performed-defined (st .call) _ a after p .answers ∙ alike (st .call) (ready .row) _ words out
     ∙ asked-so (st .call) (ready .row) (ready .passes) (v .scalar) (listed (v .scalar) (is .taken)) words out)

@@ -11,6 +11,8 @@ use Rattle.shape.specs.declared.Shape.{Shape}
 use Rattle.shape.specs.Numbers.{accepted}
 use Rattle.shape.specs.Words.{piecesOf}
 use Rattle.abis.specs.Abis.{described, description-count}
+use Rattle.abis.specs.Apart.{isFastcall}
+use Rattle.spend.specs.declared.Way.the-variants.{Memory}
 use Rattle.spend.specs.Ways.{wayNumber, marked}
 use Rattle.classify.specs.declared.Call.{Call}
 use Rattle.classify.specs.declared.Answer.{Answer}
@@ -19,7 +21,7 @@ use Rattle.classify.specs.Pass.{wayOf}
 use Rattle.classify.specs.Classify as rust
 use Rattle.classify.specs.Answers.{Leaves, unmarked, callWith, done, freshAnswer}
 use Rattle.classify.proofs.Operations.{by-void}
-use Rattle.ledger.specs.Ledger.{Operation, mark, return, argument, bufferOf, answerFor, writtenFor, answersFrom, history, Ledger}
+use Rattle.ledger.specs.Ledger.{Operation, mark, return, argument, bufferOf, answerFor, writtenFor, answersFrom, history, Bank, given, Ledger}
 use Rattle.ledger.specs.Twelve.{Entry, twelve, callOn, expected}
 use Rattle.ledger.proofs.Ledger.{ledger}
 use Rattle.ledger.proofs.Twelve.{call-of-twelve}
@@ -34,10 +36,12 @@ use Rattle.aapcs64.proofs.Answered as row-1
 use Rattle.demands.specs.Refusals.{numberRefusals, refusalsOf, IsRefusal, Refused}
 use Rattle.demands.specs.Rust.{rustPasses, rulesSpend, Accepts, AsRust}
 use Rattle.demands.specs.Standards.{SaysArgument, SaysResult}
+use Rattle.demands.specs.Fastcall.{fastcallOutcome}
 use Rattle.demands.proofs.Refusing.{operation-refused, fresh-refused}
 use Rattle.demands.proofs.Answering.{operation-accepts, operation-as-rust, operation-way, fresh-as-rust, fresh-is-unmarked, mark-marks}
+use Rattle.demands.proofs.Carried.{row-is-given-nothing, fastcall-aggregate}
 use Rattle.demands.specs.Performed as by
-use Rattle.demands.specs.Performed.{Started, Performed, AllPerformed, leaving}
+use Rattle.demands.specs.Performed.{Started, Asks, Performed, AllPerformed, leaving}
 
 -- ---- an operation
 
@@ -99,6 +103,15 @@ module _ (c : Call) (op : Operation) (a : Answer) (after : List ℕ) (p : Perfor
   pub performed-way : a .outcome .way ≡ cond (eqb (a .outcome .refusal) accepted) (wayNumber (wayOf (rustPasses op c .pass))) 0
   performed-way =
       by-definition c op a after p (λ a after. a .outcome .way ≡ cond (eqb (a .outcome .refusal) accepted) (wayNumber (wayOf (rustPasses op c .pass))) 0) (operation-way op c)
+
+  pub performed-memory-is-given-nothing : a .outcome .way ≡ wayNumber Memory → (b : Bank) → given b a ≡ 0
+  performed-memory-is-given-nothing =
+      by-definition c op a after p (λ a after. a .outcome .way ≡ wayNumber Memory → (b : Bank) → given b a ≡ 0) (row-is-given-nothing op c)
+
+  pub performed-fastcall-aggregate : isFastcall (c .abi) ≡ true → (shape : Shape) → Asks (Aggregate shape) op → a .outcome .refusal ≡ accepted
+      → a .outcome ≡ fastcallOutcome shape (c .left .integer)
+  performed-fastcall-aggregate row shape asks =
+      by-definition c op a after p (λ a after. a .outcome .refusal ≡ accepted → a .outcome ≡ fastcallOutcome shape (c .left .integer)) (fastcall-aggregate c row shape op asks)
 
 pub performed-mark-marks : (c : Call) (a : Answer) (after : List ℕ) → Performed c mark a after → Accepts mark c
     → marked (a .next .left) ≡ rust.isIntegersOnly (described (c .abi) .variadic)

@@ -4,3 +4,4 @@ pub mod Standards
 pub mod Performed
 pub mod Contracts
 pub mod Lists
+pub mod Fastcall

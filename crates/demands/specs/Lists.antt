@@ -9,7 +9,7 @@ use denote.Triple.Clauses.{AtExit}
 use Rattle.shape.specs.declared.Arg.the-variants.{Scalar}
 use Rattle.shape.specs.declared.Scalar as scalars
 use Rattle.classify.specs.declared.Answer.{Answer}
-use Rattle.ledger.specs.Ledger.{Operation, argument, variadic-argument}
+use Rattle.ledger.specs.Ledger.{Operation}
 use Rattle.varargs.specs.declared.Offsets.{Offsets}
 use Rattle.varargs.specs.declared.Located.{Located}
 use Rattle.varargs.specs.declared.Reading.{Reading}
@@ -21,20 +21,15 @@ use Rattle.placement.specs.Caller.{Value, State, placedBy}
 use Rattle.export_varargs.specs.declared.Part.{Part}
 use Rattle.export_varargs.specs.Numbers.{shownBy}
 use Rattle.export_varargs.proofs.barkpaddle_read_scalar.Reads as entry-read-scalar
-use Rattle.demands.specs.Performed.{Performed, MetAlone}
+use Rattle.demands.specs.Performed.{Performed, Asks, MetAlone}
 
 -- ---- placed
-
--- what asks about a scalar: an argument after the dots, or a fixed one
-pub data Asks (s : scalars.Scalar) : Operation → Type 0 where
-  as-variadic : (words out : List ℕ) → Asks s (variadic-argument (Scalar s) words out)
-  as-fixed : (words out : List ℕ) → Asks s (argument (Scalar s) words out)
 
 -- each value is asked about on the call that the answer before handed back, by any function that performs this, and placed as it was answered
 pub data AllPlaced : State → List Value → State → Type 0 where
   none : (st : State) → AllPlaced st [] st
   next : (st to : State) (v : Value) (vs : List Value) (op : Operation) (a : Answer) (after : List ℕ)
-      → Asks (v .scalar) op → Performed (st .call) op a after → AllPlaced (placedBy a st v) vs to → AllPlaced st (v ∷ vs) to
+      → Asks (Scalar (v .scalar)) op → Performed (st .call) op a after → AllPlaced (placedBy a st v) vs to → AllPlaced st (v ∷ vs) to
 
 -- ---- read
 

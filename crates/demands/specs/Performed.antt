@@ -68,6 +68,12 @@ pub data Started (d : ℕ) (a : Answer) : Type 0 where
   fresh : (κs : Lfts 0) → MetAlone (call-fresh.Post κs) (d, tt) a → Started d a
   barkpaddle-fresh : (κs : Lfts 0) → MetAlone (entry-fresh.Post κs) (d, tt) a → Started d a
 
+-- ---- what asks about an argument: the operation on a fixed one, or on one after the dots
+
+pub data Asks (arg : Arg) : Operation → Type 0 where
+  as-fixed : (words out : List ℕ) → Asks arg (asks.argument arg words out)
+  as-variadic : (words out : List ℕ) → Asks arg (asks.variadic-argument arg words out)
+
 -- ---- an operation is performed: on which call, what it is, the answer, and the words of the buffer afterwards
 
 pub data Performed (c : Call) : Operation → Answer → List ℕ → Type 0 where

@@ -71,7 +71,7 @@ module _ (returning : Bool) (I want : ℕ) (r : Decision) where
   pub memory-back : returning ≡ true → r ≡ memory 0 0 0 0 → r ≡ inMemoryAndSpend returning I want
   memory-back h er = rw (er, h)
 
-  pub memory-out : returning ≡ false → (n : ℕ) → n ≡ min want I → r ≡ memory 0 n 0 0 → r ≡ inMemoryAndSpend returning I want
+  pub memory-out : returning ≡ false → (n : ℕ) → n ≡ min want I → r ≡ memory n 0 0 0 → r ≡ inMemoryAndSpend returning I want
   memory-out h n en er = rw (er, en, h)
 
 module _ (shared returning : Bool) (left : Left) (short : Short) (found : Wanted) where

@@ -86,9 +86,10 @@ inSlots shared returning left short found =
 abbrev pub byReference : ReturnPointer → Bool → ℕ → Decision
 byReference pointer returning I = cond returning (byPointer pointer I) (reference (takes 1 I))
 
--- InMemoryAndSpend on an argument: given takes want of I. fastcall's records, which gcc counts against ecx and edx though they are on the stack
+-- InMemoryAndSpend on an argument: passes over takes want of I. fastcall's records, which gcc counts against ecx and edx though they are on the
+-- stack: these registers carry nothing, so they aren't given
 abbrev pub inMemoryAndSpend : Bool → ℕ → ℕ → Decision
-inMemoryAndSpend returning I want = cond returning (memory 0 0 0 0) (memory 0 (takes want I) 0 0)
+inMemoryAndSpend returning I want = cond returning (memory 0 0 0 0) (memory (takes want I) 0 0 0)
 
 abbrev pub travelBy : Travel → Banks → ReturnPointer → Bool → Left → Short → ℕ → Wanted → tries.Tried
 travelBy Ignore B pointer returning left short size found = tries.the-variants.Decided (plain ways.the-variants.Ignore nothing)

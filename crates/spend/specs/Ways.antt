@@ -1,5 +1,6 @@
 -- Ways, their numbers, and the parts that a decision is made of (REFERENCE 9).
 use Prim.Native.Nat.{ℕ, _-_}
+use mathlib.Core.Path.{_≡_}
 use mathlib.Core.Bool.{Bool, not}
 use mathlib.Core.List.{[], _∷_}
 use lib.Dec.{eqb}
@@ -45,6 +46,15 @@ spends ip ig fp fg = record { «integers_passed» = ip; «integers_given» = ig;
 
 abbrev pub nothing : Spent
 nothing = spends 0 0 0 0
+
+-- no register of either bank carries anything
+abbrev pub NoneGiven : Spent → Type 0
+NoneGiven spent = (spent .«integers_given» ≡ 0) × (spent .«floats_given» ≡ 0)
+
+-- what travels as Memory is given nothing: a given register carries the value or its address, and this value's bytes are in the argument area. It
+-- is said of a way's number, as answers have it, and of what is spent
+abbrev pub MemoryIsGivenNothing : ℕ → Spent → Type 0
+MemoryIsGivenNothing way spent = way ≡ wayNumber Memory → NoneGiven spent
 
 -- a way without slots
 abbrev pub plain : Way → Spent → Decision

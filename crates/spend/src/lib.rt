@@ -153,13 +153,14 @@ pub fn by_pointer(pointer: ReturnPointer, left: u64) -> Decision
     }
 }
 
+// In memory, and on an argument its words are counted against the registers, which carry nothing: they are passed over.
 fn in_memory_and_spend(returning: bool, left: u64, want: u64) -> Decision
     ensures { λ r. ⌜ r ≡ inMemoryAndSpend returning left want ⌝ }
 {
     if returning {
         return integers(Way::Memory, 0, 0);
     }
-    integers(Way::Memory, 0, shape::least(want, left))
+    integers(Way::Memory, shape::least(want, left), 0)
 }
 
 // Slots on a return spend nothing; on an argument they cost registers.

@@ -109,9 +109,12 @@ fn what_carries_nothing_is_passed_over() {
     // fastcall: a wide integer is in memory and no register survives it.
     assert_eq!(last(22, &[], &[&[3, 1, 0, 8, 8]]), "direct 0 0 2 0 0 0");
     assert_eq!(last(22, &[(INT4, 1)], &[&[3, 1, 0, 8, 8]]), "direct 0 0 1 0 0 0");
-    // An aggregate in memory that spends is given what it spends.
-    assert_eq!(last(22, &[], &[&[3, 2, 8, 4, 0, 0]]), "memory 0 0 0 2 0 0");
-    assert_eq!(last(22, &[], &[&[3, 2, 3, 1, 0, 0]]), "memory 1 0 0 1 0 0");
+    // fastcall: an aggregate is in memory and its words are counted against the registers, as far
+    // as there are any. Nothing is in them.
+    assert_eq!(last(22, &[], &[&[3, 2, 8, 4, 0, 0]]), "memory 0 0 2 0 0 0");
+    assert_eq!(last(22, &[], &[&[3, 2, 3, 1, 0, 0]]), "memory 1 0 1 0 0 0");
+    assert_eq!(last(22, &[], &[&[3, 2, 4, 4, 0, 0]]), "memory 1 0 1 0 0 0");
+    assert_eq!(last(22, &[(INT4, 1)], &[&[3, 2, 12, 4, 0, 0]]), "memory 0 0 1 0 0 0");
 }
 
 #[test]

@@ -1,4 +1,4 @@
--- `in_memory_and_spend` spends for an argument alone.
+-- `in_memory_and_spend` passes over for an argument alone.
 use Rattle.spend.proofs.Spending.{memory-back, memory-out}
 use borrow.Author.Needs.{needs}
 use Rattle.spend.proofs.in_memory_and_spend.Statement.{statement}
