@@ -44,8 +44,8 @@ fastcall-row =
     (record { rules = refl; words = refl; dots = refl }) (record { rules = refl; words = refl; dots = refl })
 
 -- what its rules decide, test by test; a rule without a float slot is never skipped
-unfoldable pub decision : Shape → ℕ → ℕ → Decision
-decision shape width I =
+unfoldable pub fastcallDecision : Shape → ℕ → ℕ → Decision
+fastcallDecision shape width I =
     cond (eqb (shape .size) 0) (plain ways.the-variants.Ignore nothing)
     (cond (shape .complex || shape .floating) (memory 0 0 0 0) (memory (takes (wantOf (shape .size) width) I) 0 0 0))
 
@@ -67,8 +67,8 @@ module _ (T : Terms) (left : Left) (shape : Shape) (ps : List Piece) where
   by-tests false false = rw unskipped refl
 
   by-rules : byRules T false left (rule Empty Ignore ∷ rule FloatingMode InMemory ∷ rule Anything InMemoryAndSpend ∷ []) shape ps .decision
-      ≡ decision shape (T .banks .«integer_width») (left .integer)
-  unfolding byRules matches foundIf floatingMode decision
+      ≡ fastcallDecision shape (T .banks .«integer_width») (left .integer)
+  unfolding byRules matches foundIf floatingMode fastcallDecision
   by-rules = by-tests (eqb (shape .size) 0) (shape .complex || shape .floating)
 
 module _ (d : ℕ) (row : isFastcall d ≡ true) (left : Left) (shape : Shape) (ps : List Piece) where
@@ -78,10 +78,10 @@ module _ (d : ℕ) (row : isFastcall d ≡ true) (left : Left) (shape : Shape) (
   fastcall : Fastcall D
   fastcall = fastcall-row d (rw row tt)
 
-  pub fixed-decision : argumentChoice D left (Aggregate shape) ps .decision ≡ decision shape 4 (left .integer)
+  pub fixed-decision : argumentChoice D left (Aggregate shape) ps .decision ≡ fastcallDecision shape 4 (left .integer)
   unfolding argumentChoice aggregateBy
   fixed-decision = rw (fastcall .rules, by-rules (termsOf D) left shape ps, fastcall .words)
 
-  pub variadic-decision : variadicArgumentChoice D left (Aggregate shape) ps .decision ≡ decision shape 4 (left .integer)
+  pub variadic-decision : variadicArgumentChoice D left (Aggregate shape) ps .decision ≡ fastcallDecision shape 4 (left .integer)
   unfolding argumentChoice variadicArgumentChoice
   variadic-decision = ap (λ (v : Variadic). choice (termsOf D) (D .arguments) false (dotsOf v) left (Aggregate shape) ps .decision) (fastcall .dots) ∙ fixed-decision

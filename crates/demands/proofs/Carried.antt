@@ -23,12 +23,13 @@ use Rattle.classify.specs.declared.Answer.{Answer}
 use Rattle.classify.specs.declared.Outcome.{Outcome}
 use Rattle.classify.specs.Classify.{Passed}
 use Rattle.classify.specs.Spending.{argumentChoice, variadicArgumentChoice}
-use Rattle.classify.specs.Answers.{callRefusalBy, rowRefusal, refusalOf, done, orAnswer, variadicAnswerBy, variadicAnswer, returnsAnswer, argumentAnswer, variadicArgumentAnswer}
+use Rattle.classify.specs.Answers.{callRefusalBy, rowRefusal, refusalOf, done, orAnswer, variadicAnswerBy}
 use Rattle.classify.proofs.Agree.{Agrees, argument-agrees}
 use Rattle.classify.proofs.Operations.{agreed}
-use Rattle.classify.proofs.Fastcall.{decision, fixed-decision, variadic-decision}
+use Rattle.classify.proofs.Fastcall.{fastcallDecision, fixed-decision, variadic-decision}
 use Rattle.classify.proofs.Given.{AnswerUngiven, returns-ungiven, argument-ungiven, variadic-argument-ungiven}
 use Rattle.ledger.specs.Ledger.{Operation, mark, return, argument, variadic-argument, answerBy, answerFor, Bank, integers, floats, given}
+use Rattle.ledger.proofs.Ledger.{answer-on-row}
 use Rattle.demands.specs.Rust.{rustPasses, AsRust}
 use Rattle.demands.specs.Performed.{Asks}
 use Rattle.demands.specs.Performed as by
@@ -62,31 +63,27 @@ memory-is-given-nothing source D op c = in-each-bank (answerBy source D op c) (o
 
 -- the answers of a call on a row
 pub row-is-given-nothing : (op : Operation) (c : Call) → answerFor op c .outcome .way ≡ wayNumber ways.the-variants.Memory → (b : Bank) → given b (answerFor op c) ≡ 0
-unfolding variadicAnswer returnsAnswer argumentAnswer variadicArgumentAnswer
-row-is-given-nothing mark c = memory-is-given-nothing (rowRefusal (c .abi)) (described (c .abi)) mark c
-row-is-given-nothing (return arg words out) c = memory-is-given-nothing (rowRefusal (c .abi)) (described (c .abi)) (return arg words out) c
-row-is-given-nothing (argument arg words out) c = memory-is-given-nothing (rowRefusal (c .abi)) (described (c .abi)) (argument arg words out) c
-row-is-given-nothing (variadic-argument arg words out) c = memory-is-given-nothing (rowRefusal (c .abi)) (described (c .abi)) (variadic-argument arg words out) c
+row-is-given-nothing op c = rw (answer-on-row (c .abi) c refl op) (memory-is-given-nothing (rowRefusal (c .abi)) (described (c .abi)) op c)
 
 -- ---- an aggregate argument of fastcall
 
 -- an accepted answer has the numbers of the decision that the rules come to
-told : Decision → Outcome
-told d = record { refusal = accepted; way = wayNumber (d .way); spent = d .spent; slots = d .count }
+outcomeOf : Decision → Outcome
+outcomeOf d = record { refusal = accepted; way = wayNumber (d .way); spent = d .spent; slots = d .count }
 
-told-so : (c : Call) (out : List ℕ) (p : Passed) (d e : Decision) (ss : List Slot) (a : Answer) (after : List ℕ) → AsRust c out p (d .spent) a after → Agrees (c .left) p d ss → d ≡ e
-    → a .outcome ≡ told e
-unfolding told
-told-so c out p d e ss a after r agrees same =
+outcome-so : (c : Call) (out : List ℕ) (p : Passed) (d e : Decision) (ss : List Slot) (a : Answer) (after : List ℕ) → AsRust c out p (d .spent) a after → Agrees (c .left) p d ss → d ≡ e
+    → a .outcome ≡ outcomeOf e
+unfolding outcomeOf
+outcome-so c out p d e ss a after r agrees same =
     rw (← same, ← (agrees .way), ← (r .way), ← (r .not-refused), ← (agrees .count), ← (r .count), ← (r .by-the-rules)) refl
 
-told-decision : (shape : Shape) (I : ℕ) → told (decision shape 4 I) ≡ fastcallOutcome shape I
-unfolding told decision
-told-decision shape I = go (eqb (shape .size) 0) (shape .complex || shape .floating)
+outcome-is : (shape : Shape) (I : ℕ) → outcomeOf (fastcallDecision shape 4 I) ≡ fastcallOutcome shape I
+unfolding outcomeOf fastcallDecision
+outcome-is shape I = go (eqb (shape .size) 0) (shape .complex || shape .floating)
   where
     go : (empty floating : Bool)
-        → told (cond empty (plain ways.the-variants.Ignore nothing) (cond floating (memory 0 0 0 0) (memory (takes (wantOf (shape .size) 4) I) 0 0 0)))
-        ≡ cond empty (told (plain ways.the-variants.Ignore nothing)) (cond floating (told (memory 0 0 0 0)) (told (memory (takes (wantOf (shape .size) 4) I) 0 0 0)))
+        → outcomeOf (cond empty (plain ways.the-variants.Ignore nothing) (cond floating (memory 0 0 0 0) (memory (takes (wantOf (shape .size) 4) I) 0 0 0)))
+        ≡ cond empty (outcomeOf (plain ways.the-variants.Ignore nothing)) (cond floating (outcomeOf (memory 0 0 0 0)) (outcomeOf (memory (takes (wantOf (shape .size) 4) I) 0 0 0)))
     go true floating = refl
     go false true = refl
     go false false = refl
@@ -98,16 +95,16 @@ fastcall-aggregate c row shape _ (by.as-fixed words out) z =
     let op : Operation = argument (Aggregate shape) words out in
     let D : Description = described (c .abi) in
     let ps : List Piece = piecesOf words in
-    told-so c out (rustPasses op c) (argumentChoice D (c .left) (Aggregate shape) ps .decision) (decision shape 4 (c .left .integer)) _ _ _
+    outcome-so c out (rustPasses op c) (argumentChoice D (c .left) (Aggregate shape) ps .decision) (fastcallDecision shape 4 (c .left .integer)) _ _ _
     (operation-as-rust op c (operation-accepts op c z)) (argument-agrees D (c .left) (Aggregate shape) ps)
     (fixed-decision (c .abi) row (c .left) shape ps)
-    ∙ told-decision shape (c .left .integer)
+    ∙ outcome-is shape (c .left .integer)
 fastcall-aggregate c row shape _ (by.as-variadic words out) z =
     let op : Operation = variadic-argument (Aggregate shape) words out in
     let D : Description = described (c .abi) in
     let ps : List Piece = piecesOf words in
     let accepts = operation-accepts op c z in
-    told-so c out (rustPasses op c) (variadicArgumentChoice D (c .left) (Aggregate shape) ps .decision) (decision shape 4 (c .left .integer)) _ _ _
+    outcome-so c out (rustPasses op c) (variadicArgumentChoice D (c .left) (Aggregate shape) ps .decision) (fastcallDecision shape 4 (c .left .integer)) _ _ _
     (operation-as-rust op c accepts) (agreed (rowRefusal (c .abi)) D c (Aggregate shape) words (accepts .0))
     (variadic-decision (c .abi) row (c .left) shape ps)
-    ∙ told-decision shape (c .left .integer)
+    ∙ outcome-is shape (c .left .integer)

@@ -158,7 +158,7 @@ module _ (d : ℕ) (known : d < description-count) where
   fresh-row = rw fresh-is
 
 -- an operation on a call of the row is that of its description, and hands back a call of the row
-answer-on-row : (d : ℕ) (c : Call) → c .abi ≡ d → (op : Operation) → answerFor op c ≡ answerBy (rowRefusal d) (described d) op c
+pub answer-on-row : (d : ℕ) (c : Call) → c .abi ≡ d → (op : Operation) → answerFor op c ≡ answerBy (rowRefusal d) (described d) op c
 unfolding variadicAnswer returnsAnswer argumentAnswer variadicArgumentAnswer
 answer-on-row d c e mark = rw (← e)
 answer-on-row d c e (return arg words out) = rw (← e)
