@@ -245,7 +245,7 @@ typedef struct barkpaddle_call {
 typedef struct barkpaddle_outcome {
     uint64_t refusal;
     uint64_t way;
-    uint64_t integers_passed; /* registers that this value passed over and was given; it passes over first */
+    uint64_t integers_passed; /* registers that this value passed over, which carry nothing, and was given; it passes over first */
     uint64_t integers_given;
     uint64_t floats_passed;
     uint64_t floats_given;

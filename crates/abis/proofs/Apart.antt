@@ -10,12 +10,13 @@ use lib.Dec.{T, eqb, eqb→eq}
 use lib.ListN.{getD}
 use Rattle.shape.proofs.Bools.{and-left, and-right, or-cases}
 use Rattle.shape.specs.Numbers.{oneIf}
+use Rattle.shape.specs.Lists.{any}
 use Rattle.describe.specs.declared.Variadic.the-variants.{AlwaysMemory, IntegersOnly, UnnamedIntegers}
 use Rattle.describe.specs.declared.StackArgs.the-variants.{Packed}
 use Rattle.describe.specs.Description.{Description}
 use Rattle.rows.specs.Codes.{variadicCode, stackArgsCode}
 use Rattle.abis.specs.Abis.{described, descriptions, blank}
-use Rattle.abis.specs.Apart.{isFastcall, spendsInMemory}
+use Rattle.abis.specs.Apart.{fastcallRows, isFastcall, spendsInMemory}
 
 -- Of the rows from i on, none but those within has the number n.
 abbrev onlyWithin : (Description → ℕ) → ℕ → (ℕ → Bool) → ℕ → List Description → Bool
@@ -80,30 +81,25 @@ exactly has within none t there d = go (has (described d)) refl (within d) refl
     go false e true w = absurd (false≢true (sym e ∙ there d (rw w tt)))
     go false e false w = refl
 
--- What holds of each row of fastcall.
-pub each-fastcall : (P : ℕ → Type 0) → P 22 → P 23 → P 27 → P 29 → (d : ℕ) → T (isFastcall d) → P d
-each-fastcall P p22 p23 p27 p29 d t = third (or-cases ((eqb d 22 || eqb d 23) || eqb d 27) (eqb d 29) t)
+-- What holds of each of some rows.
+abbrev pub Each : (ℕ → Type 0) → List ℕ → Type 0
+Each P [] = Unit {0}
+Each P (row ∷ rows) = P row × Each P rows
+
+pub each-among : (P : ℕ → Type 0) (rows : List ℕ) → Each P rows → (d : ℕ) → T (any (λ row. eqb d row) rows) → P d
+unfolding any
+each-among P [] each d t = absurd t
+each-among P (row ∷ rows) each d t = go (or-cases (eqb d row) (any (λ row. eqb d row) rows) t) (each-among P rows (each .1) d)
   where
-    row : (n : ℕ) → P n → T (eqb d n) → P d
-    row n p h = rw (eqb→eq d n h) p
-
-    first : T (eqb d 22) ⊎ T (eqb d 23) → P d
-    first (inl h) = row 22 p22 h
-    first (inr h) = row 23 p23 h
-
-    second : T (eqb d 22 || eqb d 23) ⊎ T (eqb d 27) → P d
-    second (inl h) = first (or-cases (eqb d 22) (eqb d 23) h)
-    second (inr h) = row 27 p27 h
-
-    third : T ((eqb d 22 || eqb d 23) || eqb d 27) ⊎ T (eqb d 29) → P d
-    third (inl h) = second (or-cases (eqb d 22 || eqb d 23) (eqb d 27) h)
-    third (inr h) = row 29 p29 h
+    go : T (eqb d row) ⊎ T (any (λ row. eqb d row) rows) → (T (any (λ row. eqb d row) rows) → P d) → P d
+    go (inl h) later = rw (eqb→eq d row h) (each .0)
+    go (inr h) later = later h
 
 -- The rows whose rules for arguments have InMemoryAndSpend are those of fastcall, and no row's rules for returns have it.
 pub in-memory-and-spend : ((d : ℕ) → spendsInMemory (described d .arguments) ≡ isFastcall d) × ((d : ℕ) → spendsInMemory (described d .returns) ≡ false)
-unfolding described descriptions
+unfolding described descriptions any
 in-memory-and-spend = (
   exactly (λ (D : Description). spendsInMemory (D .arguments)) isFastcall refl tt
-      (each-fastcall (λ (d : ℕ). spendsInMemory (described d .arguments) ≡ true) refl refl refl refl),
+      (each-among (λ (d : ℕ). spendsInMemory (described d .arguments) ≡ true) fastcallRows (refl, (refl, (refl, (refl, tt))))),
   exactly (λ (D : Description). spendsInMemory (D .returns)) (λ d. false) refl tt (λ d t. absurd t),
 )

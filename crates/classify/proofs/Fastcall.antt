@@ -20,8 +20,8 @@ use Rattle.describe.specs.declared.Variadic.the-variants.{SameAsFixed}
 use Rattle.describe.specs.Description.{Description, rule, termsOf}
 use Rattle.describe.specs.Dots.{dotsOf}
 use Rattle.abis.specs.Abis.{described, descriptions}
-use Rattle.abis.specs.Apart.{isFastcall}
-use Rattle.abis.proofs.Apart.{each-fastcall}
+use Rattle.abis.specs.Apart.{fastcallRows, isFastcall}
+use Rattle.abis.proofs.Apart.{each-among}
 use Rattle.find.specs.Find.{foundIf, floatingMode}
 use Rattle.find.specs.Matches.{matches}
 use Rattle.spend.specs.declared.Left.{Left}
@@ -40,8 +40,16 @@ record Fastcall (D : Description) : Type 0 where
 fastcall-row : (d : ℕ) → T (isFastcall d) → Fastcall (described d)
 unfolding described descriptions
 fastcall-row =
-    each-fastcall (λ (d : ℕ). Fastcall (described d)) (record { rules = refl; words = refl; dots = refl }) (record { rules = refl; words = refl; dots = refl })
-    (record { rules = refl; words = refl; dots = refl }) (record { rules = refl; words = refl; dots = refl })
+    each-among (λ (d : ℕ). Fastcall (described d)) fastcallRows (
+      record { rules = refl; words = refl; dots = refl },
+      (
+        record { rules = refl; words = refl; dots = refl },
+        (
+          record { rules = refl; words = refl; dots = refl },
+          (record { rules = refl; words = refl; dots = refl }, tt),
+        ),
+      ),
+    )
 
 -- what its rules decide, test by test; a rule without a float slot is never skipped
 unfoldable pub fastcallDecision : Shape → ℕ → ℕ → Decision
