@@ -25,7 +25,7 @@ enum { DIRECT = 1, MEMORY = 4 };
 
 enum { SAVE = 1 };
 
-enum { BAD_ABI = 1, BAD_CALL, BAD_LIST, BAD_KIND, BAD_SIZE, BAD_ALIGN, NO_ROOM, BAD_AREA };
+enum { BAD_ABI = 1, BAD_CALL, BAD_LIST, BAD_KIND, BAD_SIZE, BAD_ALIGN, NO_ROOM, BAD_AREA, BAD_EXTENT };
 
 /* the registers that each of the thirty starts with, and the one that takes the mark */
 static const uint8_t integers[30] = {6, 8, 8, 8, 4, 8, 0, 1, 2, 3, 0, 1, 2, 3, 0, 1, 2, 3, 0, 1, 2, 3, 2, 2, 0, 0, 0, 2, 0, 2};
@@ -60,11 +60,15 @@ answer barkpaddle_argument_aggregate(u64 abi, u64 integer, u64 float_, u64 mark,
     REFUSE_IF(count % 4 || count > 4096, BAD_LIST)
     REFUSE_IF(size > 1 << 24, BAD_SIZE)
     REFUSE_IF(align > 4096, BAD_ALIGN)
+    u64 reach = 0;
     for (u64 at = 0; at < count; at += 4) {
         REFUSE_IF(words[at] > 4, BAD_KIND)
         REFUSE_IF(words[at + 1] > 64 || words[at + 3] > 1 << 24, BAD_SIZE)
         REFUSE_IF(words[at + 2] > 4096, BAD_ALIGN)
+        u64 end = words[at + 1] + words[at + 3];
+        reach = reach < end ? end : reach;
     }
+    REFUSE_IF(reach > size, BAD_EXTENT)
     REFUSE_IF(length < 6, NO_ROOM) /* two slots */
     return (answer){{abi, integer, float_, mark}, {.way = MEMORY}};
 }

@@ -37,7 +37,7 @@ extern "C" {
 /* The version of this header: one number, raised with each change of the header. A program that may be linked to an archive that was made
  * elsewhere compares it with barkpaddle_version() before it asks anything else. Where they differ the archive goes with another header: it
  * may lack what this one names, or answer what this one doesn't. Link the archive that tools/staticlib makes beside this header. */
-#define BARKPADDLE_VERSION UINT64_C(3)
+#define BARKPADDLE_VERSION UINT64_C(4)
 
 /* The version of the header that the archive goes with. Refuses nothing. */
 uint64_t barkpaddle_version(void);
@@ -82,14 +82,15 @@ uint64_t barkpaddle_version(void);
 
 /* Refusals. */
 #define BARKPADDLE_ACCEPTED UINT64_C(0)
-#define BARKPADDLE_BAD_ABI UINT64_C(1)   /* there is no description of this number */
-#define BARKPADDLE_BAD_CALL UINT64_C(2)  /* more registers left than there are, or the integers-only mark where there is none */
-#define BARKPADDLE_BAD_LIST UINT64_C(3)  /* the words don't make whole records, or too many */
-#define BARKPADDLE_BAD_KIND UINT64_C(4)  /* no kind has this number */
-#define BARKPADDLE_BAD_SIZE UINT64_C(5)  /* a size or an offset is above its limit; in a variable list: isn't the scalar's own */
-#define BARKPADDLE_BAD_ALIGN UINT64_C(6) /* an alignment is above its limit; in a record: all are 0; in a variable list: isn't the size */
-#define BARKPADDLE_NO_ROOM UINT64_C(7)   /* the result doesn't fit the buffer */
-#define BARKPADDLE_BAD_AREA UINT64_C(8)  /* a save area or an offset into it that can't be, or an overflow area that ends too early */
+#define BARKPADDLE_BAD_ABI UINT64_C(1)    /* there is no description of this number */
+#define BARKPADDLE_BAD_CALL UINT64_C(2)   /* more registers left than there are, or the integers-only mark where there is none */
+#define BARKPADDLE_BAD_LIST UINT64_C(3)   /* the words don't make whole records, or too many */
+#define BARKPADDLE_BAD_KIND UINT64_C(4)   /* no kind has this number */
+#define BARKPADDLE_BAD_SIZE UINT64_C(5)   /* a size or an offset is above its limit; in a variable list: isn't the scalar's own */
+#define BARKPADDLE_BAD_ALIGN UINT64_C(6)  /* an alignment is above its limit; in a record: all are 0; in a variable list: isn't the size */
+#define BARKPADDLE_NO_ROOM UINT64_C(7)    /* the result doesn't fit the buffer */
+#define BARKPADDLE_BAD_AREA UINT64_C(8)   /* a save area or an offset into it that can't be, or an overflow area that ends too early */
+#define BARKPADDLE_BAD_EXTENT UINT64_C(9) /* a piece ends past its aggregate's size */
 
 /* Kinds of scalars, pieces and slots. Those but the integer's are also called formats. */
 #define BARKPADDLE_KIND_INTEGER UINT64_C(0)
@@ -314,7 +315,8 @@ typedef struct barkpaddle_rule {
  *
  * Every operation refuses, in this order: BAD_ABI; BAD_CALL; what its value has to be refused for; NO_ROOM.
  * A scalar is refused by kind, size, alignment. An aggregate: BAD_LIST; its size; its alignment; then its pieces from the first, each by
- * kind, size, offset, alignment. Void has nothing to check.
+ * kind, size, offset, alignment; then BAD_EXTENT, where the offset and the size of a piece add up to more than the aggregate's size. Void
+ * has nothing to check.
  *
  * `words` are an aggregate's pieces, `words_length` words of them. Slots go to the front of `slots`, which has `slots_length` words and so
  * room for a third as many slots, rounded down; ways other than WAY_PIECES write nothing. NO_ROOM judges what the result needs.

@@ -159,6 +159,7 @@ pub fn refused() -> Vec<Refused> {
         make("BAD_KIND of the second piece", 4, CALL, two(|words| words[4] = 5), ROOM),
         make("BAD_SIZE of the second piece", 5, CALL, two(|words| words[5] = 65), ROOM),
         make("BAD_ALIGN of the second piece", 6, CALL, two(|words| words[6] = 4_097), ROOM),
+        make("BAD_EXTENT of the second piece", 9, CALL, two(|words| words[7] = 9), ROOM),
         make("NO_ROOM for two slots", 7, CALL, two(|_| ()), 2 * SLOT_WORDS - 1),
     ]
 }

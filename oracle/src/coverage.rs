@@ -133,16 +133,16 @@ fn place(row: usize, rules: Rules, point: Point) -> String {
     }
 }
 
-/// Everything that a sheet can show, in order. Of the refusals, 2, 3 and 7 are missing: a sheet's
-/// calls come from its own operations, its pieces are whole and 1,025 of them stop it, and there is
-/// room for the most slots of any answer.
+/// Everything that a sheet can show, in order. Of the refusals, 2, 3, 7 and 8 are missing: a sheet's
+/// calls come from its own operations, its pieces are whole and 1,025 of them stop it, there is room
+/// for the most slots of any answer, and it has no variable argument lists.
 fn expected() -> Vec<String> {
     let mut expected: Vec<String> =
         ["fresh", "marked", "ignore", "direct", "pieces", "reference", "memory"]
             .iter()
             .map(|word| format!("line {word}"))
             .collect();
-    expected.extend([1, 4, 5, 6].iter().map(|refusal| format!("refusal {refusal}")));
+    expected.extend([1, 4, 5, 6, 9].iter().map(|refusal| format!("refusal {refusal}")));
     for row in 0..numbers::ROWS {
         for what in ["fresh", "mark", "an argument after the dots"] {
             expected.push(format!("row {row} {what}"));

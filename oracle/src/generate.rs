@@ -4,7 +4,8 @@
 //! another meets a full one; some begin with a run-up to a few registers left, where the rules
 //! part. Between their operations stand some that are refused. 50,000 operations are to decide by
 //! every rule of every row (`oracle coverage`), so what only one test in many rows asks for, and
-//! calls that are marked first, are given a share of their own.
+//! calls that are marked first, are given a share of their own; and the shapes, many of which are
+//! drawn with a piece past them and would be refused, grow to their pieces for the most part.
 
 use std::io::{self, Write};
 
@@ -116,7 +117,8 @@ impl Generator {
         records::of_value(operation, &value)
     }
 
-    /// A value inside the domain, by the call's habit or against it.
+    /// A value inside the domain, by the call's habit or against it. Some aggregates among them are
+    /// refused all the same, for a piece past them.
     pub fn value(&mut self) -> Value {
         let random = &mut self.random;
         let habit = if random.once_in(4) { Habit::Anything } else { self.habit };
@@ -133,7 +135,8 @@ impl Generator {
         }
     }
 
-    /// A value with at least one number past its limit, and often more than one.
+    /// A value that is refused: numbers of it are past their limits, or a piece past the shape, or
+    /// both, in either order, for it is always the numbers that decide then.
     pub fn refused_value(&mut self) -> Value {
         let random = &mut self.random;
         if random.once_in(3) {
@@ -142,14 +145,18 @@ impl Generator {
             return Value::Scalar(scalar);
         }
         let mut shape = shapes::shape(random);
-        if shape.pieces.is_empty() || random.once_in(3) {
-            spoil_whole(random, &mut shape);
+        let wrong = if shape.pieces.is_empty() { 0 } else { random.between(1, 3) };
+        if wrong & 1 != 0 {
+            move_past(random, &mut shape);
         }
-        if !shape.pieces.is_empty() {
+        if wrong & 2 != 0 {
             for _ in 0..random.between(1, 2) {
-                let at = random.between(0, shape.pieces.len() as u64 - 1) as usize;
+                let at = any_place(random, &shape);
                 spoil_piece(random, &mut shape.pieces[at]);
             }
+        }
+        if wrong == 0 || random.once_in(4) {
+            spoil_whole(random, &mut shape);
         }
         Value::Aggregate(shape)
     }
@@ -189,17 +196,43 @@ fn any_scalar(random: &mut Random) -> Scalar {
     Scalar { kind: random.between(0, LARGEST_KIND), size, align: shapes::align(random) }
 }
 
-/// A shape; now and then a complex of Singles, or one of as many pieces as a list may have.
+/// A shape; now and then a complex of Singles, one integer of at most a word, or as many pieces as a
+/// list may have.
 fn any_shape(random: &mut Random) -> Shape {
-    if random.once_in(16) {
-        return complex_of_singles();
+    match random.between(0, 15) {
+        0 => return complex_of_singles(),
+        1 => return up_to_a_word(random),
+        _ => {}
     }
     let mut shape = shapes::shape(random);
     if random.once_in(500) {
         let scalar = any_scalar(random);
         shape.pieces.resize(MOST_PIECES as usize, Piece { scalar, offset: 8 });
     }
+    grow(random, &mut shape);
     shape
+}
+
+/// No record lays its members out so far.
+const FAR: u64 = 65_536;
+
+/// Has a shape grow to its furthest piece, so that it isn't refused; one in eight stays as drawn.
+/// With a piece far out it is one in eight that grows: the Rust cuts large shapes into millions of
+/// slots.
+fn grow(random: &mut Random, shape: &mut Shape) {
+    let ends = shape.pieces.iter().map(|piece| piece.offset + piece.scalar.size);
+    let furthest = ends.max().unwrap_or(0);
+    if random.once_in(8) == (furthest > FAR) {
+        // Behind the last offsets no shape is large enough, and the piece stays past it.
+        shape.size = shape.size.max(furthest).min(LARGEST_SHAPE);
+    }
+}
+
+/// An integer that fills a shape of at most four bytes: more than that regparm(1) has no room for.
+fn up_to_a_word(random: &mut Random) -> Shape {
+    let size = random.between(0, 4);
+    let piece = Piece { scalar: Scalar { kind: 0, size, align: 1 }, offset: 0 };
+    Shape { size, align: 1, complex: false, floating: false, pieces: vec![piece] }
 }
 
 fn complex_of_singles() -> Shape {
@@ -250,6 +283,20 @@ fn spoil_piece(random: &mut Random, piece: &mut Piece) {
     if !offset_too || random.once_in(2) {
         spoil_scalar(random, &mut piece.scalar);
     }
+}
+
+/// Moves a piece to where it ends past the shape, by one byte as often as not.
+fn move_past(random: &mut Random, shape: &mut Shape) {
+    let by = if random.once_in(2) { 1 } else { random.between(1, LARGEST_SCALAR) };
+    let at = any_place(random, shape);
+    let piece = &mut shape.pieces[at];
+    // One that is larger still is past the shape wherever it stands.
+    piece.offset = (shape.size + by).saturating_sub(piece.scalar.size);
+}
+
+/// The place of a piece, of which the shape has one.
+fn any_place(random: &mut Random, shape: &Shape) -> usize {
+    random.between(0, shape.pieces.len() as u64 - 1) as usize
 }
 
 fn spoil_whole(random: &mut Random, shape: &mut Shape) {

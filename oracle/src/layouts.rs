@@ -7,7 +7,7 @@ use rucc_abi::{Arg, Scalar};
 
 use crate::numbers;
 use crate::random::Random;
-use crate::refusals::{BAD_ALIGN, BAD_SIZE};
+use crate::refusals::{self, BAD_ALIGN, BAD_SIZE};
 use crate::shapes;
 use crate::values::{LARGEST_SHAPE, Shape, ask_shape};
 
@@ -23,11 +23,17 @@ pub fn print(out: &mut impl Write, seed: u64, count: u64) -> io::Result<()> {
     Ok(())
 }
 
-/// The three lines of a shape.
+/// The three lines of a shape. One that the rules refuse has an alignment on no row, which is said
+/// once; the Rust would have one for it. What its pieces make doesn't depend on it.
 pub fn lines(shape: &Shape) -> [String; 3] {
+    let refusal = refusals::of_shape(shape);
     ask_shape(shape, |arg| {
         let Arg::Aggregate(shape) = arg else { panic!("a shape is an aggregate") };
-        [in_memory(shape), record(shape.pieces), pieces(shape.pieces)]
+        let memory = match refusal {
+            Some(refusal) => format!("memory refused {refusal}"),
+            None => in_memory(shape),
+        };
+        [memory, record(shape.pieces), pieces(shape.pieces)]
     })
 }
 

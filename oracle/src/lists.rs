@@ -178,10 +178,12 @@ impl<'a> Drawn<'a> {
     /// isn't asked.
     fn named(&mut self) -> Call {
         let mut call = numbers::row(ROW).call();
+        // Twelve parameters drawn from all scalars hardly ever have eight floats among them.
+        let from: &[Scalar] = if self.random().once_in(4) { &FLOATS } else { &SCALARS };
         for number in 0..self.random().pick(&[0, 0, 1, 2, 3, 5, 8, 12]) {
             let is_result = self.random().once_in(if number == 0 { 2 } else { 16 });
             let operation = if is_result { RETURN } else { ARGUMENT };
-            let value = self.named_value();
+            let value = self.named_value(from);
             let words: Vec<u64> = records::of_value(operation, &value).concat();
             let words: Vec<String> = words.iter().map(u64::to_string).collect();
             self.line(format_args!("named {}", words.join(" ")));
@@ -193,10 +195,10 @@ impl<'a> Drawn<'a> {
         call
     }
 
-    /// What a function has for a named parameter, mostly; or anything.
-    fn named_value(&mut self) -> Value {
+    /// What a function has for a named parameter, mostly one of these; or anything.
+    fn named_value(&mut self, from: &[Scalar]) -> Value {
         match self.random().between(0, 15) {
-            0..=8 => Value::Scalar(self.random().pick(&SCALARS)),
+            0..=8 => Value::Scalar(self.random().pick(from)),
             9..=14 => self.generator.value(),
             _ => self.generator.refused_value(),
         }
@@ -246,6 +248,9 @@ const QUAD: Scalar = Scalar { kind: 4, size: 16, align: 16 };
 /// Each scalar that a list can have.
 const SCALARS: [Scalar; 9] =
     [integer(1), integer(2), integer(4), integer(8), integer(16), SINGLE, DOUBLE, X87, QUAD];
+
+/// Those that a float register holds.
+const FLOATS: [Scalar; 3] = [SINGLE, DOUBLE, QUAD];
 
 const fn integer(size: u64) -> Scalar {
     Scalar { kind: 0, size, align: size }

@@ -93,7 +93,9 @@ impl Call {
     /// the integers-only mark on a description that doesn't use it; [`Refusal::BadList`] where the
     /// aggregate has too many pieces; [`Refusal::BadSize`] for its own size; [`Refusal::BadAlign`]
     /// for its own alignment; its pieces from the first, each [`Refusal::BadKind`],
-    /// [`Refusal::BadSize`] for its size, then for its offset, [`Refusal::BadAlign`].
+    /// [`Refusal::BadSize`] for its size, then for its offset, [`Refusal::BadAlign`];
+    /// [`Refusal::BadExtent`] where the offset and the size of a piece add up to more than the
+    /// aggregate's size.
     pub fn in_memory(self, aggregate: Aggregate<'_>) -> Result<u64, Refusal> {
         let told = entries::in_memory(self.numbers, &aggregate);
         Refusal::check(told.refusal).map(|()| told.value)

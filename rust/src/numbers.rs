@@ -127,6 +127,8 @@ numbered! {
         /// A save area has another length, an offset into it is no place, or the overflow area ends
         /// before the scalar does.
         BadArea = 8,
+        /// A piece ends past its aggregate's size: its offset and its size add up to more.
+        BadExtent = 9,
     }
 }
 
@@ -157,6 +159,9 @@ impl fmt::Display for Refusal {
             Self::BadArea => {
                 "a save area of another length, an offset into it that is no place, or an overflow \
                  area that ends before the scalar does"
+            }
+            Self::BadExtent => {
+                "a piece ends past its aggregate's size: its offset and its size add up to more"
             }
             Self::Unnamed(number) => return write!(out, "refused for reason number {number}"),
         })

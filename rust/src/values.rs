@@ -125,7 +125,11 @@ impl Piece {
 }
 
 /// An aggregate: its size and alignment, two marks, and every scalar in it, arrays and nested
-/// records flattened out. Pieces may overlap, leave holes, or stick out past the size.
+/// records flattened out.
+///
+/// Pieces may overlap and leave holes, and none may end past the aggregate: where the offset and the
+/// size of one add up to more than the aggregate's size, every operation on a call refuses it
+/// ([`Refusal::BadExtent`](crate::Refusal::BadExtent)).
 #[derive(Debug, Clone, Copy, PartialEq, Eq, Hash)]
 pub struct Aggregate<'a> {
     /// Its size in bytes.

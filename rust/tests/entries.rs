@@ -3,6 +3,7 @@
 use std::collections::HashSet;
 use std::error::Error;
 use std::hash::Hash;
+use std::mem;
 
 use barkpaddle::{
     Abi, Aggregate, Architecture, Bridge, Call, Convention, Description, Kind, Offsets, Outcome,
@@ -80,6 +81,7 @@ fn every_refusal_says_what_was_wrong() {
         VaList::new(&[], &[], Offsets { integer: 0, float: 48, overflow: 0 })
             .next(Scalar::integer(8))
             .expect_err("refused"),
+        refused(Aggregate::new(7, 8, &[Piece::new(Kind::Integer, 8, 8, 0)]).into()),
     ];
     for (at, refusal) in refusals.into_iter().enumerate() {
         assert_eq!(refusal.number(), at as u64 + 1);
@@ -185,4 +187,205 @@ fn lookups_of_unknown_codes_answer_none() {
     assert_eq!(Convention::Target.attribute(&mut []), Ok(None));
     assert_eq!(Convention::Unnamed(512).attribute(&mut []), Ok(None));
     assert_eq!(Convention::Ms.attribute(&mut [0; 5]), Err(Refusal::NoRoom));
+}
+
+// ---- pieces that end past their aggregate
+
+/// Each operation about an aggregate, by value and lent, and `in_memory`: all refuse it so, or none
+/// does. A refusal leaves the call and the buffer as they were. Aggregates that are accepted are
+/// aligned to 8, so that `in_memory` answers their own alignment on Darwin, too.
+fn ask(place: &str, call: Call, shape: Aggregate<'_>, expected: Option<Refusal>) {
+    for operation in 0..3 {
+        let (mut by_value, mut lent) = ([9; 26], [9; 26]);
+        let mut bridge = Bridge::from(call);
+        let (passed, outcome) = match operation {
+            0 => (call.returns(shape, &mut by_value), bridge.returns(shape, &mut lent)),
+            1 => (call.argument(shape, &mut by_value), bridge.argument(shape, &mut lent)),
+            _ => (
+                call.variadic_argument(shape, &mut by_value),
+                bridge.variadic_argument(shape, &mut lent),
+            ),
+        };
+        let refusals = (passed.err(), outcome.err());
+        assert_eq!(refusals, (expected, expected), "{place}, operation {operation} of {call:?}");
+        if expected.is_some() {
+            assert_eq!((bridge.call(), by_value, lent), (call, [9; 26], [9; 26]), "{place}");
+        }
+    }
+    let told = expected.map_or(Ok(shape.align), Err);
+    assert_eq!(call.in_memory(shape), told, "{place}, in_memory of {call:?}");
+}
+
+/// The same on every row: on a whole call, and on one that has no registers left, and the mark where
+/// the row has it.
+fn ask_everywhere(place: &str, shape: Aggregate<'_>, expected: Option<Refusal>) {
+    for abi in (0..Abi::COUNT).map(Abi) {
+        ask(place, Call::fresh(abi).expect("a description"), shape, expected);
+        let marked = abi == Abi::WINDOWS_ARM64;
+        ask(place, Call::from_parts(abi, 0, 0, marked), shape, expected);
+    }
+}
+
+/// What an aggregate is refused for, if a piece is past it and nothing else is wrong.
+fn extent(past: bool) -> Option<Refusal> {
+    past.then_some(Refusal::BadExtent)
+}
+
+#[test]
+fn a_piece_may_end_at_its_aggregates_size_and_not_past_it() {
+    const LIMIT: u64 = limits::LARGEST_SHAPE;
+    // The aggregate's size, the piece's size and offset, and whether that is past. A size of 0
+    // counts as 0.
+    let cases = [
+        (8, 8, 0, false),
+        (8, 8, 1, true),
+        (8, 1, 8, true),
+        (8, 64, 7, true),
+        (64, 64, 0, false),
+        (63, 64, 0, true),
+        (1, 64, 0, true),
+        (8, 0, 8, false),
+        (8, 0, 9, true),
+        (0, 0, 0, false),
+        (0, 0, 1, true),
+        (0, 1, 0, true),
+        (LIMIT, 0, LIMIT, false),
+        (LIMIT, 1, LIMIT, true),
+        (LIMIT, 64, LIMIT, true),
+        (LIMIT, 64, LIMIT - 64, false),
+        (LIMIT, 64, LIMIT - 63, true),
+        (LIMIT - 1, 0, LIMIT, true),
+    ];
+    for (size, piece_size, offset, past) in cases {
+        for kind in (0..5).map(Kind::from_number) {
+            let piece = [Piece::new(kind, piece_size, 1, offset)];
+            let place = format!("{piece:?} in {size}");
+            let mut shape = Aggregate::new(size, 8, &piece);
+            ask_everywhere(&place, shape, extent(past));
+            (shape.complex, shape.floating) = (true, true);
+            ask_everywhere(&place, shape, extent(past));
+        }
+    }
+}
+
+/// Its end is a byte further on than the sum says (REFERENCE 4.1), so no eightbyte has it.
+#[test]
+fn a_piece_without_bytes_at_the_end_goes_to_memory() {
+    let call = Call::fresh(SYSV).expect("a description");
+    let nothing = [Piece::new(Kind::Integer, 0, 1, 8)];
+    let shape = Aggregate::new(8, 8, &nothing);
+    let way = |passed: Result<Passed<'_>, Refusal>| passed.map(|passed| passed.outcome.way);
+    assert_eq!(way(call.argument(shape, &mut [])), Ok(Way::Memory));
+    assert_eq!(way(call.variadic_argument(shape, &mut [])), Ok(Way::Memory));
+    assert_eq!(way(call.returns(shape, &mut [])), Ok(Way::Reference));
+}
+
+#[test]
+fn one_piece_past_is_enough() {
+    for count in [1, 3, limits::MOST_PIECES] {
+        let mut pieces = vec![Piece::new(Kind::Double, 8, 8, 16); count];
+        ask_everywhere("all inside", Aggregate::new(24, 8, &pieces), None);
+        for at in [0, count / 2, count - 1] {
+            let place = format!("piece {at} of {count}");
+            let inside = mem::replace(&mut pieces[at], Piece::new(Kind::Double, 8, 8, 17));
+            ask_everywhere(&place, Aggregate::new(25, 8, &pieces), None);
+            ask_everywhere(&place, Aggregate::new(24, 8, &pieces), Some(Refusal::BadExtent));
+            pieces[at] = inside;
+        }
+    }
+}
+
+#[test]
+fn what_is_wrong_with_the_call_goes_before_a_piece_past() {
+    let piece = [Piece::new(Kind::Integer, 8, 8, 1)];
+    let past = Aggregate::new(8, 8, &piece);
+    for abi in (0..Abi::COUNT).map(Abi) {
+        let whole = Call::fresh(abi).expect("a description");
+        let (integer, float) = (whole.integer_left(), whole.float_left());
+        let mut wrong = vec![
+            Call::from_parts(abi, integer + 1, float, false),
+            Call::from_parts(abi, integer, float + 1, false),
+        ];
+        if abi != Abi::WINDOWS_ARM64 {
+            wrong.push(Call::from_parts(abi, integer, float, true));
+        }
+        for call in wrong {
+            ask("a call that can't be", call, past, Some(Refusal::BadCall));
+        }
+    }
+    for number in [Abi::COUNT, 256, u64::MAX] {
+        let call = Call::from_parts(Abi(number), 0, 0, false);
+        ask("no description", call, past, Some(Refusal::BadAbi));
+    }
+}
+
+#[test]
+fn what_is_wrong_with_the_aggregate_goes_before_a_piece_past() {
+    // It is past the first size that is refused, too.
+    let past = [Piece::new(Kind::Integer, 64, 8, limits::LARGEST_OFFSET)];
+    let too_large = Aggregate::new(limits::LARGEST_SHAPE + 1, 8, &past);
+    ask_everywhere("the aggregate's size", too_large, Some(Refusal::BadSize));
+    let too_aligned = Aggregate::new(8, limits::LARGEST_ALIGN + 1, &past);
+    ask_everywhere("the aggregate's alignment", too_aligned, Some(Refusal::BadAlign));
+    let mut too_many = [Piece::default(); limits::MOST_PIECES + 1];
+    for at in [0, limits::MOST_PIECES] {
+        let inside = mem::replace(&mut too_many[at], past[0]);
+        ask_everywhere("the list", Aggregate::new(8, 8, &too_many), Some(Refusal::BadList));
+        too_many[at] = inside;
+    }
+}
+
+#[test]
+fn what_is_wrong_with_any_piece_goes_before_a_piece_past() {
+    let past = Piece::new(Kind::Integer, 8, 8, 93);
+    // Two would end inside, if their sums might wrap.
+    let wrong = [
+        (Piece::new(Kind::Unnamed(5), 8, 8, 0), Refusal::BadKind),
+        (Piece::new(Kind::Integer, limits::LARGEST_SCALAR + 1, 8, 0), Refusal::BadSize),
+        (Piece::new(Kind::Integer, u64::MAX - 7, 8, 8), Refusal::BadSize),
+        (Piece::new(Kind::Integer, 8, 8, limits::LARGEST_OFFSET + 1), Refusal::BadSize),
+        (Piece::new(Kind::Integer, 8, 8, u64::MAX - 7), Refusal::BadSize),
+        (Piece::new(Kind::Integer, 8, limits::LARGEST_ALIGN + 1, 0), Refusal::BadAlign),
+    ];
+    for (piece, refusal) in wrong {
+        for pieces in [[past, piece], [piece, past]] {
+            let place = format!("{pieces:?}");
+            ask_everywhere(&place, Aggregate::new(100, 8, &pieces), Some(refusal));
+            ask_everywhere(&place, Aggregate::new(0, 8, &pieces), Some(refusal));
+        }
+    }
+}
+
+#[test]
+fn a_piece_past_goes_before_the_room() {
+    let call = Call::fresh(SYSV).expect("a description");
+    let two = [Piece::new(Kind::Integer, 8, 8, 0), Piece::new(Kind::Double, 8, 8, 8)];
+    for (size, refusal) in [(16, Refusal::NoRoom), (15, Refusal::BadExtent)] {
+        let shape = Aggregate::new(size, 8, &two);
+        for length in 0..6 {
+            let mut slots = [9; 6];
+            let room = &mut slots[..length];
+            let mut bridge = Bridge::from(call);
+            assert_eq!(call.returns(shape, room).err(), Some(refusal));
+            assert_eq!(call.argument(shape, room).err(), Some(refusal));
+            assert_eq!(call.variadic_argument(shape, room).err(), Some(refusal));
+            assert_eq!(bridge.returns(shape, room).err(), Some(refusal));
+            assert_eq!(bridge.argument(shape, room).err(), Some(refusal));
+            assert_eq!(bridge.variadic_argument(shape, room).err(), Some(refusal));
+            assert_eq!((bridge.call(), slots), (call, [9; 6]));
+        }
+    }
+}
+
+/// Its size is what its pieces make, so that none is past it.
+#[test]
+fn no_piece_is_past_its_record() {
+    let late = [Piece::new(Kind::Integer, 8, 8, 0), Piece::new(Kind::Double, 8, 8, 17)];
+    ask_everywhere("in 24", Aggregate::new(24, 8, &late), Some(Refusal::BadExtent));
+    let shape = record(&late).expect("accepted");
+    assert_eq!((shape.size, shape.align), (32, 8));
+    ask_everywhere("in its record", shape, None);
+    let nothing = [Piece::new(Kind::Integer, 0, 1, 8)];
+    ask_everywhere("in 7", Aggregate::new(7, 8, &nothing), Some(Refusal::BadExtent));
+    assert_eq!(record(&nothing).map(|shape| (shape.size, shape.align)), Ok((9, 1)));
 }

@@ -63,12 +63,12 @@ fn groups() {
 #[test]
 fn refusals() {
     let macros = macros();
-    for number in 1..9 {
+    for number in 1..10 {
         let refusal = format!("{:?}", Refusal::from_number(number));
         let named = macros.iter().find(|(name, _)| plain(name) == plain(&refusal));
         assert_eq!(named.map(|(_, number)| *number), Some(number), "{refusal}");
     }
-    assert_eq!(Refusal::from_number(9), Refusal::Unnamed(9));
+    assert_eq!(Refusal::from_number(10), Refusal::Unnamed(10));
 }
 
 #[test]

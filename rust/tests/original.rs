@@ -384,13 +384,21 @@ fn layouts() {
     }
 }
 
-fn print_layouts(out: &mut String, shape: Aggregate<'_>) {
-    out.push_str("memory");
-    for number in 0..Abi::COUNT {
-        let call = Call::fresh(Abi(number)).expect("a description");
-        let align = call.in_memory(shape).expect("a shape inside the domain");
-        write!(out, " {align}").expect("a string takes it");
+/// The alignments in memory on each row, or the refusal, which is the same on all and said once.
+fn in_memory(shape: Aggregate<'_>) -> String {
+    let on_row = |number| Call::fresh(Abi(number)).expect("a description").in_memory(shape);
+    let answers: Vec<Result<u64, Refusal>> = (0..Abi::COUNT).map(on_row).collect();
+    match answers.iter().copied().collect::<Result<Vec<u64>, Refusal>>() {
+        Ok(aligned) => words(&aligned),
+        Err(refusal) => {
+            assert!(answers.iter().all(|answer| *answer == Err(refusal)), "{answers:?}");
+            format!("refused {}", refusal.number())
+        }
     }
+}
+
+fn print_layouts(out: &mut String, shape: Aggregate<'_>) {
+    write!(out, "memory {}", in_memory(shape)).expect("a string takes it");
     let line = match barkpaddle::record(shape.pieces) {
         Ok(record) => {
             assert!(!record.complex && record.pieces == shape.pieces);

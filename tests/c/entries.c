@@ -598,6 +598,8 @@ static void refusals_of(enum operation operation)
     static const uint64_t wrong[][4] = {
         {5, 65, 4097, 16777217}, {4, 65, 4097, 16777217}, {4, 64, 4097, 16777217}, {4, 64, 4097, 16777216}, {0, 8, 8, 0}};
     static const uint64_t refusals[] = {BARKPADDLE_BAD_KIND, BARKPADDLE_BAD_SIZE, BARKPADDLE_BAD_SIZE, BARKPADDLE_BAD_ALIGN};
+    /* the largest size and the largest offset, each as large as the other lets it be: no piece may end past the largest shape */
+    static const uint64_t largest[] = {4, 64, 4096, 16777152, 4, 0, 4096, 16777216};
     static const uint64_t kinds[] = {5, 6, 256, UINT64_C(1) << 32, UINT64_MAX};
     uint64_t two[8];
     uint64_t i;
@@ -660,12 +662,8 @@ static void refusals_of(enum operation operation)
     }
     a = perform(operation, call_of(0, 6, 8, 0), aggregate(16777216, 4096, NULL, 0), NULL, 0);
     check_number("the largest shape", "refusal", BARKPADDLE_ACCEPTED, a.outcome.refusal);
-    two[0] = 4;
-    two[1] = 64;
-    two[2] = 4096;
-    two[3] = 16777216;
-    a = perform(operation, call_of(0, 6, 8, 0), aggregate(0, 0, two, 4), NULL, 0);
-    check_number("the largest piece", "refusal", BARKPADDLE_ACCEPTED, a.outcome.refusal);
+    a = perform(operation, call_of(0, 6, 8, 0), aggregate(16777216, 0, largest, 8), NULL, 0);
+    check_number("the largest pieces", "refusal", BARKPADDLE_ACCEPTED, a.outcome.refusal);
 
     /* a scalar: kind, size, alignment */
     for (i = 0; i < COUNT(kinds); i++)
@@ -917,11 +915,30 @@ static void random_scalar(uint64_t words[3], int odd)
         words[2] = 4097;
 }
 
+/* A size for an aggregate whose furthest piece ends there: mostly rounded up, so that all pieces are inside; now and then just that, one
+ * less, so that a piece is one past, any, or with a hole behind the pieces. */
+static uint64_t random_size(uint64_t furthest, uint64_t align)
+{
+    switch (below(16)) {
+    case 0:
+        return furthest;
+    case 1:
+        return furthest == 0 ? 0 : furthest - 1;
+    case 2:
+        return below(40);
+    case 3:
+        return furthest + below(24);
+    default:
+        return (furthest + align - 1) / align * align;
+    }
+}
+
 static value random_value(void)
 {
     static uint64_t words[4 * 9];
     int odd = below(8) == 0;
     uint64_t end = 0;
+    uint64_t furthest = 0;
     uint64_t align = 1;
     uint64_t one_kind = below(2);
     uint64_t count;
@@ -947,11 +964,12 @@ static value random_value(void)
         piece[3] = below(16) == 0 ? below(24) : end;
         if (piece[1] <= 64)
             end += piece[1];
+        if (piece[3] + piece[1] > furthest)
+            furthest = piece[3] + piece[1];
         if (piece[2] <= 16 && piece[2] > align)
             align = piece[2];
     }
-    end = (end + align - 1) / align * align;
-    v = aggregate(below(8) == 0 ? below(40) : end, align, words, BARKPADDLE_PIECE_WORDS * count);
+    v = aggregate(random_size(furthest, align), align, words, BARKPADDLE_PIECE_WORDS * count);
     if (odd && below(4) == 0 && count > 0)
         v.words_length -= 1 + below(3);
     if (odd && below(6) == 0)
@@ -982,13 +1000,32 @@ static barkpaddle_call spoilt(barkpaddle_call c)
     return c;
 }
 
+/* Of an aggregate whose words are whole pieces, each below its limits. */
+static int has_a_piece_past(value v)
+{
+    const uint64_t *piece;
+
+    for (piece = v.words; piece < v.words + v.words_length; piece += BARKPADDLE_PIECE_WORDS)
+        if (piece[BARKPADDLE_PIECE_OFFSET] + piece[BARKPADDLE_PIECE_SIZE] > v.size)
+            return 1;
+    return 0;
+}
+
+/* BAD_EXTENT is given to an aggregate with a piece past it, unless another refusal goes before, and to nothing else. */
+static void check_extent(const char *place, value v, uint64_t refusal)
+{
+    int none_before = refusal == BARKPADDLE_ACCEPTED || refusal == BARKPADDLE_NO_ROOM || refusal == BARKPADDLE_BAD_EXTENT;
+
+    check_number(place, "BAD_EXTENT", v.what == AGGREGATE && none_before && has_a_piece_past(v), refusal == BARKPADDLE_BAD_EXTENT);
+}
+
 /*
  * Calls that are kept and lent, operation after operation, on all rows in turn. What the library keeps in them is held against the answers
  * by value, and no answer by value is ever put into them.
  */
 static void history(void)
 {
-    static unsigned long of_refusal[8], of_way[5], of_row[BARKPADDLE_ABI_COUNT], of_operation[4], marked, oddly_marked;
+    static unsigned long of_refusal[10], of_way[5], of_row[BARKPADDLE_ABI_COUNT], of_operation[4], marked, oddly_marked;
     barkpaddle_call kept = call_of(0, 6, 8, 0);
     uint64_t n;
     uint64_t i;
@@ -1016,9 +1053,11 @@ static void history(void)
         } else {
             enum operation operation = which == 1 ? RETURN : which < 7 ? ARGUMENT : VARIADIC_ARGUMENT;
             uint64_t length = below(4) == 0 ? below(3 * BARKPADDLE_SLOT_WORDS) : BARKPADDLE_MOST_SLOT_WORDS;
+            value v = random_value();
 
             fill();
-            a = both_ways("history", operation, &kept, random_value(), length == 0 ? NULL : lent, length);
+            a = both_ways("history", operation, &kept, v, length == 0 ? NULL : lent, length);
+            check_extent("history", v, a.outcome.refusal);
             of_operation[operation]++;
             for (i = a.outcome.slots * BARKPADDLE_SLOT_WORDS; i < ROOM; i++)
                 if (lent_again[i] != untouched(i))
@@ -1039,9 +1078,12 @@ static void history(void)
             kept = aside;
     }
 
-    /* every refusal, way, row and operation was among them, or this compares less than it says */
+    /* every refusal, way, row and operation was among them, or this compares less than it says; BAD_AREA is for variable lists alone */
     for (i = 0; i < COUNT(of_refusal); i++)
-        check_number("history", "a refusal that was seen often", 1, of_refusal[i] >= 100);
+        if (i == BARKPADDLE_BAD_AREA)
+            check_number("history", "how often BAD_AREA was seen", 0, of_refusal[i]);
+        else
+            check_number("history", "a refusal that was seen often", 1, of_refusal[i] >= 100);
     for (i = 0; i < COUNT(of_way); i++)
         check_number("history", "a way that was seen often", 1, of_way[i] >= 1000);
     for (i = 0; i < COUNT(of_row); i++)
@@ -1148,6 +1190,295 @@ static void records(void)
     check_record("size", barkpaddle_record(bad_size, 4), BARKPADDLE_BAD_SIZE, 0, 0, 0);
     check_record("offset", barkpaddle_record(bad_offset, 4), BARKPADDLE_BAD_SIZE, 0, 0, 0);
     check_record("alignment", barkpaddle_record(bad_align, 4), BARKPADDLE_BAD_ALIGN, 0, 0, 0);
+}
+
+/* ---- pieces that end past their shape ---- */
+
+static void show_asked(barkpaddle_call c, value v)
+{
+    const uint64_t numbers[] = {c.abi, c.integer, c.float_, c.integers_only, v.size, v.align};
+    uint64_t i;
+
+    printf("    call, size, alignment, then words of pieces:");
+    for (i = 0; i < COUNT(numbers); i++)
+        printf(" %llu", (unsigned long long)numbers[i]);
+    for (i = 0; i < v.words_length && i < 12; i++)
+        printf("%s %llu", i % BARKPADDLE_PIECE_WORDS == 0 ? "," : "", (unsigned long long)v.words[i]);
+    printf("\n");
+}
+
+/* Not refused, whatever way it travels. */
+static void check_accepted(const char *place, enum operation operation, barkpaddle_call c, value v)
+{
+    barkpaddle_answer a;
+
+    fill();
+    a = perform(operation, c, v, lent, ROOM);
+    check_number(place, "refusal", BARKPADDLE_ACCEPTED, a.outcome.refusal);
+}
+
+/* Each operation about a shape, and in_memory: all refuse it so, or none does. The shapes that are accepted are aligned to 8, so that
+ * in_memory answers their own alignment on row 2, too. */
+static void check_asked(const char *place, barkpaddle_call c, value v, uint64_t refusal)
+{
+    static const enum operation operations[] = {RETURN, ARGUMENT, VARIADIC_ARGUMENT};
+    unsigned long failed_before = failed;
+    size_t i;
+
+    for (i = 0; i < COUNT(operations); i++)
+        if (refusal == BARKPADDLE_ACCEPTED)
+            check_accepted(place, operations[i], c, v);
+        else
+            check_refused(place, operations[i], c, v, ROOM, refusal);
+    check_told(
+        place,
+        barkpaddle_in_memory(
+            c.abi, c.integer, c.float_, c.integers_only, v.size, v.align, v.complex_, v.floating, v.words, v.words_length),
+        refusal, refusal == BARKPADDLE_ACCEPTED ? v.align : 0);
+    if (failed > failed_before && failed <= 40)
+        show_asked(c, v);
+}
+
+/* The same on every row: on a whole call, and on one that has no registers left, and a mark, which isn't 1, where the row has it. */
+static void check_everywhere(const char *place, value v, uint64_t refusal)
+{
+    uint64_t row;
+
+    for (row = 0; row < BARKPADDLE_ABI_COUNT; row++) {
+        check_asked(place, barkpaddle_fresh(row).next, v, refusal);
+        check_asked(place, call_of(row, 0, 0, row == BARKPADDLE_ABI_WINDOWS_ARM64 ? 2 : 0), v, refusal);
+    }
+}
+
+/* A record has no size but what its pieces make, so that none can be past it: its refusals are its own (REFERENCE 4.3). */
+static void check_record_of(const uint64_t piece[4])
+{
+    uint64_t size = piece[BARKPADDLE_PIECE_SIZE];
+    uint64_t end = piece[BARKPADDLE_PIECE_OFFSET] + (size == 0 ? 1 : size);
+
+    if (end > BARKPADDLE_LARGEST_SHAPE)
+        check_record("a piece past the limit", barkpaddle_record(piece, 4), BARKPADDLE_BAD_SIZE, 0, 0, 0);
+    else
+        check_record(
+            "a piece past a shape", barkpaddle_record(piece, 4), BARKPADDLE_ACCEPTED, end, 1,
+            piece[BARKPADDLE_PIECE_KIND] != BARKPADDLE_KIND_INTEGER && size == end);
+}
+
+/* A shape's size, a piece's size and its offset, and what that is refused for. A size of 0 counts as 0 in the sum. */
+static const struct ending {
+    uint64_t shape, size, offset, refusal;
+} endings[] = {
+    /* at the shape's size, and one, 63 and 64 above it */
+    {8, 8, 0, BARKPADDLE_ACCEPTED},
+    {8, 1, 7, BARKPADDLE_ACCEPTED},
+    {8, 8, 1, BARKPADDLE_BAD_EXTENT},
+    {8, 1, 8, BARKPADDLE_BAD_EXTENT},
+    {8, 64, 7, BARKPADDLE_BAD_EXTENT},
+    {8, 64, 8, BARKPADDLE_BAD_EXTENT},
+    {64, 64, 0, BARKPADDLE_ACCEPTED},
+    {63, 64, 0, BARKPADDLE_BAD_EXTENT},
+    {1, 64, 0, BARKPADDLE_BAD_EXTENT},
+    /* nothing at the shape's size, and one behind it */
+    {8, 0, 8, BARKPADDLE_ACCEPTED},
+    {8, 0, 9, BARKPADDLE_BAD_EXTENT},
+    {0, 0, 0, BARKPADDLE_ACCEPTED},
+    {0, 0, 1, BARKPADDLE_BAD_EXTENT},
+    {0, 1, 0, BARKPADDLE_BAD_EXTENT},
+    /* at the limits */
+    {16777216, 0, 16777216, BARKPADDLE_ACCEPTED},
+    {16777216, 1, 16777216, BARKPADDLE_BAD_EXTENT},
+    {16777216, 64, 16777216, BARKPADDLE_BAD_EXTENT},
+    {16777216, 1, 16777215, BARKPADDLE_ACCEPTED},
+    {16777216, 64, 16777152, BARKPADDLE_ACCEPTED},
+    {16777216, 64, 16777153, BARKPADDLE_BAD_EXTENT},
+    {16777215, 0, 16777216, BARKPADDLE_BAD_EXTENT},
+    {0, 64, 16777216, BARKPADDLE_BAD_EXTENT}};
+
+/* A piece by itself, of every kind, in a shape with both marks and with none: where it ends has nothing to do with these. */
+static void one_piece(void)
+{
+    uint64_t kind;
+    size_t i;
+
+    for (i = 0; i < COUNT(endings); i++)
+        for (kind = 0; kind < 5; kind++) {
+            const uint64_t piece[4] = {kind, endings[i].size, 1, endings[i].offset};
+            value v = aggregate(endings[i].shape, 8, piece, 4);
+
+            check_everywhere("where a piece ends", v, endings[i].refusal);
+            v.complex_ = v.floating = 2;
+            check_everywhere("where a marked shape's piece ends", v, endings[i].refusal);
+            check_record_of(piece);
+        }
+}
+
+/* All that is near a small shape's end. */
+static void every_small_sum(void)
+{
+    static const uint64_t piece_sizes[] = {0, 1, 2, 4, 8};
+    uint64_t shape, offset;
+    size_t i;
+
+    for (shape = 0; shape <= 9; shape++)
+        for (offset = 0; offset <= 10; offset++)
+            for (i = 0; i < COUNT(piece_sizes); i++) {
+                const uint64_t piece[4] = {BARKPADDLE_KIND_INTEGER, piece_sizes[i], 1, offset};
+
+                check_everywhere(
+                    "a small sum", aggregate(shape, 8, piece, 4),
+                    offset + piece_sizes[i] > shape ? BARKPADDLE_BAD_EXTENT : BARKPADDLE_ACCEPTED);
+            }
+}
+
+/* The first of three, only the middle one, the last. */
+static void one_of_three(void)
+{
+    uint64_t three[] = {0, 8, 8, 0, 2, 8, 8, 8, 0, 8, 8, 16};
+    size_t i;
+
+    check_everywhere("three inside", aggregate(24, 8, three, COUNT(three)), BARKPADDLE_ACCEPTED);
+    for (i = 0; i < 3; i++) {
+        uint64_t *offset = &three[BARKPADDLE_PIECE_WORDS * i + BARKPADDLE_PIECE_OFFSET];
+
+        *offset = 16;
+        check_everywhere("one of three at the end", aggregate(24, 8, three, COUNT(three)), BARKPADDLE_ACCEPTED);
+        *offset = 17;
+        check_everywhere("one of three past", aggregate(24, 8, three, COUNT(three)), BARKPADDLE_BAD_EXTENT);
+        check_record("one of three late", barkpaddle_record(three, COUNT(three)), BARKPADDLE_ACCEPTED, 32, 8, 0);
+        *offset = 8 * i;
+    }
+}
+
+/* As many pieces as there may be: those of refusals_of, which have 8 bytes at 0, but for one at 1, the first, one in the middle, the last.
+ * One piece more is BAD_LIST. */
+static void one_of_most(void)
+{
+    static const size_t places[] = {0, 511, 1023};
+    size_t i;
+
+    check_everywhere("1,024 inside", aggregate(8, 8, many_words, 4096), BARKPADDLE_ACCEPTED);
+    for (i = 0; i < COUNT(places); i++) {
+        uint64_t *offset = &many_words[BARKPADDLE_PIECE_WORDS * places[i] + BARKPADDLE_PIECE_OFFSET];
+
+        *offset = 1;
+        check_everywhere("one of 1,024 past", aggregate(8, 8, many_words, 4096), BARKPADDLE_BAD_EXTENT);
+        check_everywhere("one of 1,024 at the end", aggregate(9, 8, many_words, 4096), BARKPADDLE_ACCEPTED);
+        check_everywhere("one of 1,025 past", aggregate(8, 8, many_words, 4100), BARKPADDLE_BAD_LIST);
+        check_record("one of 1,024 late", barkpaddle_record(many_words, 4096), BARKPADDLE_ACCEPTED, 16, 8, 0);
+        *offset = 0;
+    }
+}
+
+/* What is wrong with the call goes before a piece past. */
+static void calls_before_extents(void)
+{
+    static const uint64_t past[] = {0, 8, 8, 1};
+    const value v = aggregate(8, 8, past, 4);
+    uint64_t i;
+
+    for (i = 0; i < COUNT(no_row); i++)
+        check_asked("no row, a piece past", call_of(no_row[i], 0, 0, 0), v, BARKPADDLE_BAD_ABI);
+    for (i = 0; i < BARKPADDLE_ABI_COUNT; i++) {
+        barkpaddle_call start = barkpaddle_fresh(i).next;
+
+        check_asked("integers, a piece past", call_of(i, start.integer + 1, start.float_, 0), v, BARKPADDLE_BAD_CALL);
+        check_asked("floats, a piece past", call_of(i, start.integer, start.float_ + 1, 0), v, BARKPADDLE_BAD_CALL);
+        if (i != BARKPADDLE_ABI_WINDOWS_ARM64)
+            check_asked("a mark, a piece past", call_of(i, start.integer, start.float_, 1), v, BARKPADDLE_BAD_CALL);
+    }
+}
+
+/* So does what is wrong with the list or with the shape itself. */
+static void shapes_before_extents(void)
+{
+    /* a piece that ends past every size that is accepted, and past the first that isn't; and a part of another */
+    static const uint64_t past[] = {0, 64, 8, 16777216, 0, 8, 8};
+    uint64_t n;
+
+    for (n = 5; n <= COUNT(past); n++)
+        check_everywhere("parts, a piece past", aggregate(8, 8, past, n), BARKPADDLE_BAD_LIST);
+    check_everywhere("the shape's size, a piece past", aggregate(16777217, 8, past, 4), BARKPADDLE_BAD_SIZE);
+    check_everywhere("the shape's alignment, a piece past", aggregate(8, 4097, past, 4), BARKPADDLE_BAD_ALIGN);
+}
+
+/* And what is wrong with any piece, be it before the one that is past or behind it. */
+static void pieces_before_extents(void)
+{
+    static const uint64_t past[] = {0, 8, 8, 93}, past_nothing[] = {0, 8, 8, 0, 5, 8, 8, 0};
+    /* two would end inside, if their sums might wrap */
+    static const uint64_t bad[][4] = {
+        {5, 8, 8, 0}, {0, 65, 8, 0}, {0, UINT64_MAX - 7, 8, 8}, {0, 8, 8, 16777217}, {0, 8, 8, UINT64_MAX - 7}, {0, 8, 4097, 0}};
+    static const uint64_t refusals[] = {BARKPADDLE_BAD_KIND, BARKPADDLE_BAD_SIZE, BARKPADDLE_BAD_SIZE,
+                                        BARKPADDLE_BAD_SIZE, BARKPADDLE_BAD_SIZE, BARKPADDLE_BAD_ALIGN};
+    uint64_t two[8];
+    size_t i;
+
+    for (i = 0; i < COUNT(bad); i++) {
+        memcpy(two, past, sizeof past);
+        memcpy(two + 4, bad[i], sizeof bad[i]);
+        check_everywhere("a piece past, then a bad one", aggregate(100, 8, two, 8), refusals[i]);
+        memcpy(two, bad[i], sizeof bad[i]);
+        memcpy(two + 4, past, sizeof past);
+        check_everywhere("a bad piece, then one past", aggregate(100, 8, two, 8), refusals[i]);
+    }
+    check_everywhere("an empty shape, a piece past, a kind", aggregate(0, 8, past_nothing, 8), BARKPADDLE_BAD_KIND);
+}
+
+/* In a buffer of any length a piece past is BAD_EXTENT; one that is too small is NO_ROOM only where all pieces are inside. */
+static void extents_before_room(void)
+{
+    static const uint64_t past[] = {0, 8, 8, 0, 2, 8, 8, 9};
+    static const uint64_t two_slots[] = {0, 0, 8, 2, 8, 0}, two_words[] = {0, 0, 8, 0, 8, 8};
+    static const uint64_t whole_0[] = {6, 8, 0, 0, 0, 0}, given_0[] = {5, 7, 0, 1, 0, 1};
+    static const uint64_t whole_1[] = {8, 8, 0, 0, 0, 0}, given_1[] = {6, 8, 0, 2, 0, 0};
+    const value inside = aggregate(16, 8, int8_double, COUNT(int8_double)), outside = aggregate(16, 8, past, COUNT(past));
+    uint64_t row, length;
+
+    LINE("inside, row 0", RETURN, call_of(0, 6, 8, 0), inside, BARKPADDLE_WAY_PIECES, whole_0, two_slots);
+    LINE("inside, row 0", ARGUMENT, call_of(0, 6, 8, 0), inside, BARKPADDLE_WAY_PIECES, given_0, two_slots);
+    LINE("inside, row 0", VARIADIC_ARGUMENT, call_of(0, 6, 8, 0), inside, BARKPADDLE_WAY_PIECES, given_0, two_slots);
+    LINE("inside, row 1", RETURN, call_of(1, 8, 8, 0), inside, BARKPADDLE_WAY_PIECES, whole_1, two_words);
+    LINE("inside, row 1", ARGUMENT, call_of(1, 8, 8, 0), inside, BARKPADDLE_WAY_PIECES, given_1, two_words);
+    LINE("inside, row 1", VARIADIC_ARGUMENT, call_of(1, 8, 8, 0), inside, BARKPADDLE_WAY_PIECES, given_1, two_words);
+    for (row = 0; row < BARKPADDLE_ABI_COUNT; row++)
+        for (length = 0; length <= ROOM; length++) {
+            barkpaddle_call c = barkpaddle_fresh(row).next;
+
+            check_refused("past, any room", RETURN, c, outside, length, BARKPADDLE_BAD_EXTENT);
+            check_refused("past, any room", ARGUMENT, c, outside, length, BARKPADDLE_BAD_EXTENT);
+            check_refused("past, any room", VARIADIC_ARGUMENT, c, outside, length, BARKPADDLE_BAD_EXTENT);
+        }
+}
+
+/* How shapes travel on row 0 that end with a piece of no bytes: its end is a byte further on (REFERENCE 4.1), so no eightbyte has it. */
+static void nothing_at_the_end(void)
+{
+    static const uint64_t at_8[] = {0, 0, 1, 8}, at_0[] = {0, 0, 1, 0}, at_limit[] = {0, 0, 1, 16777216};
+    static const uint64_t whole[] = {6, 8, 0, 0, 0, 0}, pointer[] = {5, 8, 0, 1, 0, 0};
+    const barkpaddle_call c = call_of(0, 6, 8, 0);
+
+    BARE("nothing at 8 of 8", ARGUMENT, c, aggregate(8, 8, at_8, 4), BARKPADDLE_WAY_MEMORY, whole);
+    BARE("nothing at 8 of 8", VARIADIC_ARGUMENT, c, aggregate(8, 8, at_8, 4), BARKPADDLE_WAY_MEMORY, whole);
+    BARE("nothing at 8 of 8, back", RETURN, c, aggregate(8, 8, at_8, 4), BARKPADDLE_WAY_REFERENCE, pointer);
+    BARE("nothing at 0 of 0", ARGUMENT, c, aggregate(0, 8, at_0, 4), BARKPADDLE_WAY_IGNORE, whole);
+    BARE("nothing at 0 of 0", VARIADIC_ARGUMENT, c, aggregate(0, 8, at_0, 4), BARKPADDLE_WAY_IGNORE, whole);
+    BARE("nothing at 0 of 0, back", RETURN, c, aggregate(0, 8, at_0, 4), BARKPADDLE_WAY_IGNORE, whole);
+    BARE("nothing at the limit", ARGUMENT, c, aggregate(16777216, 8, at_limit, 4), BARKPADDLE_WAY_MEMORY, whole);
+    BARE("nothing at the limit, back", RETURN, c, aggregate(16777216, 8, at_limit, 4), BARKPADDLE_WAY_REFERENCE, pointer);
+}
+
+/* A shape with a piece whose offset and size add up to more than the shape's size: BAD_EXTENT (REFERENCE 3). */
+static void ends_past(void)
+{
+    one_piece();
+    every_small_sum();
+    one_of_three();
+    one_of_most();
+    calls_before_extents();
+    shapes_before_extents();
+    pieces_before_extents();
+    extents_before_room();
+    nothing_at_the_end();
 }
 
 /* ---- descriptions ---- */
@@ -1852,6 +2183,7 @@ int main(void)
     history();
     in_memory();
     records();
+    ends_past();
     descriptions();
     names();
     lookups();

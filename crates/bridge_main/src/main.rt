@@ -26,6 +26,11 @@ const TOO_LARGE: u64 = checks::MOST_OFFSET * 2;
 
 const TOO_ALIGNED: u64 = checks::MOST_ALIGN * 2;
 
+// The tally: a place for each refusal, at its number, and behind them one for each way.
+const REFUSALS: usize = 10;
+
+const TALLY: usize = REFUSALS + 5;
+
 // The call behind an operation, the seed of the next one, whether the two forms agreed, and which place of the tally it counts in. Where they
 // agreed they left one call.
 struct Turn {
@@ -36,7 +41,7 @@ struct Turn {
 }
 
 fn main() {
-    let mut tally = [0u64; 16];
+    let mut tally = [0u64; TALLY];
     let done = agreed(&mut tally);
     say(done, &tally);
 }
@@ -57,12 +62,20 @@ fn agreed(tally: &mut [u64]) -> u64 {
     done
 }
 
-// The refusals stand in the tally at their numbers, and the ways behind them.
+// A refusal or a way that has no place is counted nowhere: then the line's numbers don't add up to all operations.
 fn place_of(outcome: Outcome) -> usize {
-    if outcome.refusal > 0 {
-        return (outcome.refusal % 8) as usize;
+    let refusal = outcome.refusal as usize;
+    let way = outcome.way as usize;
+    if refusal >= REFUSALS {
+        return TALLY;
     }
-    (8 + outcome.way % 8) as usize
+    if refusal > 0 {
+        return refusal;
+    }
+    if way >= TALLY - REFUSALS {
+        return TALLY;
+    }
+    REFUSALS + way
 }
 
 fn count(tally: &mut [u64], place: usize) {
@@ -454,8 +467,9 @@ fn same_words(first: &[u64], second: &[u64]) -> bool {
 fn say(done: u64, tally: &[u64]) {
     io::print_decimal(STDOUT_FILENO, done);
     say_how(done);
-    say_counts(b"; refused with 1 to 7:", tally, 1, 8);
-    say_counts(b"; ways 0 to 4:", tally, 8, 13);
+    say_counts(b"; refused with 1 to 7 and 9:", tally, 1, 8);
+    say_counts(b"", tally, 9, REFUSALS);
+    say_counts(b"; ways 0 to 4:", tally, REFUSALS, TALLY);
     io::write_all(STDOUT_FILENO, b"\n");
 }
 

@@ -1,5 +1,5 @@
 -- The laws of the refusals: a test that holds decides, and one that fails moves on.
-use Prim.Native.Nat.{ℕ, zero, suc, _+_, _-_, _/_, _%_, _≤_, _<_}
+use Prim.Native.Nat.{ℕ, zero, suc, _+_, _-_, _/_, _%_, _≤_, _<_, max}
 use mathlib.Core.Path.{_≡_, refl}
 use mathlib.Core.List.{List}
 use mathlib.Core.Bool.{Bool, true, false, _||_, not}
@@ -10,10 +10,11 @@ use lib.ListN.{length, drop}
 use Rattle.shape.specs.declared.Piece.{Piece}
 use Rattle.shape.specs.declared.Scalar.{Scalar}
 use Rattle.shape.specs.declared.Shape.{Shape}
-use Rattle.shape.specs.Numbers.{quad, accepted, bad-list, bad-kind, bad-size, bad-align, most-size, most-offset, most-align, most-pieces}
-use Rattle.shape.specs.Words.{piecesOf}
-use Rattle.checks.specs.Check.{orElse, scalarRefusal, pieceRefusal, piecesRefusal, listRefusal, shapeRefusal}
-use Rattle.shape.proofs.Words.{length-pieces, Records, ByFirst, loop-turn}
+use Rattle.shape.specs.Numbers.{quad, accepted, bad-list, bad-kind, bad-size, bad-align, bad-extent, most-size, most-offset, most-align, most-pieces}
+use Rattle.shape.specs.Lists.{any}
+use Rattle.shape.specs.Words.{piecesOf, pieceAt}
+use Rattle.checks.specs.Check.{refuse, orElse, scalarRefusal, pieceRefusal, piecesRefusal, isPast, extentRefusal, listRefusal, shapeRefusal}
+use Rattle.shape.proofs.Words.{length-pieces, pieces-step, pieces-end, Records, ByFirst, loop-turn}
 
 -- the first of two answers decides where it is a refusal
 pub else-first : (n rest : ℕ) → (n ≡ accepted → ⊥) → n ≡ orElse n rest
@@ -109,6 +110,50 @@ pub pieces-by-first : ByFirst piecesRefusal pieceRefusal orElse accepted
 unfolding piecesRefusal
 pieces-by-first = record { none = refl; more = λ p ps. refl }
 
+-- pieces from a place on that are to end inside a size, where those before it reach so far
+abbrev pub reaching : ℕ → ℕ → List Piece → ℕ
+reaching size reach ps = orElse (piecesRefusal ps) (refuse (ltb size reach || any (isPast size) ps) bad-extent accepted)
+
+pub reach-start : (size : ℕ) (ps : List Piece) → orElse (piecesRefusal ps) (extentRefusal size ps) ≡ reaching size 0 ps
+unfolding extentRefusal
+reach-start size ps = rw (le-ltb size 0 (omega arith))
+
+-- the further of two ends past the size where one of them does
+further : (size a b : ℕ) (rest : Bool) → (ltb size a || (ltb size b || rest)) ≡ (ltb size (max a b) || rest)
+further size a b rest = go (ltb size a) refl (ltb size b) refl
+  where
+    go : (x : Bool) → ltb size a ≡ x → (y : Bool) → ltb size b ≡ y → (x || (y || rest)) ≡ (ltb size (max a b) || rest)
+    go true ex y ey = rw (lt-ltb size (max a b) (omega (arith, ltb-true size a ex)))
+    go false ex true ey = rw (lt-ltb size (max a b) (omega (arith, ltb-true size b ey)))
+    go false ex false ey = rw (le-ltb size (max a b) (omega (arith, ltb-false size a ex, ltb-false size b ey)))
+
+pub reach-none : (size : ℕ) (ws : List ℕ) → length ws < 4 → accepted ≡ orElse (piecesRefusal (piecesOf ws)) (extentRefusal size (piecesOf ws))
+unfolding piecesRefusal extentRefusal any
+reach-none size ws h = rw (pieces-end ws 0 (omega arith))
+
+module _ (size total : ℕ) (ws : List ℕ) (some : 4 ≤ length ws) (at reach : ℕ) (inv : total ≡ reaching size reach (piecesOf (drop at ws))) where
+  module _ (h : length ws - 4 < at) where
+    pub reach-past : size < reach → bad-extent ≡ total
+    unfolding piecesRefusal any
+    reach-past l = rw (inv, pieces-end ws at (omega arith), lt-ltb _ _ l)
+
+    pub reach-inside : reach ≤ size → accepted ≡ total
+    unfolding piecesRefusal any
+    reach-inside l = rw (inv, pieces-end ws at (omega arith), le-ltb _ _ l)
+
+  module _ (h : at ≤ length ws - 4) (p : Piece) (ep : p ≡ pieceAt ws at) (r : ℕ) (er : r ≡ pieceRefusal p) where
+    pub reach-refused : (r ≡ accepted → ⊥) → r ≡ total
+    unfolding piecesRefusal
+    reach-refused n = rw (inv, pieces-step ws at (omega arith), ← ep, ← er) (go r n _ _)
+      where
+        go : (r : ℕ) → (r ≡ accepted → ⊥) → (a b : ℕ) → r ≡ orElse (orElse r a) b
+        go zero n a b = absurd (n refl)
+        go (suc r) n a b = refl
+
+    pub reach-next : r ≡ accepted → (next : ℕ) → next ≡ max reach (p .offset + p .size) → total ≡ reaching size next (piecesOf (drop (at + 4) ws))
+    unfolding piecesRefusal any
+    reach-next z next en = rw (inv, pieces-step ws at (omega arith), ← ep, ← er, z, en, further size reach (p .offset + p .size))
+
 -- a shape and its words
 module _ (shape : Shape) (ws : List ℕ) (list : ℕ) (el : list ≡ listRefusal ws) where
   pub shape-list : (list ≡ accepted → ⊥) → list ≡ shapeRefusal shape ws
@@ -124,6 +169,7 @@ module _ (shape : Shape) (ws : List ℕ) (list : ℕ) (el : list ≡ listRefusal
     unfolding shapeRefusal
     shape-align s a = rw (← el, z, le-ltb _ _ s, lt-ltb _ _ a)
 
-    pub shape-pieces : shape .size ≤ most-offset → shape .align ≤ most-align → (r : ℕ) → r ≡ piecesRefusal (piecesOf ws) → r ≡ shapeRefusal shape ws
+    pub shape-pieces : shape .size ≤ most-offset → shape .align ≤ most-align
+        → (r : ℕ) → r ≡ orElse (piecesRefusal (piecesOf ws)) (extentRefusal (shape .size) (piecesOf ws)) → r ≡ shapeRefusal shape ws
     unfolding shapeRefusal
     shape-pieces s a r er = rw (← el, z, le-ltb _ _ s, le-ltb _ _ a, er)

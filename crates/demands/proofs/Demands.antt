@@ -18,9 +18,10 @@ use Rattle.shape.specs.declared.Scalar.{Scalar}
 use Rattle.shape.specs.declared.Shape.{Shape}
 use Rattle.shape.specs.Numbers.{accepted, most-size, most-offset, oneIf}
 use Rattle.shape.specs.Words.{pieceSize, piecesOf, scalarsOf, putAt}
-use Rattle.checks.specs.Check.{orElse, listRefusal, piecesRefusal}
+use Rattle.checks.specs.Check.{orElse, listRefusal, piecesRefusal, shapeRefusal}
 use Rattle.layouts.specs.Record.{isFloating, recorded, recordAnswer}
 use Rattle.layouts.specs.Members.{membersRefusal, placed, piecesWords, piecesAnswer, piecesWritten}
+use Rattle.layouts.proofs.Passing as records
 use Rattle.describe.specs.Questions.{isByReference, returnsByReference, wideReturnsIn}
 use Rattle.describe.specs.Description.{Description}
 use Rattle.abis.specs.Abis.{described, description-count}
@@ -48,6 +49,7 @@ use Rattle.ledger.proofs.Twelve as calls
 use Rattle.psabi.specs.Domain as psabi
 use Rattle.psabi.specs.Psabi.{psabiArgument, psabiResult}
 use Rattle.psabi.specs.Reading.{freeAt, results}
+use Rattle.psabi.proofs.Clauses as row-0-clauses
 use Rattle.psabi.proofs.Answers as row-0
 use Rattle.psabi.proofs.Answers.{Says}
 use Rattle.aapcs64.specs.Domain as aapcs64
@@ -68,10 +70,12 @@ use Rattle.export_questions.specs.Descriptions.{noDescription, fieldsOf, descri
 use Rattle.demands.specs.Refusals.{refusalsOf, numberRefusals, inMemoryRefusals, memberRefusals, recordRefusals, nameRefusals, attributeRefusals, questionRefusals, readRefusals, IsRefusal, Refused, RefusedTold, RefusedAs, noRecord, noRule, noBytes}
 use Rattle.demands.specs.Rust.{rustPasses, rulesSpend, Accepts, AsRust, recordAlign, recordSize}
 use Rattle.demands.specs.Standards.{SaysArgument, SaysResult}
-use Rattle.demands.specs.Performed.{Started, Asks, Performed, AllPerformed}
+use Rattle.demands.specs.Performed.{Started, Asks, Takes, Performed, AllPerformed}
 use Rattle.demands.specs.Fastcall.{fastcallOutcome}
+use Rattle.demands.specs.Extent.{Extent}
 use Rattle.demands.specs.Lists.{AllPlaced, IsRead, AllRead}
 use Rattle.demands.proofs.Refusing as refusing
+use Rattle.demands.proofs.Ending as ending
 use Rattle.demands.proofs.Answering as answering
 use Rattle.demands.proofs.Performed as performing
 use Rattle.demands.proofs.Listing as listing
@@ -89,6 +93,15 @@ pub performed-refused : (c : Call) (op : Operation) (a : Answer) (after : List �
     → Refused (refusalsOf op) c (bufferOf op) a after
 performed-refused = performing.performed-refused
 
+-- one with BAD_EXTENT has a piece that ends past its aggregate's size, and nothing else wrong before that: `Extent` says that it is given there always,
+-- only there, and that what is accepted has no such piece; of a return, a fixed argument and one after the dots, whatever room the buffer has
+pub operation-extent : (c : Call) (shape : Shape) (words : List ℕ) (op : Operation) → Takes shape words op → Extent c shape words (answerFor op c .outcome .refusal)
+operation-extent = ending.operation-extent
+
+pub performed-extent : (c : Call) (op : Operation) (a : Answer) (after : List ℕ) → Performed c op a after
+    → (shape : Shape) (words : List ℕ) → Takes shape words op → Extent c shape words (a .outcome .refusal)
+performed-extent = performing.performed-extent
+
 -- a fresh call: every number but the refusal is 0, of the call too
 pub fresh-refused : (d : ℕ) → IsRefusal (freshAnswer d .outcome .refusal) → Refused numberRefusals (unmarked 0 0 0) [] (freshAnswer d) []
 fresh-refused = refusing.fresh-refused
@@ -102,6 +115,10 @@ pub in-memory-refused : (c : Call) (shape : Shape) (words : List ℕ) → IsRefu
     → RefusedTold inMemoryRefusals (alignTold (inMemoryAnswer c shape words)) [] []
 in-memory-refused = refusing.in-memory-refused
 
+-- which checks like an aggregate argument
+pub in-memory-extent : (c : Call) (shape : Shape) (words : List ℕ) → Extent c shape words (inMemoryAnswer c shape words .refusal)
+in-memory-extent = ending.in-memory-extent
+
 -- pieces from members
 pub pieces-refused : (members out : List ℕ) → IsRefusal (piecesAnswer members out .refusal)
     → RefusedTold memberRefusals (countTold (piecesAnswer members out)) out (piecesWritten members out)
@@ -111,6 +128,10 @@ pieces-refused = refusing.pieces-refused
 pub record-refused : (words : List ℕ) → IsRefusal (recordAnswer words .refusal)
     → RefusedAs recordRefusals (recordAnswer words .refusal) (noRecord (recordAnswer words .refusal)) (recordNumbers (recordAnswer words))
 record-refused = refusing.record-refused
+
+-- which passes as an aggregate with these pieces: none of them ends past it, and nothing else of it is refused
+pub record-passes : (words : List ℕ) → recordAnswer words .refusal ≡ accepted → shapeRefusal (recordAnswer words .shape) words ≡ accepted
+record-passes = records.record-passes
 
 -- a description's name
 pub name-refused : (d : ℕ) (out : List ℕ) → IsRefusal (nameAnswer d (length out) .refusal)
@@ -143,7 +164,8 @@ return-rule-refused = refusing.return-rule-refused
 pub argument-rule-refused : (d i : ℕ) → IsRefusal (argumentRuleAnswer d i .refusal) → RefusedAs numberRefusals (argumentRuleAnswer d i .refusal) noRule (argumentRuleAnswer d i)
 argument-rule-refused = refusing.argument-rule-refused
 
--- ---- Demand 2: what is accepted is answered as the Rust answers, and on descriptions 0 and 1 as the standards say
+-- ---- Demand 2: what is accepted is answered as the Rust answers, and on descriptions 0 and 1 as the standards say. The Rust answers an aggregate
+-- with a piece past its size, too; it isn't accepted here, and so not compared
 
 -- an operation is accepted only where its checks pass and its slots have room (`Accepts`)
 pub operation-accepts : (op : Operation) (c : Call) → answerFor op c .outcome .refusal ≡ accepted → Accepts op c
@@ -289,6 +311,10 @@ pub performed-result-is-psabi : (c : Call) (shape : Shape) (words out : List ℕ
     → Performed c (return (Aggregate shape) words out) a after → a .outcome .refusal ≡ accepted
     → Says results c a after (psabiResult (freeAt c) (shape .size) (piecesOf words))
 performed-result-is-psabi = performing.result-psabi
+
+-- one clause of that domain, every piece inside the size, holds of whatever is accepted, on this description and on every other
+pub accepted-is-inside : (c : Call) (shape : Shape) (words : List ℕ) → refusalOf c (Aggregate shape) words ≡ accepted → psabi.isInside shape (piecesOf words) ≡ true
+accepted-is-inside = row-0-clauses.accepted-inside
 
 -- description 1 equals AAPCS64 on its domain, for every natural alignment that the shape's and its pieces' alignments allow: `SaysArgument` and
 -- `SaysResult` read the answer in the standard's words, x and v registers by number, and the counts left as NGRN and NSRN

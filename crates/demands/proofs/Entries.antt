@@ -13,8 +13,9 @@ use Rattle.shape.specs.declared.Arg.the-variants.{Aggregate}
 use Rattle.shape.specs.declared.Shape.{Shape}
 use Rattle.shape.specs.Numbers.{accepted, most-size, most-offset, oneIf}
 use Rattle.shape.specs.Words.{pieceSize, scalar, piecesOf, scalarsOf, putAt}
-use Rattle.checks.specs.Check.{orElse, listRefusal, piecesRefusal}
-use Rattle.layouts.specs.Record.{isFloating, recorded}
+use Rattle.checks.specs.Check.{orElse, listRefusal, piecesRefusal, shapeRefusal}
+use Rattle.layouts.specs.Record.{isFloating, recorded, recordAnswer}
+use Rattle.layouts.proofs.Passing as records
 use Rattle.layouts.specs.Members.{membersRefusal, placed, piecesWords}
 use Rattle.describe.specs.Questions.{isByReference, returnsByReference, wideReturnsIn}
 use Rattle.abis.specs.Abis.{described, description-count}
@@ -30,6 +31,7 @@ use Rattle.classify.specs.Answers.{refusalOf}
 use Rattle.classify.proofs.Call.in_memory.Reads as call-in-memory
 use Rattle.export_numbers.specs.declared.Told.{Told}
 use Rattle.export_numbers.specs.Numbers.{isSet, shapeFrom, told}
+use Rattle.export_numbers.proofs.ReadBack as numbers
 use Rattle.export_questions.specs.declared.members.RecordNumbers.{RecordNumbers}
 use Rattle.export_questions.specs.declared.descriptions.Description.{Description}
 use Rattle.export_questions.specs.declared.descriptions.RuleNumbers.{RuleNumbers}
@@ -57,8 +59,10 @@ use Rattle.export_varargs.proofs.barkpaddle_read_scalar.Reads as entry-read-sca
 use Rattle.demands.specs.Contracts.{Answers, AnswersAlone}
 use Rattle.demands.specs.Performed.{handed}
 use Rattle.demands.specs.Refusals.{numberRefusals, inMemoryRefusals, memberRefusals, recordRefusals, nameRefusals, attributeRefusals, questionRefusals, readRefusals, IsRefusal, RefusedTold, RefusedAs, noRecord, noRule, noPart}
+use Rattle.demands.specs.Extent.{Extent}
 use Rattle.demands.specs.Rust.{recordAlign, recordSize}
 use Rattle.demands.proofs.Refusing as refusing
+use Rattle.demands.proofs.Ending as ending
 use Rattle.demands.proofs.Answering as answering
 use Rattle.demands.proofs.Listing as listing
 
@@ -67,17 +71,20 @@ use Rattle.demands.proofs.Listing as listing
 pub in-memory-method : (κs : Lfts 1) (c : Call) (shape : Shape) (words : RefT (List ℕ))
     → AnswersAlone (call-in-memory.Post κs) (c, (shape, (words, tt)))
     (λ (r : InMemory). (IsRefusal (r .refusal) → RefusedTold inMemoryRefusals (alignTold r) [] [])
+    × Extent c shape (now words) (r .refusal)
     × (refusalOf c (Aggregate shape) (now words) ≡ accepted → alignTold r ≡ told accepted (inMemory (described (c .abi)) shape (piecesOf (now words)))))
-in-memory-method κs c shape words r s p = rw p (refusing.in-memory-refused c shape (now words), answering.in-memory-as-rust c shape (now words))
+in-memory-method κs c shape words r s p =
+    rw p (refusing.in-memory-refused c shape (now words), ending.in-memory-extent c shape (now words), answering.in-memory-as-rust c shape (now words))
 
 pub in-memory-entry : (κs : Lfts 1) (c : Call) (size align complex floating : ℕ) (words : RefT (List ℕ))
     → AnswersAlone (entry-in-memory.Post κs) (handed c (size, (align, (complex, (floating, (words, tt))))))
     (λ (r : Told). (IsRefusal (r .refusal) → RefusedTold inMemoryRefusals r [] [])
+    × Extent c (shapeFrom size align complex floating) (now words) (r .refusal)
     × (refusalOf c (Aggregate (shapeFrom size align complex floating)) (now words) ≡ accepted
     → r ≡ told accepted (inMemory (described (c .abi)) (shapeFrom size align complex floating) (piecesOf (now words)))))
 in-memory-entry κs c size align complex floating words r s p =
-    rw p
-    (refusing.in-memory-refused c (shapeFrom size align complex floating) (now words), answering.in-memory-as-rust c (shapeFrom size align complex floating) (now words))
+    let shape : Shape = shapeFrom size align complex floating in
+    rw p (refusing.in-memory-refused c shape (now words), ending.in-memory-extent c shape (now words), answering.in-memory-as-rust c shape (now words))
 
 -- ---- pieces and records
 
@@ -91,10 +98,16 @@ pieces-entry κs members out r s p = rw (p .0, p .1) (refusing.pieces-refused (n
 pub record-entry : (κs : Lfts 1) (words : RefT (List ℕ))
     → AnswersAlone (entry-record.Post κs) (words, tt)
     (λ (r : RecordNumbers). (IsRefusal (r .refusal) → RefusedAs recordRefusals (r .refusal) (noRecord (r .refusal)) r)
+    × (r .refusal ≡ accepted → shapeRefusal (shapeFrom (r .size) (r .align) (r .complex) (r .floating)) (now words) ≡ accepted)
     × (orElse (listRefusal (now words)) (piecesRefusal (piecesOf (now words))) ≡ accepted → (recordAlign (piecesOf (now words)) ≡ 0 → ⊥)
     → recordSize (piecesOf (now words)) ≤ most-offset
     → r ≡ recordNumbers (recorded accepted (recordSize (piecesOf (now words))) (recordAlign (piecesOf (now words))) (isFloating (recordSize (piecesOf (now words))) (piecesOf (now words))))))
-record-entry κs words r s p = rw p (refusing.record-refused (now words), λ z a h. ap recordNumbers (answering.record-as-rust (now words) z a h))
+record-entry κs words r s p =
+    rw p (
+      refusing.record-refused (now words),
+      λ z. rw (numbers.shape-read-back (recordAnswer (now words) .shape)) (records.record-passes (now words) z),
+      λ z a h. ap recordNumbers (answering.record-as-rust (now words) z a h),
+    )
 
 -- ---- descriptions
 

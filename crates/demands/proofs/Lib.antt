@@ -5,3 +5,4 @@ mod Answering
 mod Performed
 mod Listing
 mod Carried
+mod Ending

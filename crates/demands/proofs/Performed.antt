@@ -37,11 +37,13 @@ use Rattle.demands.specs.Refusals.{numberRefusals, refusalsOf, IsRefusal
 use Rattle.demands.specs.Rust.{rustPasses, rulesSpend, Accepts, AsRust}
 use Rattle.demands.specs.Standards.{SaysArgument, SaysResult}
 use Rattle.demands.specs.Fastcall.{fastcallOutcome}
+use Rattle.demands.specs.Extent.{Extent}
 use Rattle.demands.proofs.Refusing.{operation-refused, fresh-refused}
 use Rattle.demands.proofs.Answering.{operation-accepts, operation-as-rust, operation-way, fresh-as-rust, fresh-is-unmarked, mark-marks}
+use Rattle.demands.proofs.Ending.{operation-extent}
 use Rattle.demands.proofs.Carried.{row-is-given-nothing, fastcall-aggregate}
 use Rattle.demands.specs.Performed as by
-use Rattle.demands.specs.Performed.{Started, Asks, Performed, AllPerformed, leaving}
+use Rattle.demands.specs.Performed.{Started, Asks, Takes, Performed, AllPerformed, leaving}
 
 -- ---- an operation
 
@@ -93,6 +95,10 @@ by-definition c op a after p P h = let d = performed-defined c op a after p in r
 module _ (c : Call) (op : Operation) (a : Answer) (after : List ℕ) (p : Performed c op a after) where
   pub performed-refused : IsRefusal (a .outcome .refusal) → Refused (refusalsOf op) c (bufferOf op) a after
   performed-refused = by-definition c op a after p (λ a after. IsRefusal (a .outcome .refusal) → Refused (refusalsOf op) c (bufferOf op) a after) (operation-refused op c)
+
+  pub performed-extent : (shape : Shape) (words : List ℕ) → Takes shape words op → Extent c shape words (a .outcome .refusal)
+  performed-extent shape words takes =
+      by-definition c op a after p (λ a after. Extent c shape words (a .outcome .refusal)) (operation-extent c shape words op takes)
 
   pub performed-accepts : a .outcome .refusal ≡ accepted → Accepts op c
   performed-accepts = by-definition c op a after p (λ a after. a .outcome .refusal ≡ accepted → Accepts op c) (operation-accepts op c)

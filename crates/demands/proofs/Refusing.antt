@@ -14,10 +14,11 @@ use Rattle.shape.specs.declared.Arg as args
 use Rattle.shape.specs.declared.Piece.{Piece}
 use Rattle.shape.specs.declared.Scalar.{Scalar}
 use Rattle.shape.specs.declared.Shape.{Shape}
-use Rattle.shape.specs.Numbers.{quad, accepted, bad-abi, bad-call, bad-list, bad-kind, bad-size, bad-align, no-room, most-size, most-offset, most-align, most-pieces}
+use Rattle.shape.specs.Lists.{any}
+use Rattle.shape.specs.Numbers.{quad, accepted, bad-abi, bad-call, bad-list, bad-kind, bad-size, bad-align, no-room, bad-extent, most-size, most-offset, most-align, most-pieces}
 use Rattle.shape.specs.Words.{pieceSize, scalarSize, piecesOf, scalarsOf, putAt}
 use Rattle.shape.proofs.Put.{put-short}
-use Rattle.checks.specs.Check.{refuse, orElse, unlessRefused, scalarRefusal, pieceRefusal, piecesRefusal, listRefusal, shapeRefusal}
+use Rattle.checks.specs.Check.{refuse, orElse, unlessRefused, scalarRefusal, pieceRefusal, piecesRefusal, isPast, extentRefusal, listRefusal, shapeRefusal}
 use Rattle.slots.specs.Words.{slotSize}
 use Rattle.layouts.specs.declared.Recorded.{Recorded}
 use Rattle.layouts.specs.Record.{roundUp, largestAlign, furthestEnd, refuseRecord, recordMade, orRecord, recordAnswer}
@@ -91,6 +92,10 @@ module _ (numbers : List ℕ) where
       refuse-within numbers (ltb 0 (length ws % pieceSize)) bad-list _ list
       (refuse-within numbers (ltb most-pieces (length (piecesOf ws))) bad-list accepted list tt)
 
+  extent-within : OneOf numbers bad-extent → (size : ℕ) (ps : List Piece) → Within numbers (extentRefusal size ps)
+  unfolding extentRefusal
+  extent-within extent size ps = refuse-within numbers (any (isPast size) ps) bad-extent accepted extent tt
+
   row-within : OneOf numbers bad-abi → (d : ℕ) → Within numbers (rowRefusal d)
   unfolding rowRefusal
   row-within abi d = refuse-within numbers (leb description-count d) bad-abi accepted abi tt
@@ -106,25 +111,27 @@ module _ (numbers : List ℕ) where
         refuse-within numbers (ltb 0 (length ws % scalarSize)) bad-list _ list
         (refuse-within numbers (ltb most-pieces (length (scalarsOf ws))) bad-list _ list (scalars-within kind size align (scalarsOf ws)))
 
-    shape-within : (shape : Shape) (ws : List ℕ) → Within numbers (shapeRefusal shape ws)
-    unfolding shapeRefusal
-    shape-within shape ws =
-        else-within numbers (listRefusal ws) _ (list-within list ws)
-        (refuse-within numbers (ltb most-offset (shape .size)) bad-size _ size
-        (refuse-within numbers (ltb most-align (shape .align)) bad-align _ align (pieces-within kind size align (piecesOf ws))))
+    module _ (extent : OneOf numbers bad-extent) where
+      shape-within : (shape : Shape) (ws : List ℕ) → Within numbers (shapeRefusal shape ws)
+      unfolding shapeRefusal
+      shape-within shape ws =
+          else-within numbers (listRefusal ws) _ (list-within list ws)
+          (refuse-within numbers (ltb most-offset (shape .size)) bad-size _ size
+          (refuse-within numbers (ltb most-align (shape .align)) bad-align _ align
+          (else-within numbers (piecesRefusal (piecesOf ws)) _ (pieces-within kind size align (piecesOf ws)) (extent-within extent (shape .size) (piecesOf ws)))))
 
-    arg-within : (arg : args.Arg) (ws : List ℕ) → Within numbers (argRefusal arg ws)
-    unfolding argRefusal
-    arg-within args.the-variants.Void ws = tt
-    arg-within (args.the-variants.Scalar s) ws = scalar-within kind size align s
-    arg-within (args.the-variants.Aggregate shape) ws = shape-within shape ws
+      arg-within : (arg : args.Arg) (ws : List ℕ) → Within numbers (argRefusal arg ws)
+      unfolding argRefusal
+      arg-within args.the-variants.Void ws = tt
+      arg-within (args.the-variants.Scalar s) ws = scalar-within kind size align s
+      arg-within (args.the-variants.Aggregate shape) ws = shape-within shape ws
 
-    checks-within : OneOf numbers bad-abi → OneOf numbers bad-call → (c : Call) (arg : args.Arg) (ws : List ℕ) → Within numbers (refusalOf c arg ws)
-    unfolding refusalOf refusalBy checked
-    checks-within abi call c arg ws =
-        else-within numbers (rowRefusal (c .abi)) _ (row-within abi (c .abi))
-        (else-within numbers (leftRefusal (termsOf (described (c .abi))) (c .left)) (argRefusal arg ws)
-        (left-within call (termsOf (described (c .abi))) (c .left)) (arg-within arg ws))
+      checks-within : OneOf numbers bad-abi → OneOf numbers bad-call → (c : Call) (arg : args.Arg) (ws : List ℕ) → Within numbers (refusalOf c arg ws)
+      unfolding refusalOf refusalBy checked
+      checks-within abi call c arg ws =
+          else-within numbers (rowRefusal (c .abi)) _ (row-within abi (c .abi))
+          (else-within numbers (leftRefusal (termsOf (described (c .abi))) (c .left)) (argRefusal arg ws)
+          (left-within call (termsOf (described (c .abi))) (c .left)) (arg-within arg ws))
 
 -- ---- operations on a call
 
@@ -136,7 +143,7 @@ module _ (c : Call) (arg : args.Arg) (words out : List ℕ) where
   whole-within : (p : Passed) → Within valueRefusals (wholeRefusal (refusalOf c arg words) p out)
   unfolding isOneOf
   whole-within p =
-      else-within valueRefusals (refusalOf c arg words) _ (checks-within valueRefusals refl refl refl refl refl refl c arg words)
+      else-within valueRefusals (refusalOf c arg words) _ (checks-within valueRefusals refl refl refl refl refl refl refl c arg words)
       (refuse-within valueRefusals (ltb (length out / slotSize) (length (passSlots (p .pass)))) no-room accepted refl tt)
 
   answer-refused : (p : Passed) (spent : Spent) → IsRefusal (answerTo (refusalOf c arg words) c p spent out .outcome .refusal)
@@ -159,7 +166,7 @@ module _ (c : Call) (arg : args.Arg) (words out : List ℕ) where
   unfolding variadicArgumentAnswer variadicArgumentWritten variadicArgumentAnswerBy variadicArgumentWrittenBy refusalOf
   variadic-argument-refused = answer-refused _ _
 
-call-within : (D : Description) (c : Call) → Within markRefusals (callRefusalBy (rowRefusal (c .abi)) D c)
+pub call-within : (D : Description) (c : Call) → Within markRefusals (callRefusalBy (rowRefusal (c .abi)) D c)
 unfolding callRefusalBy isOneOf
 call-within D c =
     else-within markRefusals (rowRefusal (c .abi)) _ (row-within markRefusals refl (c .abi)) (left-within markRefusals refl (termsOf D) (c .left))
@@ -194,7 +201,7 @@ pub in-memory-refused : (c : Call) (shape : Shape) (words : List ℕ) → IsRefu
     → RefusedTold inMemoryRefusals (alignTold (inMemoryAnswer c shape words)) [] []
 unfolding inMemoryAnswer inMemoryAnswerBy refusalOf isOneOf
 in-memory-refused c shape words =
-    go (refusalOf c (args.the-variants.Aggregate shape) words) _ (checks-within inMemoryRefusals refl refl refl refl refl refl c (args.the-variants.Aggregate shape) words)
+    go (refusalOf c (args.the-variants.Aggregate shape) words) _ (checks-within inMemoryRefusals refl refl refl refl refl refl refl c (args.the-variants.Aggregate shape) words)
   where
     go : (n align : ℕ) → Within inMemoryRefusals n → IsRefusal (orAlign n align .refusal) → RefusedTold inMemoryRefusals (alignTold (orAlign n align)) [] []
     go zero align k h = absurd (h refl)

@@ -5,3 +5,4 @@ pub mod Performed
 pub mod Contracts
 pub mod Lists
 pub mod Fastcall
+pub mod Extent

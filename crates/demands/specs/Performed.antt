@@ -74,6 +74,13 @@ pub data Asks (arg : Arg) : Operation → Type 0 where
   as-fixed : (words out : List ℕ) → Asks arg (asks.argument arg words out)
   as-variadic : (words out : List ℕ) → Asks arg (asks.variadic-argument arg words out)
 
+-- ---- what takes an aggregate with these pieces: a return, a fixed argument, or one after the dots
+
+pub data Takes (shape : Shape) (words : List ℕ) : Operation → Type 0 where
+  as-result : (out : List ℕ) → Takes shape words (asks.return (Aggregate shape) words out)
+  as-argument : (out : List ℕ) → Takes shape words (asks.argument (Aggregate shape) words out)
+  as-variadic-argument : (out : List ℕ) → Takes shape words (asks.variadic-argument (Aggregate shape) words out)
+
 -- ---- an operation is performed: on which call, what it is, the answer, and the words of the buffer afterwards
 
 pub data Performed (c : Call) : Operation → Answer → List ℕ → Type 0 where

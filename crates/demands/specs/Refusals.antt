@@ -5,7 +5,7 @@ use mathlib.Core.Path.{_≡_}
 use mathlib.Core.Bool.{Bool, true, false, _||_}
 use mathlib.Core.List.{List, [], _∷_}
 use lib.Dec.{eqb}
-use Rattle.shape.specs.Numbers.{accepted, bad-abi, bad-call, bad-list, bad-kind, bad-size, bad-align, no-room, bad-area}
+use Rattle.shape.specs.Numbers.{accepted, bad-abi, bad-call, bad-list, bad-kind, bad-size, bad-align, no-room, bad-area, bad-extent}
 use Rattle.spend.specs.Ways.{nothing}
 use Rattle.classify.specs.declared.Call.{Call}
 use Rattle.classify.specs.declared.Outcome.{Outcome}
@@ -23,7 +23,7 @@ use Rattle.export_varargs.specs.declared.Part.{Part}
 
 -- an operation on a value
 abbrev pub valueRefusals : List ℕ
-valueRefusals = bad-abi ∷ bad-call ∷ bad-list ∷ bad-kind ∷ bad-size ∷ bad-align ∷ no-room ∷ []
+valueRefusals = bad-abi ∷ bad-call ∷ bad-list ∷ bad-kind ∷ bad-size ∷ bad-align ∷ bad-extent ∷ no-room ∷ []
 
 abbrev pub markRefusals : List ℕ
 markRefusals = bad-abi ∷ bad-call ∷ []
@@ -39,7 +39,7 @@ abbrev pub numberRefusals : List ℕ
 numberRefusals = bad-abi ∷ []
 
 abbrev pub inMemoryRefusals : List ℕ
-inMemoryRefusals = bad-abi ∷ bad-call ∷ bad-list ∷ bad-kind ∷ bad-size ∷ bad-align ∷ []
+inMemoryRefusals = bad-abi ∷ bad-call ∷ bad-list ∷ bad-kind ∷ bad-size ∷ bad-align ∷ bad-extent ∷ []
 
 abbrev pub memberRefusals : List ℕ
 memberRefusals = bad-list ∷ bad-kind ∷ bad-size ∷ bad-align ∷ no-room ∷ []

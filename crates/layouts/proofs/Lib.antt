@@ -1,3 +1,4 @@
 pub mod Making
 pub mod Members
+pub mod Passing
 mod Unique

@@ -43,6 +43,10 @@ module _ (n a : ℕ) (p : 0 < a) where
       let k : (suc (n / a) * a + (n % a - 1)) / a ≡ suc (n / a) = digits-div (suc (n / a)) {m = a} {r = n % a - 1} (omega arith) in
       rw (e, k) (omega arith)
 
+  pub round-least : n ≤ roundUp n a
+  unfolding roundUp
+  round-least = omega (arith, div-add-mod' (n + (a - 1)) a, mod-lt (n + (a - 1)) p)
+
   pub round-bound : roundUp n a < n + a
   unfolding roundUp
   round-bound = omega (arith, div-mul-le-self (n + (a - 1)) a)
@@ -61,7 +65,7 @@ module _ (f : Piece → ℕ) (total : ℕ) (ws : List ℕ) (at best : ℕ) (inv 
 
 -- ---- bounds of accepted pieces
 
-furthest-bound : (ps : List Piece) → piecesRefusal ps ≡ accepted → furthestEnd ps ≤ 16777280
+pub furthest-bound : (ps : List Piece) → piecesRefusal ps ≡ accepted → furthestEnd ps ≤ 16777280
 unfolding maxOf
 furthest-bound [] e = omega arith
 furthest-bound (p ∷ ps) e =
@@ -69,7 +73,7 @@ furthest-bound (p ∷ ps) e =
     let r : furthestEnd ps ≤ 16777280 = furthest-bound ps (x .1) in
     omega (arith, x .0 .size≤, x .0 .offset≤)
 
-largest-bound : (ps : List Piece) → piecesRefusal ps ≡ accepted → largestAlign ps ≤ 4096
+pub largest-bound : (ps : List Piece) → piecesRefusal ps ≡ accepted → largestAlign ps ≤ 4096
 unfolding maxOf
 largest-bound [] e = omega arith
 largest-bound (p ∷ ps) e =

@@ -5,7 +5,8 @@ use mathlib.Core.List.{List, [], _∷_, map}
 use mathlib.Core.Option.Option.{some}
 use native.Mathlib.Omega.{arith}
 use lib.ListN.{getElem?}
-use Rattle.checks.specs.Check.{scalarRefusal, pieceRefusal, piecesRefusal, listRefusal, shapeRefusal}
+use Rattle.shape.specs.Lists.{any}
+use Rattle.checks.specs.Check.{scalarRefusal, pieceRefusal, piecesRefusal, extentRefusal, listRefusal, shapeRefusal}
 use Rattle.shape.specs.Questions.{allOf, isAllOf}
 use Rattle.shape.specs.Words.{piecesOf, putAt}
 use Rattle.slots.specs.Cut.{upTo, cut}
@@ -26,7 +27,7 @@ use Rattle.classify.specs.Answers as answers
 use Rattle.ledger.specs.Twelve.{Entry, twelve, answeredTo, expected}
 
 pub twelve-calls : map answeredTo twelve ≡ map expected twelve
-unfolding scalarRefusal pieceRefusal piecesRefusal listRefusal shapeRefusal allOf isAllOf piecesOf upTo cut floatsIn wordsOf putAt written abis.descriptions described foundIf floatsAt allSame isHomogeneous homogeneous pieceSlot fitsOne floatPair x87Stack loneFloat class.code class.same class.merge eight.cover eight.mark fits eight.classesAfter eight.spoiled eight.mend eight.settled eight.classified eight.slotsFrom eight.slotsFound eight.eightbytes rules.wantOf lone.skipOf lone.integerArgument lone.scalarInRegisters lone.scalarArgument rules.whenShort rules.inSlots rules.travelOf matches rust.registers rust.afterScalar rust.scalar rust.shortOf rust.slotsInRegisters rust.travel rust.apply rust.returns rust.argument spending.byRules spending.scalarBy spending.aggregateBy spending.returnChoice spending.argumentChoice answers.leftRefusal answers.argRefusal answers.checked answers.rowRefusal answers.refusalBy answers.answerTo answers.writtenTo answers.returnsAnswerBy answers.returnsWrittenBy answers.argumentAnswerBy answers.argumentWrittenBy answers.returnsAnswer answers.returnsWritten answers.argumentAnswer answers.argumentWritten
+unfolding any scalarRefusal pieceRefusal piecesRefusal extentRefusal listRefusal shapeRefusal allOf isAllOf piecesOf upTo cut floatsIn wordsOf putAt written abis.descriptions described foundIf floatsAt allSame isHomogeneous homogeneous pieceSlot fitsOne floatPair x87Stack loneFloat class.code class.same class.merge eight.cover eight.mark fits eight.classesAfter eight.spoiled eight.mend eight.settled eight.classified eight.slotsFrom eight.slotsFound eight.eightbytes rules.wantOf lone.skipOf lone.integerArgument lone.scalarInRegisters lone.scalarArgument rules.whenShort rules.inSlots rules.travelOf matches rust.registers rust.afterScalar rust.scalar rust.shortOf rust.slotsInRegisters rust.travel rust.apply rust.returns rust.argument spending.byRules spending.scalarBy spending.aggregateBy spending.returnChoice spending.argumentChoice answers.leftRefusal answers.argRefusal answers.checked answers.rowRefusal answers.refusalBy answers.answerTo answers.writtenTo answers.returnsAnswerBy answers.returnsWrittenBy answers.argumentAnswerBy answers.argumentWrittenBy answers.returnsAnswer answers.returnsWritten answers.argumentAnswer answers.argumentWritten
 twelve-calls = refl
 
 -- ---- an entry by its place in the table

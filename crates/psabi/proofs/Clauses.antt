@@ -5,15 +5,23 @@ use mathlib.Core.Bool.{Bool, true, false, not, _&&_, _||_, false≢true}
 use mathlib.Core.List.{List, [], _∷_}
 use native.Mathlib.Omega.{arith}
 use native.Mathlib.Decide.{decLe}
-use borrow.Author.Tests.{eqb-true, ltb-true, leb-true, not-true}
+use borrow.Author.Tests.{eqb-true, ltb-true, leb-true, le-leb, not-true}
 use lib.Dec.{eqb, leb}
 use Rattle.shape.proofs.Bools.{both-true}
+use Rattle.shape.specs.declared.Arg.the-variants.{Aggregate}
 use Rattle.shape.specs.declared.Piece.{Piece}
 use Rattle.shape.specs.declared.Shape.{Shape}
 use Rattle.shape.specs.Lists.{every, any}
-use Rattle.shape.specs.Numbers.{integer, single, double, x87-extended, quad}
+use Rattle.shape.specs.Numbers.{integer, single, double, x87-extended, quad, accepted}
+use Rattle.shape.specs.Words.{piecesOf}
+use Rattle.checks.specs.Check.{extentRefusal}
+use Rattle.checks.proofs.Accepted.{else-none, inside-first, inside-shape}
+use Rattle.describe.specs.Description.{termsOf}
+use Rattle.abis.specs.Abis.{described}
+use Rattle.classify.specs.declared.Call.{Call}
+use Rattle.classify.specs.Answers.{leftRefusal, argRefusal, checked, refusalBy, rowRefusal, refusalOf}
 use Rattle.psabi.specs.Psabi.{liesIn, eightbytesIn}
-use Rattle.psabi.specs.Domain.{howMany, atEach, isX87Piece, x87In, otherIn, isIntegerSize, isOfKind, Domain}
+use Rattle.psabi.specs.Domain.{howMany, atEach, isX87Piece, x87In, otherIn, isIntegerSize, isOfKind, isInside, Domain}
 
 -- ---- tests
 
@@ -123,3 +131,16 @@ module _ {shape : Shape} {ps : List Piece} (d : Domain shape ps) where
 
   pub at-most-one : howMany isX87Piece ps ≤ 1
   at-most-one = leb-true _ _ (d .lone)
+
+-- ---- one clause holds of every aggregate that an operation on a call accepts: BAD_EXTENT refuses all others
+
+each-inside : (size : ℕ) (ps : List Piece) → extentRefusal size ps ≡ accepted → every (λ p. leb (p .offset + p .size) size) ps ≡ true
+unfolding every
+each-inside size [] e = refl
+each-inside size (p ∷ ps) e = let x = inside-first size p ps e in rw (le-leb _ _ (x .0), each-inside size ps (x .1))
+
+pub accepted-inside : (c : Call) (shape : Shape) (words : List ℕ) → refusalOf c (Aggregate shape) words ≡ accepted → isInside shape (piecesOf words) ≡ true
+unfolding refusalOf refusalBy checked argRefusal
+accepted-inside c shape words e =
+    let of-value = else-none (leftRefusal (termsOf (described (c .abi))) (c .left)) _ (else-none (rowRefusal (c .abi)) _ e .1) .1 in
+    each-inside (shape .size) (piecesOf words) (inside-shape shape words of-value)

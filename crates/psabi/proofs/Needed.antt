@@ -61,7 +61,8 @@ others =
     ∷ difference result-of 7 16 (x87 0 ∷ x87 0 ∷ []) (byAddress (some rdi) (standing 5 8)) (inRegisters (place 0 st0 0 ∷ place 8 st0 1 ∷ []) (standing 6 8))
     -- its offset a multiple of 16: an unaligned one comes back in memory
     ∷ difference result-of 8 17 (x87 1 ∷ []) (inRegisters (place 1 st0 0 ∷ place 9 st0 1 ∷ []) (standing 6 8)) (byAddress (some rdi) (standing 5 8))
-    -- every piece inside the size: what sticks out touches no eightbyte
+    -- every piece inside the size: what sticks out touches no eightbyte. The Rust's definition and the standard part here; an operation refuses the
+    -- shape (`accepted-inside` in Clauses.antt), so of what is accepted this clause leaves nothing out
     ∷ difference argument-of 2 1 (int 16 0 ∷ []) (onStack (standing 6 8)) (inRegisters (place 0 rdi 0 ∷ []) (standing 5 8))
     -- its alignment equal to its size: a float over two eightbytes is SSE in both
     ∷ difference argument-of 3 9 (piece 1 4 1 5 ∷ []) (inRegisters (place 0 xmm0 0 ∷ place 8 xmm0 1 ∷ []) (standing 6 7)) (inRegisters (place 0 xmm0 0 ∷ place 8 xmm1 0 ∷ []) (standing 6 6))

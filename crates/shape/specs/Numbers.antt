@@ -56,6 +56,9 @@ no-room = 7
 abbrev pub bad-area : ℕ
 bad-area = 8
 
+abbrev pub bad-extent : ℕ
+bad-extent = 9
+
 -- the largest size of a scalar or a piece
 abbrev pub most-size : ℕ
 most-size = 64

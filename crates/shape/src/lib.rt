@@ -45,6 +45,8 @@ pub const NO_ROOM: u64 = 7;
 
 pub const BAD_AREA: u64 = 8;
 
+pub const BAD_EXTENT: u64 = 9;
+
 // The largest number of 64 bits.
 const MOST_WORD: u64 = 18446744073709551615;
 

@@ -249,17 +249,21 @@ fn put_layout(out: &mut [u8], at: usize, layout: usize, shape: Shape, pieces: &[
     put_pieces(out, at, pieces)
 }
 
-// The alignment in the argument area, on each of the rows.
+// The alignment in the argument area, on each of the rows. A fresh call is never refused, so a refusal is the shape's and every row's: it is said
+// once.
 fn put_memory(out: &mut [u8], from: usize, shape: Shape, pieces: &[u64]) -> usize {
     let mut at = from;
     for row in 0..abis::DESCRIPTIONS {
-        at = put_align(out, at, row, shape, pieces);
+        let answer = in_memory(row, shape, pieces);
+        at = put_align(out, at, answer);
+        if answer.refusal != shape::ACCEPTED {
+            return at;
+        }
     }
     at
 }
 
-fn put_align(out: &mut [u8], at: usize, row: u64, shape: Shape, pieces: &[u64]) -> usize {
-    let answer = in_memory(row, shape, pieces);
+fn put_align(out: &mut [u8], at: usize, answer: InMemory) -> usize {
     let numbers = [answer.align];
     put_accepted(out, at, answer.refusal, 1, 1, &numbers)
 }

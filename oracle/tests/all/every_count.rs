@@ -3,6 +3,7 @@
 use oracle::numbers;
 use oracle::random::Random;
 use oracle::records::{self, Record};
+use oracle::refusals;
 use oracle::shapes;
 use oracle::values::{Scalar, Value};
 
@@ -54,9 +55,10 @@ fn every_scalar_at_every_count() {
 fn shapes_at_every_count() {
     for row in 0..numbers::ROWS {
         let mut random = Random::new(row as u64);
-        let values: Vec<Value> = (0..400)
+        // The Rust is asked about none that is refused.
+        let values: Vec<Value> = (0..480)
             .map(|_| shapes::shape(&mut random))
-            .filter(|shape| shape.size < 10_000)
+            .filter(|shape| shape.size < 10_000 && refusals::of_shape(shape).is_none())
             .map(Value::Aggregate)
             .collect();
         ask_everywhere(row, &values);

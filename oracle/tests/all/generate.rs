@@ -3,6 +3,8 @@
 use std::collections::HashSet;
 
 use oracle::numbers::ROWS;
+use oracle::records::{self, AGGREGATE, FRESH, MARK, PIECE, Record};
+use oracle::values::MOST_PIECES;
 use oracle::{damage, generate};
 
 use crate::common;
@@ -45,7 +47,71 @@ fn a_good_sheet_has_every_word_and_every_refusal() {
     assert_eq!(words, HashSet::from(expected));
     let refused = printed.lines().filter(|line| line.starts_with("refused"));
     let refusals: HashSet<&str> = refused.filter_map(|line| line.split(' ').next_back()).collect();
-    assert_eq!(refusals, HashSet::from(["1", "4", "5", "6"]));
+    assert_eq!(refusals, HashSet::from(["1", "4", "5", "6", "9"]));
+}
+
+/// The aggregates of a good sheet: size, pieces, and the refusal, 0 where there is none.
+fn aggregates(sheet: &[u8]) -> Vec<(u64, Vec<Record>, u64)> {
+    let printed = common::printed(sheet);
+    let mut lines = printed.lines();
+    let mut aggregates: Vec<(u64, Vec<Record>, u64)> = Vec::new();
+    for record in sheet.as_chunks().0.iter().map(records::from_bytes) {
+        if record[0] == PIECE {
+            aggregates.last_mut().expect("a piece belongs to one").1.push(record);
+            continue;
+        }
+        let line = lines.next().expect("a line for each operation");
+        if ![FRESH, MARK].contains(&record[0]) && record[1] == AGGREGATE {
+            let refusal =
+                line.strip_prefix("refused ").and_then(|rest| rest.split(' ').next_back());
+            let refusal = refusal.map_or(0, |number| number.parse().expect("a number"));
+            aggregates.push((record[2], Vec::new(), refusal));
+        }
+    }
+    aggregates
+}
+
+/// A piece's offset plus its size, or the largest number where these are refused anyway.
+fn end(piece: &Record) -> u64 {
+    piece[4].saturating_add(piece[2])
+}
+
+#[test]
+fn pieces_end_at_the_size_and_past_it() {
+    let aggregates = aggregates(&good(1, 20_000));
+    let times = |refused: u64, past: u64| {
+        let is_so = |(size, pieces, refusal): &&(u64, Vec<Record>, u64)| {
+            *refusal == refused && pieces.iter().map(end).max() == size.checked_add(past)
+        };
+        aggregates.iter().filter(is_so).count()
+    };
+    // One byte is the difference.
+    assert!(times(0, 0) > 1_000, "{}", times(0, 0));
+    assert!(times(9, 1) > 50, "{}", times(9, 1));
+    assert_eq!(times(0, 1) + times(9, 0), 0);
+    let most = aggregates.iter().filter(|(_, pieces, _)| pieces.len() as u64 == MOST_PIECES);
+    let accepted = most.clone().filter(|(_, _, refusal)| *refusal == 0).count();
+    assert!(2 * accepted > most.clone().count(), "{accepted} of {}", most.count());
+}
+
+/// A number past its limit decides, whether the piece past the shape comes before it or after it.
+#[test]
+fn pieces_past_the_shape_stand_on_both_sides_of_a_number_past_its_limit() {
+    let mut orders: HashSet<(u64, bool)> = HashSet::new();
+    for (size, pieces, refusal) in aggregates(&good(1, 20_000)) {
+        let is_bad = |piece: &Record| {
+            piece[1] > 4 || piece[2] > 64 || piece[3] > 4_096 || piece[4] > 16_777_216
+        };
+        let Some(bad) = pieces.iter().position(is_bad) else { continue };
+        let past = pieces.iter().position(|piece| !is_bad(piece) && end(piece) > size);
+        orders.extend(past.map(|past| (refusal, past < bad)));
+    }
+    for refusal in [4, 5, 6] {
+        assert!(
+            orders.contains(&(refusal, true)) && orders.contains(&(refusal, false)),
+            "{refusal}"
+        );
+    }
 }
 
 #[test]

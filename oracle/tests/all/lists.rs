@@ -6,6 +6,8 @@ use oracle::lists::{self, List, MOST_SCALARS};
 use oracle::reader::{Area, Lent, Offsets, Part};
 use oracle::values::Scalar;
 
+use crate::common;
+
 const DOUBLE: Scalar = Scalar { kind: 2, size: 8, align: 8 };
 const X87: Scalar = Scalar { kind: 3, size: 16, align: 16 };
 const QUAD: Scalar = Scalar { kind: 4, size: 16, align: 16 };
@@ -220,6 +222,30 @@ fn the_lines_of_a_list_hang_together() {
             _ => panic!("no line has the word {word}"),
         }
     }
+}
+
+/// The named parameters as a sheet, in which the refused ones say so and leave the call.
+#[test]
+fn named_parameters_leave_what_they_leave_on_a_sheet() {
+    let mut refusals: HashSet<String> = HashSet::new();
+    let mut sheet: Vec<Vec<u64>> = Vec::new();
+    for line in printed(4, 5_000).lines() {
+        match taken_apart(line) {
+            ("list", _) => sheet = vec![vec![0, 0]],
+            ("named", words) => sheet.extend(words.chunks(6).map(<[u64]>::to_vec)),
+            ("left", numbers) => {
+                let records: Vec<&[u64]> = sheet.iter().map(Vec::as_slice).collect();
+                let lines = common::lines(&records);
+                let last = lines.last().expect("the fresh call has a line");
+                let left: Vec<String> = last.split(' ').skip(1).take(2).map(String::from).collect();
+                assert_eq!(left, [numbers[1], numbers[2]].map(|count| count.to_string()), "{last}");
+                let refused = lines.iter().filter(|line| line.starts_with("refused "));
+                refusals.extend(refused.map(|line| line[line.len() - 1..].to_string()));
+            }
+            _ => {}
+        }
+    }
+    assert_eq!(refusals, ["4", "5", "6", "9"].map(String::from).into());
 }
 
 /// How often each answer comes says whether the lists are telling.
