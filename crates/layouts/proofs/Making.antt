@@ -65,7 +65,7 @@ module _ (f : Piece → ℕ) (total : ℕ) (ws : List ℕ) (at best : ℕ) (inv 
 
 -- ---- bounds of accepted pieces
 
-pub furthest-bound : (ps : List Piece) → piecesRefusal ps ≡ accepted → furthestEnd ps ≤ 16777280
+furthest-bound : (ps : List Piece) → piecesRefusal ps ≡ accepted → furthestEnd ps ≤ 16777280
 unfolding maxOf
 furthest-bound [] e = omega arith
 furthest-bound (p ∷ ps) e =
