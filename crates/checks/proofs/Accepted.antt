@@ -39,11 +39,11 @@ record Other (m : ℕ) : Type 0 where
   size : bad-size ≡ m → ⊥
   align : bad-align ≡ m → ⊥
 
-none-of-them : Other accepted
-none-of-them = record { list = λ x. omega arith; kind = λ x. omega arith; size = λ x. omega arith; align = λ x. omega arith }
+accepted-other : Other accepted
+accepted-other = record { list = λ x. omega arith; kind = λ x. omega arith; size = λ x. omega arith; align = λ x. omega arith }
 
-extent-of-them : Other bad-extent
-extent-of-them = record { list = λ x. omega arith; kind = λ x. omega arith; size = λ x. omega arith; align = λ x. omega arith }
+extent-other : Other bad-extent
+extent-other = record { list = λ x. omega arith; kind = λ x. omega arith; size = λ x. omega arith; align = λ x. omega arith }
 
 -- the limits that an accepted scalar keeps
 pub record Fits (s : Scalar) : Type 0 where
@@ -76,9 +76,9 @@ within-other p m other e =
     (record { kind≤ = ltb-false _ _ (k .0); size≤ = ltb-false _ _ (z .0); offset≤ = ltb-false _ _ (o .0); align≤ = ltb-false _ _ (a .0) }, a .1)
 
 within : (p : Piece) → pieceRefusal p ≡ accepted → Within p
-within p e = within-other p accepted none-of-them e .0
+within p e = within-other p accepted accepted-other e .0
 
--- so the sum of its offset and its size is a small number
+-- so the sum of its offset and its size fits a word
 pub end-fits : (p : Piece) (r : ℕ) → r ≡ pieceRefusal p → r ≡ accepted → p .offset + p .size < 2 ^ 64
 end-fits p r er z = let w = within p (rw er at z) in omega (arith, w .size≤, w .offset≤)
 
@@ -102,7 +102,7 @@ whole-other ws m other e =
     (record { whole = omega arith; few = omega (arith, length-pieces ws) }, n .1)
 
 pub whole-list : (ws : List ℕ) → listRefusal ws ≡ accepted → Whole ws
-whole-list ws e = whole-other ws accepted none-of-them e .0
+whole-list ws e = whole-other ws accepted accepted-other e .0
 
 -- ---- where the pieces of a shape end
 
@@ -139,13 +139,13 @@ after-all shape ws ok = rw (ok .list, le-ltb _ _ (ok .size≤), le-ltb _ _ (ok .
 
 -- so every piece of an accepted shape ends inside it
 pub inside-shape : (shape : Shape) (ws : List ℕ) → shapeRefusal shape ws ≡ accepted → extentRefusal (shape .size) (piecesOf ws) ≡ accepted
-inside-shape shape ws e = shape-other shape ws accepted none-of-them e .1
+inside-shape shape ws e = shape-other shape ws accepted accepted-other e .1
 
 -- and BAD_EXTENT is given where all that comes before passes and a piece ends past the size, and nowhere else
 pub past-only : (shape : Shape) (ws : List ℕ) → shapeRefusal shape ws ≡ bad-extent → EndsPast shape ws
 unfolding extentRefusal
 past-only shape ws e =
-    let x = shape-other shape ws bad-extent extent-of-them e in
+    let x = shape-other shape ws bad-extent extent-other e in
     record { passes = x .0; past = go (any (isPast (shape .size)) (piecesOf ws)) (x .1) }
   where
     go : (b : Bool) → refuse b bad-extent accepted ≡ bad-extent → b ≡ true

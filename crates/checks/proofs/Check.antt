@@ -21,6 +21,11 @@ pub else-first : (n rest : ℕ) → (n ≡ accepted → ⊥) → n ≡ orElse n 
 else-first zero rest h = absurd (h refl)
 else-first (suc n) rest h = refl
 
+-- and how answers in a row are grouped makes no difference
+pub else-regroup : (a b rest : ℕ) → orElse a (orElse b rest) ≡ orElse (orElse a b) rest
+else-regroup zero b rest = refl
+else-regroup (suc a) b rest = refl
+
 -- one scalar: each test's law takes what the tests before it left
 module _ (s : Scalar) where
   pub scalar-kind : quad < s .kind → bad-kind ≡ scalarRefusal s
@@ -144,11 +149,7 @@ module _ (size total : ℕ) (ws : List ℕ) (some : 4 ≤ length ws) (at reach :
   module _ (h : at ≤ length ws - 4) (p : Piece) (ep : p ≡ pieceAt ws at) (r : ℕ) (er : r ≡ pieceRefusal p) where
     pub reach-refused : (r ≡ accepted → ⊥) → r ≡ total
     unfolding piecesRefusal
-    reach-refused n = rw (inv, pieces-step ws at (omega arith), ← ep, ← er) (go r n _ _)
-      where
-        go : (r : ℕ) → (r ≡ accepted → ⊥) → (a b : ℕ) → r ≡ orElse (orElse r a) b
-        go zero n a b = absurd (n refl)
-        go (suc r) n a b = refl
+    reach-refused n = rw (inv, pieces-step ws at (omega arith), ← ep, ← er, ← else-regroup) (else-first _ _ n)
 
     pub reach-next : r ≡ accepted → (next : ℕ) → next ≡ max reach (p .offset + p .size) → total ≡ reaching size next (piecesOf (drop (at + 4) ws))
     unfolding piecesRefusal any

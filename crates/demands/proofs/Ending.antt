@@ -12,6 +12,7 @@ use Rattle.shape.specs.Lists.{any}
 use Rattle.shape.specs.Numbers.{accepted, bad-extent, no-room}
 use Rattle.shape.specs.Words.{piecesOf}
 use Rattle.checks.specs.Check.{refuse, orElse, isPast, extentRefusal, shapeRefusal}
+use Rattle.checks.proofs.Check.{else-regroup}
 use Rattle.checks.proofs.Accepted.{refuse-none, else-none, else-other, past-only, past-always, inside-shape}
 use Rattle.slots.specs.Words.{slotSize}
 use Rattle.describe.specs.Description.{termsOf}
@@ -42,15 +43,11 @@ room-otherwise : (b : Bool) → refuse b no-room accepted ≡ bad-extent → ⊥
 room-otherwise true e = omega arith
 room-otherwise false e = omega arith
 
-regroup : (a b rest : ℕ) → orElse a (orElse b rest) ≡ orElse (orElse a b) rest
-regroup zero b rest = refl
-regroup (suc a) b rest = refl
-
 module _ (c : Call) (shape : Shape) (words : List ℕ) where
   -- the checks of the call, then those of the aggregate
   in-order : refusalOf c (Aggregate shape) words ≡ orElse (callRefusal c) (shapeRefusal shape words)
   unfolding refusalOf refusalBy checked callRefusal callRefusalBy argRefusal
-  in-order = regroup (rowRefusal (c .abi)) (leftRefusal (termsOf (described (c .abi))) (c .left)) (shapeRefusal shape words)
+  in-order = else-regroup (rowRefusal (c .abi)) (leftRefusal (termsOf (described (c .abi))) (c .left)) (shapeRefusal shape words)
 
   none-past : shapeRefusal shape words ≡ accepted → any (isPast (shape .size)) (piecesOf words) ≡ false
   unfolding extentRefusal
@@ -67,7 +64,7 @@ module _ (c : Call) (shape : Shape) (words : List ℕ) where
       }
     where
       regrouped : orElse (callRefusal c) (orElse (shapeRefusal shape words) rest) ≡ orElse (refusalOf c (Aggregate shape) words) rest
-      regrouped = rw in-order (regroup (callRefusal c) (shapeRefusal shape words) rest)
+      regrouped = rw in-order (else-regroup (callRefusal c) (shapeRefusal shape words) rest)
 
       before-rest : (n : ℕ) → orElse n rest ≡ bad-extent → n ≡ bad-extent
       before-rest zero e = absurd (later e)
