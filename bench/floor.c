@@ -21,6 +21,10 @@ typedef struct {
     u64 refusal, area, start, length, integer, float_, overflow;
 } part;
 
+typedef struct {
+    u64 refusal, pieces, size, align;
+} flat;
+
 enum { DIRECT = 1, MEMORY = 4 };
 
 enum { SAVE = 1 };
@@ -83,4 +87,9 @@ part barkpaddle_read_scalar(const uint8_t *save, u64 save_length, const uint8_t 
     NO_PART_IF(align != size, BAD_ALIGN)
     NO_PART_IF(save_length != 176 || integer > 48 || integer % 8 || float_ < 48 || float_ > 176 || float_ % 16 || length < overflow + size, BAD_AREA)
     return (part){0, SAVE, integer, size, integer + 8, float_, overflow};
+}
+
+/* Not asked: to know what a list of types is refused for is to flatten it, all but the writing. */
+flat barkpaddle_flatten(const u64 *types, u64 types_length, const u64 *members, u64 members_length, u64 *pieces, u64 length) {
+    return (flat){BAD_LIST};
 }

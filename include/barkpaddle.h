@@ -19,7 +19,8 @@
  * an accepted barkpaddle_variadic or barkpaddle_bridge_variadic changes it: to 1, on a description that has the mark.
  *
  * Numbers to come. Later versions may add refusals, ways, kinds, conventions, descriptions and the codes of a description's fields; those
- * that are here keep their meaning. A program that meets a number it doesn't know should treat it as one that it can't handle.
+ * that are here keep their meaning. Kinds of scalars to come stay below 256: from there on a number is an entry's. A program that meets a
+ * number it doesn't know should treat it as one that it can't handle.
  *
  * Names. Behind BARKPADDLE_ a macro's name has that of its group, but for refusals and limits. Comments leave BARKPADDLE_ out.
  */
@@ -37,7 +38,7 @@ extern "C" {
 /* The version of this header: one number, raised with each change of the header. A program that may be linked to an archive that was made
  * elsewhere compares it with barkpaddle_version() before it asks anything else. Where they differ the archive goes with another header: it
  * may lack what this one names, or answer what this one doesn't. Link the archive that tools/staticlib makes beside this header. */
-#define BARKPADDLE_VERSION UINT64_C(4)
+#define BARKPADDLE_VERSION UINT64_C(5)
 
 /* The version of the header that the archive goes with. Refuses nothing. */
 uint64_t barkpaddle_version(void);
@@ -84,13 +85,15 @@ uint64_t barkpaddle_version(void);
 #define BARKPADDLE_ACCEPTED UINT64_C(0)
 #define BARKPADDLE_BAD_ABI UINT64_C(1)    /* there is no description of this number */
 #define BARKPADDLE_BAD_CALL UINT64_C(2)   /* more registers left than there are, or the integers-only mark where there is none */
-#define BARKPADDLE_BAD_LIST UINT64_C(3)   /* the words don't make whole records, or too many */
+#define BARKPADDLE_BAD_LIST UINT64_C(3)   /* the words don't make whole records, or too many; of types: or no entry, or too many members */
 #define BARKPADDLE_BAD_KIND UINT64_C(4)   /* no kind has this number */
-#define BARKPADDLE_BAD_SIZE UINT64_C(5)   /* a size or an offset is above its limit; in a variable list: isn't the scalar's own */
+#define BARKPADDLE_BAD_SIZE UINT64_C(5)   /* a size, an offset or a count is above its limit; in a variable list: isn't the scalar's own */
 #define BARKPADDLE_BAD_ALIGN UINT64_C(6)  /* an alignment is above its limit; in a record: all are 0; in a variable list: isn't the size */
-#define BARKPADDLE_NO_ROOM UINT64_C(7)    /* the result doesn't fit the buffer */
+#define BARKPADDLE_NO_ROOM UINT64_C(7)    /* the result doesn't fit the buffer, or is more than MOST_PIECES pieces */
 #define BARKPADDLE_BAD_AREA UINT64_C(8)   /* a save area or an offset into it that can't be, or an overflow area that ends too early */
 #define BARKPADDLE_BAD_EXTENT UINT64_C(9) /* a piece ends past its aggregate's size */
+#define BARKPADDLE_BAD_TYPE UINT64_C(10)  /* an entry refers to itself, to a later entry or to none */
+#define BARKPADDLE_TOO_DEEP UINT64_C(11)  /* a type has more than sixteen levels */
 
 /* Kinds of scalars, pieces and slots. Those but the integer's are also called formats. */
 #define BARKPADDLE_KIND_INTEGER UINT64_C(0)
@@ -108,7 +111,8 @@ uint64_t barkpaddle_version(void);
 #define BARKPADDLE_WAY_REFERENCE UINT64_C(3) /* the address of a copy, or of the place for a result */
 #define BARKPADDLE_WAY_MEMORY UINT64_C(4)    /* its bytes, in the argument area */
 
-/* The words of a scalar; of a piece, which is a scalar inside an aggregate; and of a slot, which is one register's worth of one. */
+/* The words of a scalar; of a piece, which is a scalar inside an aggregate; of a slot, which is one register's worth of one; and of an
+ * entry, which is a type in a list of types. */
 #define BARKPADDLE_SCALAR_KIND 0
 #define BARKPADDLE_SCALAR_SIZE 1
 #define BARKPADDLE_SCALAR_ALIGN 2
@@ -125,6 +129,19 @@ uint64_t barkpaddle_version(void);
 #define BARKPADDLE_SLOT_SIZE 2 /* 0 for a float: its kind says it */
 #define BARKPADDLE_SLOT_WORDS 3
 
+#define BARKPADDLE_ENTRY_KIND 0    /* a scalar's kind, or one of the three below */
+#define BARKPADDLE_ENTRY_SIZE 1    /* of a scalar */
+#define BARKPADDLE_ENTRY_ALIGN 2   /* of a scalar */
+#define BARKPADDLE_ENTRY_FIRST 1   /* of a record or a union: the place of its first member in the list of members, from 0 */
+#define BARKPADDLE_ENTRY_ELEMENT 1 /* of an array: its element's entry */
+#define BARKPADDLE_ENTRY_COUNT 2   /* of a record or a union: its members; of an array: its elements */
+#define BARKPADDLE_ENTRY_WORDS 4   /* the fourth isn't read */
+
+/* Kinds of entries that aren't scalars. */
+#define BARKPADDLE_ENTRY_RECORD UINT64_C(256)
+#define BARKPADDLE_ENTRY_UNION UINT64_C(257)
+#define BARKPADDLE_ENTRY_ARRAY UINT64_C(258)
+
 /* No result needs more slots than this, so a buffer of MOST_SLOT_WORDS words is never too small. */
 #define BARKPADDLE_MOST_SLOTS 8
 #define BARKPADDLE_MOST_SLOT_WORDS (BARKPADDLE_MOST_SLOTS * BARKPADDLE_SLOT_WORDS)
@@ -136,10 +153,14 @@ uint64_t barkpaddle_version(void);
 
 /* Limits: each of these numbers is still accepted. */
 #define BARKPADDLE_LARGEST_SCALAR UINT64_C(64)       /* size of a scalar or a piece */
-#define BARKPADDLE_LARGEST_SHAPE UINT64_C(16777216)  /* size of an aggregate */
+#define BARKPADDLE_LARGEST_SHAPE UINT64_C(16777216)  /* size of an aggregate, or of an entry that isn't a scalar */
 #define BARKPADDLE_LARGEST_OFFSET UINT64_C(16777216) /* offset of a piece */
 #define BARKPADDLE_LARGEST_ALIGN UINT64_C(4096)      /* any alignment */
-#define BARKPADDLE_MOST_PIECES UINT64_C(1024)        /* records of a list */
+#define BARKPADDLE_MOST_PIECES UINT64_C(1024)        /* records of a list, or scalars in a type */
+#define BARKPADDLE_MOST_ENTRIES UINT64_C(1024)       /* entries of a list of types */
+#define BARKPADDLE_MOST_MEMBERS UINT64_C(4096)       /* words of a list of members */
+#define BARKPADDLE_MOST_ELEMENTS UINT64_C(1024)      /* elements of an array */
+#define BARKPADDLE_MOST_LEVELS UINT64_C(16)          /* levels of a type, a scalar counting as one */
 
 /* No description's and no attribute's name has more bytes than this. */
 #define BARKPADDLE_MOST_NAME_BYTES 64
@@ -273,6 +294,14 @@ typedef struct barkpaddle_record_shape {
     uint64_t complex_;
     uint64_t floating;
 } barkpaddle_record_shape;
+
+/* A refusal, or what a type is beside the pieces that were written. */
+typedef struct barkpaddle_flat {
+    uint64_t refusal;
+    uint64_t pieces; /* how many were written */
+    uint64_t size;
+    uint64_t align;
+} barkpaddle_flat;
 
 /* A refusal, or what a description says beside its rules and its name (REFERENCE 5.1, 5.2, 5.4). */
 typedef struct barkpaddle_description_fields {
@@ -414,6 +443,55 @@ barkpaddle_told barkpaddle_pieces(const uint64_t *members, uint64_t members_leng
 /* The record that these pieces make. Refuses, in this order: BAD_LIST; the pieces from the first by kind, size, offset, alignment;
  * BAD_ALIGN where there are pieces and all alignments are 0; BAD_SIZE where the rounded size is above the limit (REFERENCE 4.3). */
 barkpaddle_record_shape barkpaddle_record(const uint64_t *words, uint64_t words_length);
+
+/* ---- types inside types (REFERENCE 4.5, 13.3) ----
+ *
+ * `types` is a list of entries, ENTRY_WORDS words each and numbered from 0. Each is a type, and the last one is the type that is wanted.
+ * What it is, by its ENTRY_KIND:
+ *
+ *     a scalar's kind   that scalar, of ENTRY_SIZE and ENTRY_ALIGN
+ *     ENTRY_RECORD      ENTRY_COUNT members, one behind the other, each at the next offset that it fits
+ *     ENTRY_UNION       ENTRY_COUNT members, all at 0
+ *     ENTRY_ARRAY       ENTRY_COUNT elements, all of the entry ENTRY_ELEMENT, its rounded size apart
+ *
+ * `members` has a word for each member: its entry's number. Those of a record or a union are the words from ENTRY_FIRST on; two entries
+ * may share some. A member or an element comes before the entry that it is in, and may be in several.
+ *
+ * A type's alignment is the largest of those in it, an array of 0 elements having its element's; 0 counts as 1, and so does none. Its size
+ * is the furthest end of what is in it, 0 where that is nothing, rounded up to the alignment. A scalar of size 0 ends a byte behind its
+ * start. In a record a scalar moves the next member on by its own size, one of size 0 by 0, and any other type by its rounded size.
+ */
+
+/* Writes each scalar in the wanted type, in order, as a piece to the front of `pieces`, which has room for a fourth as many pieces as it
+ * has words, rounded down; every word behind them keeps its value. A piece's offset is counted from the start of the wanted type, and its
+ * alignment is the scalar's own, be it 0. Answers how many pieces that were, and the type's size and alignment: with these the pieces are a
+ * shape that every operation accepts. It isn't complex; whether it is floating barkpaddle_record says of the pieces, where the size that it
+ * answers is the type's. It can't see what an array of 0 elements is aligned to, and refuses pieces whose alignments are all 0.
+ *
+ * Refuses, in this order:
+ *
+ *     BAD_LIST    `types` isn't whole entries, or no entry, or more than MOST_ENTRIES; `members` has more than MOST_MEMBERS words
+ *     BAD_TYPE    any entry with a member or an element that is itself, a later entry or none. Members behind the end of `members` are
+ *                 none. Where there are no members ENTRY_FIRST isn't read; the element of an array of 0 is looked at all the same. An entry
+ *                 of a kind that is none has neither
+ *     TOO_DEEP    the wanted type has more than MOST_LEVELS levels: one more than the member or element that has most, whatever the
+ *                 counts, and one where there is none. A scalar has one
+ *
+ * then the entries from the first, be they in the wanted type or not, each by
+ *
+ *     BAD_KIND    neither a scalar's kind nor one of the three
+ *     BAD_SIZE    a scalar's size above LARGEST_SCALAR; an array's count above MOST_ELEMENTS; the size of any other than a scalar above
+ *                 LARGEST_SHAPE
+ *     BAD_ALIGN   a scalar's alignment above LARGEST_ALIGN
+ *
+ * and last
+ *
+ *     NO_ROOM     more pieces than MOST_PIECES, or than `pieces` has room for
+ *
+ * It takes some 45 KB of stack. */
+barkpaddle_flat barkpaddle_flatten(
+    const uint64_t *types, uint64_t types_length, const uint64_t *members, uint64_t members_length, uint64_t *pieces,
+    uint64_t pieces_length);
 
 /* ---- what a description says ---- */
 

@@ -1,10 +1,15 @@
 //! The driver of `bench/run`: so many turns of a side on each value and row.
 //!
-//! `bench cells` names them in order. `bench count SIDE TURNS` takes the turns, a mark before each
-//! cell and one at the end, so that a counter can cut there. `bench time` prints nanoseconds for each
-//! cell: the Rust's and ours. `bench same` only sees that both sides say the same. Built without the
-//! feature `original`, the driver has the library's side alone, and neither of these two.
+//! `bench cells` names them in order. `bench count SIDE TURNS WORST` takes the turns, WORST for
+//! each of the worst lists, a mark before each cell and one at the end, so that a counter can cut
+//! there. `bench time` prints nanoseconds for each cell that both sides have: the Rust's and ours.
+//! `bench same` only sees that both sides say the same. Built without the feature `original`, the
+//! driver has the library's side alone, and neither of these two, but a `memset` of its own. With
+//! the feature `floor` it has no flattenings.
 
+mod flatten;
+#[cfg(not(feature = "original"))]
+mod memset;
 #[cfg_attr(not(feature = "original"), path = "no_original.rs")]
 mod original;
 mod sides;
@@ -15,6 +20,7 @@ use std::hint::black_box;
 use std::process::exit;
 use std::time::Instant;
 
+use flatten::Flatten;
 use original::Row;
 use sides::{Asked, ROOM, Read, Refused, Side};
 use values::ROWS;
@@ -30,6 +36,20 @@ enum Cell<'a> {
     Argument(&'static Row, u64, &'a Asked),
     Refused(&'a Refused),
     Read(&'a Read),
+    Flatten(&'a Flatten),
+    Worst(&'a Flatten),
+}
+
+/// The buffers that are lent to the library.
+struct Rooms {
+    slots: [u64; ROOM],
+    pieces: [u64; flatten::ROOM],
+}
+
+impl Rooms {
+    fn new() -> Self {
+        Self { slots: [0; ROOM], pieces: [0; flatten::ROOM] }
+    }
 }
 
 impl Cell<'_> {
@@ -38,11 +58,14 @@ impl Cell<'_> {
             Self::Argument(_, row, asked) => format!("{row}\t{}", asked.value.name),
             Self::Refused(refused) => format!("refused\t{}", refused.name),
             Self::Read(read) => format!("read\t{}", read.name),
+            Self::Flatten(flatten) => format!("flatten\t{}", flatten.name),
+            Self::Worst(flatten) => format!("worst\t{}", flatten.name),
         }
     }
 
     #[inline(never)]
-    fn turns(&self, side: Side, turns: u64, slots: &mut [u64]) -> u64 {
+    fn turns(&self, side: Side, turns: u64, rooms: &mut Rooms) -> u64 {
+        let Rooms { slots, pieces } = rooms;
         let mut sum: u64 = 0;
         match self {
             Self::Argument(row, number, asked) => {
@@ -61,6 +84,11 @@ impl Cell<'_> {
                     sum = sum.wrapping_add(black_box(black_box(*read).turn()));
                 }
             }
+            Self::Flatten(flatten) | Self::Worst(flatten) => {
+                for _ in 0..turns {
+                    sum = sum.wrapping_add(black_box(black_box(*flatten).turn(pieces)));
+                }
+            }
         }
         sum
     }
@@ -72,6 +100,7 @@ fn main() {
     let asked = sides::asked();
     let refused = sides::refused();
     let reads = sides::reads();
+    let [small, worst] = [flatten::small(), flatten::worst()];
     let mut cells: Vec<Cell<'_>> = Vec::new();
     for number in ROWS {
         let row = original::row(number);
@@ -79,17 +108,21 @@ fn main() {
     }
     cells.extend(refused.iter().map(Cell::Refused));
     cells.extend(reads.iter().map(Cell::Read));
+    if !cfg!(feature = "floor") {
+        cells.extend(small.iter().map(Cell::Flatten));
+        cells.extend(worst.iter().map(Cell::Worst));
+    }
     match *words {
         ["cells"] => cells.iter().for_each(|cell| println!("{}", cell.name())),
         ["same"] => same(&cells),
         ["time"] => time(&cells),
-        ["count", side, turns] => count(&cells, named(side), number(turns)),
+        ["count", side, turns, worst] => count(&cells, named(side), number(turns), number(worst)),
         _ => usage(),
     }
 }
 
 fn usage() -> ! {
-    eprintln!("usage: bench cells | same | time | count none|rust|ours TURNS");
+    eprintln!("usage: bench cells | same | time | count none|rust|ours TURNS WORST");
     exit(2)
 }
 
@@ -113,12 +146,13 @@ fn rust() -> Side {
     })
 }
 
-fn count(cells: &[Cell<'_>], side: Side, turns: u64) {
-    let mut slots = [0; ROOM];
+fn count(cells: &[Cell<'_>], side: Side, turns: u64, worst: u64) {
+    let mut rooms = Rooms::new();
     let mut sum: u64 = 0;
     for cell in cells {
+        let turns = if matches!(cell, Cell::Worst(_)) { worst } else { turns };
         bench_mark();
-        sum = sum.wrapping_add(cell.turns(side, turns, &mut slots));
+        sum = sum.wrapping_add(cell.turns(side, turns, &mut rooms));
     }
     bench_mark();
     println!("{sum}");
@@ -126,9 +160,9 @@ fn count(cells: &[Cell<'_>], side: Side, turns: u64) {
 
 /// Both sides say the same, or the figures would compare nothing.
 fn same(cells: &[Cell<'_>]) {
-    let mut slots = [0; ROOM];
+    let mut rooms = Rooms::new();
     for cell in cells {
-        let [rust, ours] = [rust(), sides::ours].map(|s| cell.turns(s, 1, &mut slots));
+        let [rust, ours] = [rust(), sides::ours].map(|s| cell.turns(s, 1, &mut rooms));
         assert_eq!(rust, ours, "{}", cell.name());
     }
     println!("{} cells, both sides the same", cells.len());
@@ -137,16 +171,16 @@ fn same(cells: &[Cell<'_>]) {
 /// The least of several runs: what a busy machine adds is left out as far as it can be.
 fn time(cells: &[Cell<'_>]) {
     const TURNS: u64 = 20_000;
-    let mut slots = [0; ROOM];
+    let mut rooms = Rooms::new();
     let mut least = |cell: &Cell<'_>, side: Side| {
         let run = |_| {
             let start = Instant::now();
-            black_box(cell.turns(side, TURNS, &mut slots));
+            black_box(cell.turns(side, TURNS, &mut rooms));
             start.elapsed().as_nanos() as f64 / TURNS as f64
         };
         (0..15).map(run).fold(f64::INFINITY, f64::min)
     };
-    for cell in cells {
+    for cell in cells.iter().filter(|cell| matches!(cell, Cell::Argument(..))) {
         let none = least(cell, sides::none);
         let rust = least(cell, rust()) - none;
         let ours = least(cell, sides::ours) - none;

@@ -16,4 +16,5 @@ pub mod rows;
 pub mod shapes;
 pub mod sheet;
 pub mod spending;
+pub mod types;
 pub mod values;

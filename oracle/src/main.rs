@@ -1,9 +1,12 @@
 //! The command line: one subcommand for each kind of question.
 
 use std::io::{self, BufWriter, Read, Write};
+use std::path::Path;
 use std::process::ExitCode;
 
-use oracle::{coverage, damage, find, generate, layouts, lists, lookups, rows, shapes, sheet};
+use oracle::{
+    coverage, damage, find, generate, layouts, lists, lookups, rows, shapes, sheet, types,
+};
 
 const USAGE: &str = "\
 usage: oracle rows                         every fact of the thirty descriptions
@@ -16,11 +19,16 @@ usage: oracle rows                         every fact of the thirty descriptions
        oracle coverage                     by which rules that sheet decides, and how often
        oracle generate SEED COUNT [good]   a random sheet of so many operations
        oracle generate SEED COUNT damaged  one that stops on its way
+       oracle types                        what each type comes to, a sheet of types read likewise
+       oracle types-generate SEED COUNT    such a sheet of random types, many of them refused
+       oracle types-c SEED COUNT FOLDER [KIND]
+                                           a sheet of types that C has, and the same types as C, with
+                                           long double where its kind is given
 
 A damaged sheet holds one damage, so have many of them:
        for seed in $(seq 1000); do oracle generate $seed 20 damaged | oracle sheet; done
-Exits 1 on a bad command line or a failed write, 2 where the Rust and the rules contradict, and
-where a sheet leaves out a rule.
+Exits 1 on a bad command line, a failed write or a damaged sheet of types, 2 where the Rust and the
+rules contradict, and where a sheet leaves out a rule.
 ";
 
 fn main() -> ExitCode {
@@ -65,6 +73,10 @@ fn answer(out: &mut impl Write, words: &[&str]) -> Option<io::Result<Result<(), 
         ["lists", seed, count] => {
             return Some(lists::print(out, number(seed)?, number(count)?).map(contradicted));
         }
+        ["types"] => {
+            let printed = read_sheet().and_then(|bytes| types::print(out, &bytes));
+            return Some(printed.map(contradicted));
+        }
         ["coverage"] => return Some(read_sheet().and_then(|bytes| coverage::print(out, &bytes))),
         ["rows"] => rows::print(out),
         ["lookups"] => lookups::print(out),
@@ -75,6 +87,13 @@ fn answer(out: &mut impl Write, words: &[&str]) -> Option<io::Result<Result<(), 
             generate::write(out, number(seed)?, number(count)?)
         }
         ["generate", seed, count, "damaged"] => damage::write(out, number(seed)?, number(count)?),
+        ["types-generate", seed, count] => types::write(out, number(seed)?, number(count)?),
+        ["types-c", seed, count, folder] => {
+            types::write_c(Path::new(folder), number(seed)?, number(count)?, None)
+        }
+        ["types-c", seed, count, folder, kind @ ("3" | "4")] => {
+            types::write_c(Path::new(folder), number(seed)?, number(count)?, Some(number(kind)?))
+        }
         _ => return None,
     };
     Some(written.map(Ok))

@@ -6,15 +6,15 @@
 //! pointer and a length, both from a Rust slice, so that the pointer is good for as many items, and
 //! aligned; an empty slice's pointer is never followed. An entry reads its shared slices, writes
 //! inside its mutable one alone, keeps neither, allocates nothing and doesn't unwind. A mutable slice
-//! and a shared one of the same call can't overlap: both are borrowed at once. `Scalar` and `Piece` are
-//! `repr(C)` structs of three and four `u64`, so a slice of them is a slice of that many words, any
-//! of which may hold any number. A lent call is borrowed mutably beside the slices, so it overlaps
-//! neither; it is a `repr(C)` struct of four words, which may hold any number, too. Every struct is
-//! asserted to be laid out as the header's (ffi.rs, and values.rs for these two).
+//! and a shared one of the same call can't overlap: both are borrowed at once. `Scalar`, `Piece` and
+//! `Entry` are `repr(C)` structs of three, four and four `u64`, so a slice of them is a slice of that
+//! many words, any of which may hold any number. A lent call is borrowed mutably beside the slices, so
+//! it overlaps neither; it is a `repr(C)` struct of four words, which may hold any number, too. Every
+//! struct is asserted to be laid out as the header's (ffi.rs, and values.rs for these three).
 #![allow(unsafe_code)]
 
 use crate::ffi;
-use crate::values::{Aggregate, Piece, Scalar, Value};
+use crate::values::{Aggregate, Entry, Piece, Scalar, Value};
 
 /// Which of the operations that take a value.
 #[derive(Clone, Copy)]
@@ -153,6 +153,23 @@ pub fn pieces(members: &[Scalar], room: &mut [Piece]) -> ffi::Told {
 pub fn record(pieces: &[Piece]) -> ffi::RecordShape {
     // SAFETY: the list is `pieces`.
     unsafe { ffi::barkpaddle_record(pieces.as_ptr().cast(), words_in(pieces)) }
+}
+
+/// The pieces of a type.
+pub fn flatten(types: &[Entry], members: &[u64], room: &mut [Piece]) -> ffi::Flat {
+    let (words, count) = (types.as_ptr().cast(), words_in(types));
+    let (room_words, room_count) = (room.as_mut_ptr().cast(), words_in(room));
+    // SAFETY: the lists are `types` and `members`, the buffer is `room`; any words make a Piece.
+    unsafe {
+        ffi::barkpaddle_flatten(
+            words,
+            count,
+            members.as_ptr(),
+            words_in(members),
+            room_words,
+            room_count,
+        )
+    }
 }
 
 /// A description's name.

@@ -68,6 +68,20 @@ pub struct RecordShape {
     pub floating: u64,
 }
 
+/// The kinds of entries that aren't scalars.
+pub const ENTRY_RECORD: u64 = 256;
+pub const ENTRY_UNION: u64 = 257;
+pub const ENTRY_ARRAY: u64 = 258;
+
+/// A refusal, or what a type is beside the pieces that were written.
+#[repr(C)]
+pub struct Flat {
+    pub refusal: u64,
+    pub pieces: u64,
+    pub size: u64,
+    pub align: u64,
+}
+
 /// A refusal, or the fields of a description.
 #[repr(C)]
 pub struct DescriptionFields {
@@ -145,6 +159,7 @@ laid_out!(Answer, 88 { next: 0, outcome: 32 });
 laid_out!(What, 48 { form: 0, kind: 8, size: 16, align: 24, complex: 32, floating: 40 });
 laid_out!(Told, 16 { refusal: 0, value: 8 });
 laid_out!(RecordShape, 40 { refusal: 0, size: 8, align: 16, complex: 24, floating: 32 });
+laid_out!(Flat, 32 { refusal: 0, pieces: 8, size: 16, align: 24 });
 laid_out!(DescriptionFields, 168 {
     refusal: 0,
     integer: 8,
@@ -210,6 +225,7 @@ unsafe extern "C" {
     pub fn barkpaddle_in_memory(abi: u64, integer: u64, float: u64, integers_only: u64, size: u64, align: u64, complex: u64, floating: u64, words: *const u64, words_length: u64) -> Told;
     pub fn barkpaddle_pieces(members: *const u64, members_length: u64, pieces: *mut u64, pieces_length: u64) -> Told;
     pub fn barkpaddle_record(words: *const u64, words_length: u64) -> RecordShape;
+    pub fn barkpaddle_flatten(types: *const u64, types_length: u64, members: *const u64, members_length: u64, pieces: *mut u64, pieces_length: u64) -> Flat;
     pub fn barkpaddle_name(abi: u64, name: *mut u8, name_length: u64) -> Told;
     pub fn barkpaddle_asked(architecture: u64, system: u64, msvc: u64, name: *const u8, name_length: u64) -> u64;
     pub fn barkpaddle_attribute(convention: u64, name: *mut u8, name_length: u64) -> Told;

@@ -27,6 +27,9 @@
 //! A [`Call`] is a value. Whoever keeps one for each bridge to a foreign function lends a [`Bridge`]
 //! instead, which each operation updates where it stands. Its answers are the outcome alone.
 //!
+//! An [`Aggregate`] is had from its pieces, or from types that have types inside: [`flatten`] writes
+//! the pieces of the last of a list of [`Entry`].
+//!
 //! A function that ends in dots finds what the caller passed there through a [`VaList`], on
 //! [`Abi::SYSV_AMD64`] alone.
 //!
@@ -60,8 +63,8 @@ pub use numbers::{
     Travel, Variadic, Way,
 };
 pub use outcome::{Outcome, Room, Slot, Slots, Spent};
-pub use records::{pieces, record};
+pub use records::{flatten, pieces, record};
 pub use targets::{Convention, Target};
 pub use va_list::{Offsets, VaList};
-pub use values::{Aggregate, Piece, Scalar, Value};
+pub use values::{Aggregate, Entry, Piece, Scalar, Value};
 pub use version::{VERSION, WrongVersion, check_version, library_version};

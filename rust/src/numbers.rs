@@ -112,23 +112,28 @@ numbered! {
         /// The call has more registers left than there are, or the integers-only mark on a
         /// description that doesn't use it.
         BadCall = 2,
-        /// The list has too many pieces or members.
+        /// The list has too many pieces or members; of types: too many entries or members, or no
+        /// entry.
         BadList = 3,
         /// A kind has no name.
         BadKind = 4,
-        /// A size or an offset is above its limit; in a variable argument list: a size is none that
-        /// the kind has.
+        /// A size, an offset or an array's count is above its limit; in a variable argument list: a
+        /// size is none that the kind has.
         BadSize = 5,
         /// An alignment is above its limit; in a record: all are 0; in a variable argument list: one
         /// isn't its scalar's size.
         BadAlign = 6,
-        /// The result doesn't fit the buffer.
+        /// The result doesn't fit the buffer, or is more pieces than an aggregate may have.
         NoRoom = 7,
         /// A save area has another length, an offset into it is no place, or the overflow area ends
         /// before the scalar does.
         BadArea = 8,
         /// A piece ends past its aggregate's size: its offset and its size add up to more.
         BadExtent = 9,
+        /// An entry of a list of types refers to itself, to a later entry or to none.
+        BadType = 10,
+        /// A type has more than sixteen levels.
+        TooDeep = 11,
     }
 }
 
@@ -146,16 +151,17 @@ impl fmt::Display for Refusal {
             Self::BadCall => {
                 "the call has more registers left than its description, or a mark that isn't its own"
             }
-            Self::BadList => "the list has too many records, or not whole ones",
+            Self::BadList => "the list has too many records or members, or not whole ones, or none",
             Self::BadKind => "a kind has a number that is none",
             Self::BadSize => {
-                "a size or an offset is above its limit, or a size is none that its kind has in a list"
+                "a size, an offset or a count is above its limit, or a size is none that its kind has \
+                 in a list"
             }
             Self::BadAlign => {
                 "an alignment is above its limit, or all of a record's are 0, or one isn't its \
                  scalar's size in a list"
             }
-            Self::NoRoom => "the result doesn't fit the buffer",
+            Self::NoRoom => "the result doesn't fit the buffer, or is more pieces than there may be",
             Self::BadArea => {
                 "a save area of another length, an offset into it that is no place, or an overflow \
                  area that ends before the scalar does"
@@ -163,6 +169,8 @@ impl fmt::Display for Refusal {
             Self::BadExtent => {
                 "a piece ends past its aggregate's size: its offset and its size add up to more"
             }
+            Self::BadType => "a type refers to itself, to a later one or to none",
+            Self::TooDeep => "a type has more than sixteen levels",
             Self::Unnamed(number) => return write!(out, "refused for reason number {number}"),
         })
     }

@@ -1,6 +1,6 @@
-//! What is asked about: scalars, pieces, aggregates.
+//! What is asked about: scalars, pieces, aggregates, and the types that these are flattened from.
 
-use crate::ffi::laid_out;
+use crate::ffi::{self, laid_out};
 use crate::numbers::Kind;
 
 /// A scalar: kind, size in bytes, alignment.
@@ -125,7 +125,7 @@ impl Piece {
 }
 
 /// An aggregate: its size and alignment, two marks, and every scalar in it, arrays and nested
-/// records flattened out.
+/// records flattened out, as [`flatten`](crate::flatten) does it.
 ///
 /// Pieces may overlap and leave holes, and none may end past the aggregate: where the offset and the
 /// size of one add up to more than the aggregate's size, every operation on a call refuses it
@@ -172,5 +172,56 @@ impl From<Scalar> for Value<'_> {
 impl<'a> From<Aggregate<'a>> for Value<'a> {
     fn from(aggregate: Aggregate<'a>) -> Self {
         Self::Aggregate(aggregate)
+    }
+}
+
+/// A type in a list of types, which [`flatten`](crate::flatten) takes: a scalar, a record, a union or
+/// an array.
+///
+/// Entries are numbered from 0. What is inside an entry it names by these numbers: a record or a
+/// union has its members in a second list, from `first` on, and an array has its element. Each has
+/// to come before the entry that it is in.
+///
+/// It is laid out as its four words, so that a list of types is handed over as it stands.
+#[derive(Debug, Clone, Copy, PartialEq, Eq, Hash)]
+#[repr(C)]
+pub struct Entry {
+    kind: u64,
+    second: u64,
+    third: u64,
+    unread: u64,
+}
+
+laid_out!(Entry, 32 { kind: 0, second: 8, third: 16, unread: 24 });
+
+impl Entry {
+    /// A scalar. [`Kind::Unnamed`] of 256, 257 or 258 is none: these are the other three.
+    #[must_use]
+    pub const fn scalar(scalar: Scalar) -> Self {
+        Self::of(scalar.kind, scalar.size, scalar.align)
+    }
+
+    /// A record of `count` members, which stand one behind the other. They are those from `first` on
+    /// in the list of members.
+    #[must_use]
+    pub const fn record(first: u64, count: u64) -> Self {
+        Self::of(ffi::ENTRY_RECORD, first, count)
+    }
+
+    /// A union of `count` members, which all stand at 0. They are those from `first` on in the list
+    /// of members.
+    #[must_use]
+    pub const fn union(first: u64, count: u64) -> Self {
+        Self::of(ffi::ENTRY_UNION, first, count)
+    }
+
+    /// An array of `count` elements, all of the entry `element`.
+    #[must_use]
+    pub const fn array(element: u64, count: u64) -> Self {
+        Self::of(ffi::ENTRY_ARRAY, element, count)
+    }
+
+    const fn of(kind: u64, second: u64, third: u64) -> Self {
+        Self { kind, second, third, unread: 0 }
     }
 }

@@ -6,9 +6,10 @@ use std::hash::Hash;
 use std::mem;
 
 use barkpaddle::{
-    Abi, Aggregate, Architecture, Bridge, Call, Convention, Description, Kind, Offsets, Outcome,
-    Passed, Piece, Refusal, Room, Rule, Scalar, Slot, Spent, System, Target, Test, VERSION, VaList,
-    Value, Way, WrongVersion, check_version, library_version, limits, pieces, record,
+    Abi, Aggregate, Architecture, Bridge, Call, Convention, Description, Entry, Kind, Offsets,
+    Outcome, Passed, Piece, Refusal, Room, Rule, Scalar, Slot, Spent, System, Target, Test,
+    VERSION, VaList, Value, Way, WrongVersion, check_version, flatten, library_version, limits,
+    pieces, record,
 };
 
 const SYSV: Abi = Abi::SYSV_AMD64;
@@ -70,6 +71,8 @@ fn every_refusal_says_what_was_wrong() {
     let mut room = Room::new();
     let mut refused = |value: Value<'_>| call.argument(value, &mut room).expect_err("refused");
     let many = [Piece::default(); limits::MOST_PIECES + 1];
+    let mut deep = vec![Entry::record(0, 0)];
+    deep.extend((0..limits::MOST_LEVELS as u64).map(|element| Entry::array(element, 1)));
     let refusals = [
         Call::fresh(Abi(Abi::COUNT)).expect_err("refused"),
         Call::from_parts(SYSV, 7, 0, false).variadic().expect_err("refused"),
@@ -82,6 +85,8 @@ fn every_refusal_says_what_was_wrong() {
             .next(Scalar::integer(8))
             .expect_err("refused"),
         refused(Aggregate::new(7, 8, &[Piece::new(Kind::Integer, 8, 8, 0)]).into()),
+        flatten(&[Entry::array(0, 1)], &[], &mut []).expect_err("refused"),
+        flatten(&deep, &[], &mut []).expect_err("refused"),
     ];
     for (at, refusal) in refusals.into_iter().enumerate() {
         assert_eq!(refusal.number(), at as u64 + 1);
@@ -144,7 +149,7 @@ fn plain_types_are_keys() {
     fn key<T: Eq + Hash>() {}
     key::<(Abi, Description, Rule, Test)>();
     key::<(Call, Bridge, Passed<'_>, Outcome<'_>, Spent, Slot)>();
-    key::<(Scalar, Piece, Aggregate<'_>, Value<'_>)>();
+    key::<(Scalar, Piece, Entry, Aggregate<'_>, Value<'_>)>();
     key::<(VaList<'_>, Offsets)>();
     key::<(Kind, Way, Refusal, Target, Convention, WrongVersion)>();
 

@@ -63,12 +63,12 @@ fn groups() {
 #[test]
 fn refusals() {
     let macros = macros();
-    for number in 1..10 {
+    for number in 1..12 {
         let refusal = format!("{:?}", Refusal::from_number(number));
         let named = macros.iter().find(|(name, _)| plain(name) == plain(&refusal));
         assert_eq!(named.map(|(_, number)| *number), Some(number), "{refusal}");
     }
-    assert_eq!(Refusal::from_number(10), Refusal::Unnamed(10));
+    assert_eq!(Refusal::from_number(12), Refusal::Unnamed(12));
 }
 
 #[test]
@@ -89,6 +89,10 @@ fn limits_and_the_version() {
     assert_eq!(macros["LARGEST_OFFSET"], limits::LARGEST_OFFSET);
     assert_eq!(macros["LARGEST_ALIGN"], limits::LARGEST_ALIGN);
     assert_eq!(macros["MOST_PIECES"], limits::MOST_PIECES as u64);
+    assert_eq!(macros["MOST_ENTRIES"], limits::MOST_ENTRIES as u64);
+    assert_eq!(macros["MOST_MEMBERS"], limits::MOST_MEMBERS as u64);
+    assert_eq!(macros["MOST_ELEMENTS"], limits::MOST_ELEMENTS);
+    assert_eq!(macros["MOST_LEVELS"], limits::MOST_LEVELS as u64);
     assert_eq!(macros["MOST_SLOTS"], limits::MOST_SLOTS as u64);
     assert_eq!(macros["SLOT_WORDS"], limits::SLOT_WORDS as u64);
     assert_eq!(macros["MOST_NAME_BYTES"], limits::MOST_NAME_BYTES as u64);

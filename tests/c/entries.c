@@ -1,5 +1,6 @@
 /*
- * Calls every entry of barkpaddle.h on good and on refused input, and checks each number of each answer and every word of each lent buffer.
+ * Calls every entry of barkpaddle.h but barkpaddle_flatten, which types.c beside this file calls, on good and on refused input, and checks
+ * each number of each answer and every word of each lent buffer.
  *
  * What is expected comes from the table of twelve calls (docs/REFERENCE.md, 9.8) and the other rules there, and from the lines that the
  * original prints for the same calls (oracle/tests/all/calls.rs), never from the library. lines.c beside this file holds it against the
@@ -13,6 +14,7 @@
 #include <string.h>
 
 #include "barkpaddle.h"
+#include "checks.h"
 
 /* C99 and C++98 have no static assertion: an array of -1 items isn't compiled. */
 #define HOLDS(name, fact) typedef char name[(fact) ? 1 : -1]
@@ -54,6 +56,12 @@ WORD(record_shape, size, 1);
 WORD(record_shape, align, 2);
 WORD(record_shape, complex_, 3);
 WORD(record_shape, floating, 4);
+
+WORDS(flat, 4);
+WORD(flat, refusal, 0);
+WORD(flat, pieces, 1);
+WORD(flat, size, 2);
+WORD(flat, align, 3);
 
 WORDS(description_fields, 21);
 WORD(description_fields, refusal, 0);
@@ -101,20 +109,6 @@ WORD(part, length, 3);
 WORD(part, gp_offset, 4);
 WORD(part, fp_offset, 5);
 WORD(part, overflow_offset, 6);
-
-static unsigned long passed;
-static unsigned long failed;
-
-static void check_number(const char *place, const char *what, uint64_t expected, uint64_t got)
-{
-    if (expected == got) {
-        passed++;
-        return;
-    }
-    failed++;
-    if (failed <= 40)
-        printf("FAILED %s: %s is %llu, not %llu\n", place, what, (unsigned long long)got, (unsigned long long)expected);
-}
 
 /* ---- calls and outcomes ---- */
 
@@ -166,13 +160,6 @@ static void check_outcome(const char *place, barkpaddle_outcome expected, barkpa
 /* ---- lent buffers ---- */
 
 #define ROOM 40
-#define COUNT(array) (sizeof(array) / sizeof((array)[0]))
-
-/* Word `i` of a buffer that nobody has written to. */
-static uint64_t untouched(uint64_t i)
-{
-    return UINT64_C(0xA5A5A5A500000000) + i;
-}
 
 static uint64_t lent[ROOM];
 
@@ -1078,7 +1065,8 @@ static void history(void)
             kept = aside;
     }
 
-    /* every refusal, way, row and operation was among them, or this compares less than it says; BAD_AREA is for variable lists alone */
+    /* every refusal, way, row and operation was among them, or this compares less than it says; BAD_AREA is for variable lists alone, and
+     * those past BAD_EXTENT for types */
     for (i = 0; i < COUNT(of_refusal); i++)
         if (i == BARKPADDLE_BAD_AREA)
             check_number("history", "how often BAD_AREA was seen", 0, of_refusal[i]);

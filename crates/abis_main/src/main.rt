@@ -6,6 +6,7 @@ use describe::Test;
 use describe::Travel;
 use libc::STDOUT_FILENO;
 use text::append;
+use text::append_number;
 
 fn main() {
     for d in 0..abis::DESCRIPTIONS {
@@ -213,25 +214,17 @@ fn short(short: Short) -> u64 {
 // The front of a line: whose row it is, and what it says.
 fn begin(out: &mut [u8], at: usize, d: u64, word: &[u8]) -> usize {
     let a = append(out, at, b"row");
-    let b = number(out, a, d);
+    let b = append_number(out, a, b' ', d);
     append(out, b, word)
 }
 
-// The rest of a line: numbers.
+// The rest of a line: numbers, each behind a space.
 fn line(out: &mut [u8], from: usize, numbers: &[u64]) -> usize {
     let mut at = from;
     for i in 0..numbers.len() {
-        at = number(out, at, numbers[i]);
+        at = append_number(out, at, b' ', numbers[i]);
     }
     append(out, at, b"\n")
-}
-
-// A number behind a space.
-fn number(out: &mut [u8], at: usize, n: u64) -> usize {
-    let mut digits = [0u8; 20];
-    let count = io::decimal(n, &mut digits);
-    let a = append(out, at, b" ");
-    append(out, a, &digits[..count])
 }
 
 fn flush(out: &[u8], at: usize) {

@@ -13,13 +13,18 @@ use Rattle.shape.specs.declared.Shape.{Shape}
 use Rattle.shape.specs.Numbers.{quad, accepted, bad-list, bad-kind, bad-size, bad-align, bad-extent, most-size, most-offset, most-align, most-pieces}
 use Rattle.shape.specs.Lists.{any}
 use Rattle.shape.specs.Words.{piecesOf, pieceAt}
-use Rattle.checks.specs.Check.{refuse, orElse, scalarRefusal, pieceRefusal, piecesRefusal, isPast, extentRefusal, listRefusal, shapeRefusal}
+use Rattle.checks.specs.Check.{refuse, orElse, unlessRefused, scalarRefusal, pieceRefusal, piecesRefusal, isPast, extentRefusal, listRefusal, shapeRefusal}
 use Rattle.shape.proofs.Words.{length-pieces, pieces-step, pieces-end, Records, ByFirst, loop-turn}
 
 -- the first of two answers decides where it is a refusal
 pub else-first : (n rest : ℕ) → (n ≡ accepted → ⊥) → n ≡ orElse n rest
 else-first zero rest h = absurd (h refl)
 else-first (suc n) rest h = refl
+
+-- what a refusal leaves: the buffer as it was
+pub left-alone : (n : ℕ) (new old : List ℕ) → (n ≡ accepted → ⊥) → old ≡ unlessRefused n new old
+left-alone zero new old h = absurd (h refl)
+left-alone (suc n) new old h = refl
 
 -- and how answers in a row are grouped makes no difference
 pub else-regroup : (a b rest : ℕ) → orElse a (orElse b rest) ≡ orElse (orElse a b) rest

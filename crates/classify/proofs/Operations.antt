@@ -15,6 +15,7 @@ use Rattle.shape.specs.Numbers.{accepted, bad-abi, integer}
 use Rattle.shape.specs.Questions.{isFloat}
 use Rattle.shape.specs.Words.{piecesOf}
 use Rattle.checks.specs.Check.{orElse, unlessRefused}
+use Rattle.checks.proofs.Check.{left-alone}
 use Rattle.slots.specs.declared.Slot.{Slot}
 use Rattle.slots.specs.Words.{slotSize, written}
 use Rattle.describe.specs.declared.Banks.{Banks}
@@ -260,10 +261,6 @@ module _ (c : Call) (arg : args.Arg) (ws out : List ℕ) (r : Answer) (after : L
   performs false false = argument-row
   performs false true = variadic-argument-row
 
-kept : (k : ℕ) (new out : List ℕ) → (k ≡ accepted → ⊥) → out ≡ unlessRefused k new out
-kept zero new out h = absurd (h refl)
-kept (suc k) new out h = refl
-
 module _ (returning variadic-argument : Bool) (c : Call) (arg : args.Arg) (ws out : List ℕ) (r : Answer) where
   pub row-missing-refused : description-count ≤ c .abi → r ≡ refused c bad-abi → parts.Performs returning variadic-argument c arg ws out r out
   unfolding parts.performedBy parts.performedByIn
@@ -277,7 +274,7 @@ module _ (returning variadic-argument : Bool) (c : Call) (arg : args.Arg) (ws ou
     unfolding parts.performedBy parts.performedByIn
     row-refused z er =
         performs c arg ws out r out returning variadic-argument
-        (record { answers = rw (er, row-there (c .abi) h, ← checks) (or-refused n c _ z); writes = rw (row-there (c .abi) h, ← checks) (kept n _ out z) })
+        (record { answers = rw (er, row-there (c .abi) h, ← checks) (or-refused n c _ z); writes = rw (row-there (c .abi) h, ← checks) (left-alone n _ out z) })
 
     module _ (z : n ≡ accepted) (b′ : Brief) (eb′ : b′ ≡ briefOf (described (c .abi)))
         (dots : Dots) (ed : dots ≡ parts.dotsFor variadic-argument (b′ .terms .variadic)) (after : List ℕ) where

@@ -17,7 +17,8 @@ use Rattle.shape.specs.Numbers.{accepted, bad-abi, most-size, most-offset, oneI
 use Rattle.shape.specs.Words.{pieceSize, piecesOf, scalarsOf, putAt}
 use Rattle.checks.specs.Check.{orElse, listRefusal, piecesRefusal}
 use Rattle.slots.specs.Words.{slotSize, wordsOf, written}
-use Rattle.layouts.specs.Record.{roundUp, maxOf, largestAlign, isFloating, recorded, recordMade, recordAnswer}
+use Rattle.shape.specs.Arithmetic.{roundUp}
+use Rattle.layouts.specs.Record.{maxOf, largestAlign, isFloating, recorded, recordMade, recordAnswer}
 use Rattle.layouts.specs.Members.{membersRefusal, placed, piecesWords, piecesAnswer, piecesWritten}
 use Rattle.abis.specs.Abis.{described, description-count}
 use Rattle.abis.specs.Answers.{questionRefusal, askedYes, askedFormat, isByReferenceAnswer, returnsByReferenceAnswer, wideReturnsInAnswer, nameAnswer, nameWritten}

@@ -6,7 +6,7 @@
 -- entry in Entries.antt (`in-memory-entry` of `in-memory-refused` and `in-memory-as-rust`, and so on); any other function promises the definition
 -- itself. That no second answer meets a promise is in each crate's proofs/Unique.antt. docs/PROMISES.md has each function with its statements.
 use Prim.Native.Nat.{ℕ, _+_, _*_, _/_, _%_, _≤_, _<_}
-use mathlib.Core.Path.{_≡_}
+use mathlib.Core.Path.{_≡_, refl}
 use mathlib.Core.Bool.{Bool, true, false, _&&_, cond}
 use mathlib.Core.List.{List, [], _∷_, _++_, map}
 use mathlib.Core.Option.Option.{none, some}
@@ -17,11 +17,16 @@ use Rattle.shape.specs.declared.Arg.the-variants.{Aggregate}
 use Rattle.shape.specs.declared.Scalar.{Scalar}
 use Rattle.shape.specs.declared.Shape.{Shape}
 use Rattle.shape.specs.Numbers.{accepted, most-size, most-offset, oneIf}
-use Rattle.shape.specs.Words.{pieceSize, piecesOf, scalarsOf, putAt}
+use Rattle.shape.specs.Words.{pieceSize, scalarSize, piecesOf, scalarsOf, putAt}
 use Rattle.checks.specs.Check.{orElse, listRefusal, piecesRefusal, shapeRefusal}
 use Rattle.layouts.specs.Record.{isFloating, recorded, recordAnswer}
 use Rattle.layouts.specs.Members.{membersRefusal, placed, piecesWords, piecesAnswer, piecesWritten}
 use Rattle.layouts.proofs.Passing as records
+use Rattle.types.specs.Trees.{wanted}
+use Rattle.flatten.specs.declared.Flattened.{Flattened}
+use Rattle.flatten.specs.Flattened.{flattenAnswer, flattenWritten, frontWords, Flattens}
+use Rattle.flatten.specs.Records.{IsRecordOf}
+use Rattle.flatten.proofs.Flattening as flattening
 use Rattle.describe.specs.Questions.{isByReference, returnsByReference, wideReturnsIn}
 use Rattle.describe.specs.Description.{Description}
 use Rattle.abis.specs.Abis.{described, description-count}
@@ -74,12 +79,14 @@ use Rattle.demands.specs.Performed.{Started, Asks, Takes, Performed, All
 use Rattle.demands.specs.Fastcall.{fastcallOutcome}
 use Rattle.demands.specs.Extent.{Extent}
 use Rattle.demands.specs.Lists.{AllPlaced, IsRead, AllRead}
+use Rattle.demands.specs.Types.{IsFlattened, RefusedType, Because, AsRecord}
 use Rattle.demands.proofs.Refusing as refusing
 use Rattle.demands.proofs.Ending as ending
 use Rattle.demands.proofs.Answering as answering
 use Rattle.demands.proofs.Performed as performing
 use Rattle.demands.proofs.Listing as listing
 use Rattle.demands.proofs.Carried as carried
+use Rattle.demands.proofs.Typing as typing
 
 -- ---- Demand 1: every entry answers every input; a refusal is one of its numbers, all else is 0, and what was handed in or lent is as it was
 
@@ -393,6 +400,61 @@ twelve-calls = calls.twelve-calls
 pub performed-twelve-calls : (n : ℕ) (e : Entry) → getElem? twelve n ≡ some e → (a : Answer) (after : List ℕ) → Performed (callOn e) (e .asked) a after
     → (a, after) ≡ expected e
 performed-twelve-calls = performing.performed-twelve-calls
+
+-- ---- Types inside types (REFERENCE 4.5)
+--
+-- `wanted` is the type of the list's last entry, a readable one (crates/types/specs/Tree.antt, Trees.antt): a scalar, members at their offsets, or so
+-- many of one type. A path is the numbers of the members and elements from there down. `IsFlattened` (specs/Types.antt) names `flatten` and its exported
+-- entry, and says that answer and buffer meet that function's contract.
+
+-- each leaf, one piece: the pieces at the front of the buffer are, in order, one for each path that ends at a scalar, none of them twice, each the
+-- scalar there, its kind, size and alignment, at the sum of its parents' offsets (`EachLeaf`, crates/flatten/specs/Leaves.antt). Size and alignment are
+-- the type's, and every word behind the pieces is as it was
+pub each-leaf-one-piece : (types members out : List ℕ) → flattenAnswer types members out .refusal ≡ accepted
+    → Flattens (wanted types members) out (flattenAnswer types members out) (flattenWritten types members out)
+each-leaf-one-piece types members out ok = flattening.flattens types members out ok (flattenAnswer types members out) refl (flattenWritten types members out) refl
+
+-- the same, whichever function flattened it
+pub performed-each-leaf-one-piece : (types members out : List ℕ) (r : Flattened) (after : List ℕ) → IsFlattened types members out r after → r .refusal ≡ accepted
+    → Flattens (wanted types members) out r after
+performed-each-leaf-one-piece = typing.performed-flattens
+
+-- a refusal has one of its numbers, 0 in all else, and leaves the buffer as it was
+pub flatten-refused : (types members out : List ℕ) → IsRefusal (flattenAnswer types members out .refusal)
+    → RefusedType out (flattenAnswer types members out) (flattenWritten types members out)
+flatten-refused = typing.flatten-refused
+
+pub performed-flatten-refused : (types members out : List ℕ) (r : Flattened) (after : List ℕ) → IsFlattened types members out r after → IsRefusal (r .refusal)
+    → RefusedType out r after
+performed-flatten-refused = typing.performed-flatten-refused
+
+-- each number is given exactly where `Because` has a reason for it, and so is an acceptance
+pub flatten-because : (types members out : List ℕ)
+    → Because types members out (flattenAnswer types members out .refusal) × ((n : ℕ) → Because types members out n → n ≡ flattenAnswer types members out .refusal)
+flatten-because types members out = (typing.because types members out, typing.because-alone types members out)
+
+pub performed-flatten-because : (types members out : List ℕ) (r : Flattened) (after : List ℕ) → IsFlattened types members out r after
+    → Because types members out (r .refusal) × ((n : ℕ) → Because types members out n → n ≡ r .refusal)
+performed-flatten-because = typing.performed-because
+
+-- what is accepted is a shape that every operation accepts: the written words with the answered size and alignment pass all its checks
+pub flattened-passes : (types members out : List ℕ) → flattenAnswer types members out .refusal ≡ accepted → (shape : Shape)
+    → shape .size ≡ flattenAnswer types members out .size → shape .align ≡ flattenAnswer types members out .align
+    → shapeRefusal shape (frontWords (flattenAnswer types members out) (flattenWritten types members out)) ≡ accepted
+flattened-passes types members out ok = flattening.passes types members out ok (flattenAnswer types members out) refl (flattenWritten types members out) refl
+
+pub performed-flattened-passes : (types members out : List ℕ) (r : Flattened) (after : List ℕ) → IsFlattened types members out r after → r .refusal ≡ accepted
+    → (shape : Shape) → shape .size ≡ r .size → shape .align ≡ r .align → shapeRefusal shape (frontWords r after) ≡ accepted
+performed-flattened-passes = typing.performed-passes
+
+-- a record of scalars is what `pieces` and `record` make of them (`AsRecord`)
+pub flattened-as-record : (types members out scalars : List ℕ) → length scalars % scalarSize ≡ 0 → IsRecordOf types members (scalarsOf scalars)
+    → flattenAnswer types members out .refusal ≡ accepted → AsRecord scalars out (flattenAnswer types members out) (flattenWritten types members out)
+flattened-as-record = typing.as-record
+
+pub performed-flattened-as-record : (types members out scalars : List ℕ) (r : Flattened) (after : List ℕ) → IsFlattened types members out r after
+    → length scalars % scalarSize ≡ 0 → IsRecordOf types members (scalarsOf scalars) → r .refusal ≡ accepted → AsRecord scalars out r after
+performed-flattened-as-record = typing.performed-as-record
 
 -- ---- Reading a variable argument list: the callee's side of description 0 (REFERENCE 15)
 --

@@ -6,3 +6,4 @@ mod Performed
 mod Listing
 mod Carried
 mod Ending
+mod Typing

@@ -21,7 +21,8 @@ use Rattle.shape.proofs.Put.{put-short}
 use Rattle.checks.specs.Check.{refuse, orElse, unlessRefused, scalarRefusal, pieceRefusal, piecesRefusal, isPast, extentRefusal, listRefusal, shapeRefusal}
 use Rattle.slots.specs.Words.{slotSize}
 use Rattle.layouts.specs.declared.Recorded.{Recorded}
-use Rattle.layouts.specs.Record.{roundUp, largestAlign, furthestEnd, refuseRecord, recordMade, orRecord, recordAnswer}
+use Rattle.shape.specs.Arithmetic.{roundUp}
+use Rattle.layouts.specs.Record.{largestAlign, furthestEnd, refuseRecord, recordMade, orRecord, recordAnswer}
 use Rattle.layouts.specs.Members.{scalarsRefusal, membersRefusal, placed, piecesWords, orPlaced, ifRoom, piecesAnswer, piecesWritten}
 use Rattle.layouts.proofs.Members.{room-words}
 use Rattle.text.specs.Text.{wrote, putAnswer, putWritten}
@@ -55,7 +56,7 @@ module _ (numbers : List ℕ) where
   refuse-within true n rest h k = h
   refuse-within false n rest h k = k
 
-  else-within : (n rest : ℕ) → Within numbers n → Within numbers rest → Within numbers (orElse n rest)
+  pub else-within : (n rest : ℕ) → Within numbers n → Within numbers rest → Within numbers (orElse n rest)
   else-within zero rest h k = k
   else-within (suc n) rest h k = h
 
@@ -63,7 +64,7 @@ module _ (numbers : List ℕ) where
 
 module _ (numbers : List ℕ) where
   module _ (kind : OneOf numbers bad-kind) (size : OneOf numbers bad-size) (align : OneOf numbers bad-align) where
-    scalar-within : (s : Scalar) → Within numbers (scalarRefusal s)
+    pub scalar-within : (s : Scalar) → Within numbers (scalarRefusal s)
     unfolding scalarRefusal
     scalar-within s =
         refuse-within numbers (ltb quad (s .kind)) bad-kind _ kind

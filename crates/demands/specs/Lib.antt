@@ -6,3 +6,4 @@ pub mod Contracts
 pub mod Lists
 pub mod Fastcall
 pub mod Extent
+pub mod Types

@@ -7,7 +7,8 @@ use Rattle.shape.specs.declared.Piece.{Piece}
 use Rattle.shape.specs.Numbers.{accepted}
 use Rattle.shape.specs.Words.{piecesOf}
 use Rattle.slots.specs.Words.{slotSize, written}
-use Rattle.layouts.specs.Record.{roundUp, largestAlign, furthestEnd}
+use Rattle.shape.specs.Arithmetic.{roundUp}
+use Rattle.layouts.specs.Record.{largestAlign, furthestEnd}
 use Rattle.abis.specs.Abis.{described}
 use Rattle.spend.specs.declared.Spent.{Spent}
 use Rattle.spend.specs.Ways.{nothing, wayNumber}

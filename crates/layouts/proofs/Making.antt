@@ -1,55 +1,23 @@
--- The laws of rounding, of the largest of a measure, and of the record that pieces make.
-use Prim.Native.Nat.{ℕ, zero, suc, _+_, _-_, _*_, _/_, _%_, _≤_, _<_, max}
+-- The laws of the largest of a measure, and of the record that pieces make.
+use Prim.Native.Nat.{ℕ, zero, suc, _+_, _-_, _/_, _%_, _≤_, _<_, max}
 use mathlib.Core.Path.{_≡_, refl, sym, _∙_}
 use mathlib.Core.List.{List, [], _∷_}
 use mathlib.Core.Bool.{Bool, false, _&&_}
 use native.Mathlib.Omega.{arith}
-use native.Mathlib.Nat.{div-add-mod', div-mul-le-self, mod-lt, suc-mul}
 use borrow.Author.Tests.{lt-ltb, le-ltb, eq-eqb, ne-eqb}
-use lib.Arith.{digits-div}
 use lib.Dec.{ltb, eqb}
 use lib.ListN.{length, drop}
 use Rattle.shape.specs.declared.Piece.{Piece}
 use Rattle.shape.specs.Numbers.{accepted, bad-size, bad-align, most-offset, most-word}
+use Rattle.shape.specs.Arithmetic.{roundUp, rounded}
 use Rattle.shape.specs.Words.{piecesOf, pieceAt}
 use Rattle.checks.specs.Check.{orElse, listRefusal, piecesRefusal}
 use Rattle.shape.specs.Questions.{isFloat}
+use Rattle.shape.proofs.Rounding.{round-within}
 use Rattle.shape.proofs.Words.{pieces-step, pieces-end, length-pieces}
 use Rattle.checks.proofs.Accepted.{within-first, whole-list}
 use Rattle.layouts.specs.declared.Recorded.{Recorded}
-use Rattle.layouts.specs.Record.{roundUp, maxOf, largestAlign, furthestEnd, isFloating, recorded, refuseRecord, recordMade, orRecord, recordAnswer}
-
--- ---- rounding
-
-module _ (n a : ℕ) (p : 0 < a) where
-  pub over-less : n % a < a
-  over-less = mod-lt n p
-
-  pub round-exact : n % a ≡ 0 → n ≡ roundUp n a
-  unfolding roundUp
-  round-exact z =
-      let d : n / a * a + n % a ≡ n = div-add-mod' n a in
-      let e : n + (a - 1) ≡ n / a * a + (a - 1) = omega arith in
-      let k : (n / a * a + (a - 1)) / a ≡ n / a = digits-div (n / a) {m = a} {r = a - 1} (omega arith) in
-      rw (e, k) (omega arith)
-
-  pub round-over : (n % a ≡ 0 → ⊥) → n + (a - n % a) ≡ roundUp n a
-  unfolding roundUp
-  round-over z =
-      let l : n % a < a = over-less in
-      let d : n / a * a + n % a ≡ n = div-add-mod' n a in
-      let m : suc (n / a) * a ≡ n / a * a + a = suc-mul (n / a) a in
-      let e : n + (a - 1) ≡ suc (n / a) * a + (n % a - 1) = omega arith in
-      let k : (suc (n / a) * a + (n % a - 1)) / a ≡ suc (n / a) = digits-div (suc (n / a)) {m = a} {r = n % a - 1} (omega arith) in
-      rw (e, k) (omega arith)
-
-  pub round-least : n ≤ roundUp n a
-  unfolding roundUp
-  round-least = omega (arith, div-add-mod' (n + (a - 1)) a, mod-lt (n + (a - 1)) p)
-
-  pub round-bound : roundUp n a < n + a
-  unfolding roundUp
-  round-bound = omega (arith, div-mul-le-self (n + (a - 1)) a)
+use Rattle.layouts.specs.Record.{maxOf, largestAlign, furthestEnd, isFloating, recorded, refuseRecord, recordMade, orRecord, recordAnswer}
 
 -- ---- a loop that keeps the largest: `total` is the largest of what was seen and of the pieces from the place on
 
@@ -136,12 +104,14 @@ module _ (ws : List ℕ) (list : ℕ) (el : list ≡ listRefusal ws) where
         pub record-align : align ≡ 0 → (r : Recorded) → r ≡ recorded bad-align 0 0 false → r ≡ recordAnswer ws
         record-align a r er = rw (er, opened, eq-eqb _ _ a)
 
-        pub record-bounds : (e : ℕ) → e ≡ furthestEnd (piecesOf ws) → e + align ≤ most-word
-        record-bounds e ee =
-            let ok : piecesRefusal (piecesOf ws) ≡ accepted = sym ef ∙ z in
-            omega (arith, furthest-bound (piecesOf ws) ok, largest-bound (piecesOf ws) ok)
+        module _ (a : align ≡ 0 → ⊥) (e : ℕ) (ee : e ≡ furthestEnd (piecesOf ws)) (size : ℕ) (er : size ≡ rounded e align) where
+          -- accepted pieces are far below any wrap
+          es : size ≡ roundUp e align
+          es =
+              let ok : piecesRefusal (piecesOf ws) ≡ accepted = sym ef ∙ z in
+              let m : max align 1 ≡ align = omega arith in
+              rw m at (round-within e align size er (omega (arith, furthest-bound (piecesOf ws) ok, largest-bound (piecesOf ws) ok)))
 
-        module _ (a : align ≡ 0 → ⊥) (e : ℕ) (ee : e ≡ furthestEnd (piecesOf ws)) (size : ℕ) (es : size ≡ roundUp e align) where
           pub record-large : most-offset < size → (r : Recorded) → r ≡ recorded bad-size 0 0 false → r ≡ recordAnswer ws
           record-large s r er = rw (er, opened, ne-eqb _ _ a, ← ee, ← es, lt-ltb _ _ s)
 

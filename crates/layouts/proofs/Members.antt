@@ -10,13 +10,14 @@ use lib.ListN.{length, drop}
 use Rattle.shape.specs.declared.Piece.{Piece}
 use Rattle.shape.specs.declared.Scalar.{Scalar}
 use Rattle.shape.specs.Numbers.{accepted, bad-list, no-room, most-pieces}
-use Rattle.shape.specs.Words.{piece, scalarsOf, scalarAt, putAt, pieceWords}
-use Rattle.checks.specs.Check.{scalarRefusal, unlessRefused, orElse}
+use Rattle.shape.specs.Words.{piece, piecesOf, scalarsOf, scalarAt, putAt, pieceWords}
+use Rattle.checks.specs.Check.{scalarRefusal, orElse}
 use Rattle.shape.proofs.Words.{scalars-step, scalars-end, length-scalars, ByFirst}
+use Rattle.checks.proofs.Check.{left-alone}
 use Rattle.checks.proofs.Accepted.{refuse-none, else-none, Fits, fits}
 use Rattle.shape.proofs.Put.{put-short, put-split, put-none}
 use Rattle.layouts.specs.declared.Placed.{Placed}
-use Rattle.layouts.specs.Record.{roundUp}
+use Rattle.shape.specs.Arithmetic.{roundUp}
 use Rattle.layouts.specs.Members.{scalarsRefusal, membersRefusal, placed, piecesWords, orPlaced, piecesAnswer, piecesWritten}
 
 -- ---- check_members
@@ -40,15 +41,21 @@ scalars-by-first = record { none = refl; more = λ s ss. refl }
 
 -- ---- pieces
 
-length-placed : (end : ℕ) (ss : List Scalar) → length (placed end ss) ≡ length ss
+pub length-placed : (end : ℕ) (ss : List Scalar) → length (placed end ss) ≡ length ss
 unfolding placed
 length-placed end [] = refl
 length-placed end (s ∷ ss) = ap suc (length-placed (roundUp end (max (s .align) 1) + s .size) ss)
 
-length-words : (ps : List Piece) → length (piecesWords ps) ≡ 4 * length ps
+pub length-words : (ps : List Piece) → length (piecesWords ps) ≡ 4 * length ps
 unfolding piecesWords
 length-words [] = refl
 length-words (p ∷ ps) = let h : length (piecesWords ps) ≡ 4 * length ps = length-words ps in omega arith
+
+-- pieces in words are read back as they were
+pub pieces-back : (ps : List Piece) → piecesOf (piecesWords ps) ≡ ps
+unfolding piecesWords piecesOf
+pieces-back [] = refl
+pieces-back (p ∷ ps) = ap (λ (qs : List Piece). p ∷ qs) (pieces-back ps)
 
 pub room-words : (end : ℕ) (ss : List Scalar) → length (piecesWords (placed end ss)) ≡ 4 * length ss
 room-words end ss = length-words (placed end ss) ∙ ap (λ (n : ℕ). 4 * n) (length-placed end ss)
@@ -57,10 +64,6 @@ or-refused : (n : ℕ) → (n ≡ accepted → ⊥) → (rest : Placed) → _≡
 or-refused zero h rest = absurd (h refl)
 or-refused (suc n) h rest = refl
 
-same-refused : (out : List ℕ) (n : ℕ) → (n ≡ accepted → ⊥) → (new : List ℕ) → out ≡ unlessRefused n new out
-same-refused out zero h new = absurd (h refl)
-same-refused out (suc n) h new = refl
-
 module _ (ws out : List ℕ) (refusal : ℕ) (ef : refusal ≡ membersRefusal ws) where
   pub pieces-refused : (refusal ≡ accepted → ⊥) → _≡_ {A = Placed} (record { refusal = refusal; count = 0 }) (piecesAnswer ws out)
   unfolding piecesAnswer
@@ -68,7 +71,7 @@ module _ (ws out : List ℕ) (refusal : ℕ) (ef : refusal ≡ membersRefusal ws
 
   pub pieces-same : (refusal ≡ accepted → ⊥) → out ≡ piecesWritten ws out
   unfolding piecesWritten
-  pieces-same h = rw (← ef) (same-refused out refusal h _)
+  pieces-same h = rw (← ef) (left-alone refusal _ out h)
 
   module _ (z : refusal ≡ accepted) where
     pub pieces-short : length out / 4 < length ws / 3 → _≡_ {A = Placed} (record { refusal = no-room; count = 0 }) (piecesAnswer ws out)
@@ -121,14 +124,14 @@ module _ (ws : List ℕ) (at : ℕ) (w : at ≤ length ws) (ok : scalarsRefusal 
   next-room to out room = let r : to + 4 * suc (length (scalarsOf (drop (at + 3) ws))) ≤ length out = rw next at room in omega arith
 
   pub next-words : (total : List ℕ) (to end : ℕ) (out : List ℕ) → total ≡ putAt out to (piecesWords (placed end (scalarsOf (drop at ws))))
-      → to + 4 * length (scalarsOf (drop at ws)) ≤ length out → (a : ℕ) → a ≡ max (s .align) 1 → (o : ℕ) → o ≡ roundUp end a
+      → to + 4 * length (scalarsOf (drop at ws)) ≤ length out → (o : ℕ) → o ≡ roundUp end (max (s .align) 1)
       → (out′ : List ℕ) → out′ ≡ putAt out to (pieceWords (piece (s .kind) (s .size) (s .align) o))
       → total ≡ putAt out′ (to + 4) (piecesWords (placed (o + s .size) (scalarsOf (drop (at + 3) ws))))
   unfolding placed piecesWords
-  next-words total to end out inv room a ea o eo out′ e =
+  next-words total to end out inv room o eo out′ e =
       let rest : List Scalar = scalarsOf (drop (at + 3) ws) in
       let p : Piece = piece (s .kind) (s .size) (s .align) o in
-      rw (inv, next, ← ea, ← eo, e)
+      rw (inv, next, ← eo, e)
       (put-split out to (pieceWords p) (piecesWords (placed (o + s .size) rest))
       (omega (arith, next-room to out room, room-words (o + s .size) rest)))
 

@@ -14,8 +14,10 @@ use Rattle.shape.specs.Words.{piecesOf}
 use Rattle.checks.specs.Check.{orElse, piecesRefusal, extentRefusal, listRefusal, shapeRefusal}
 use Rattle.checks.proofs.Accepted.{else-none, within-first, after-all}
 use Rattle.layouts.specs.declared.Recorded.{Recorded}
-use Rattle.layouts.specs.Record.{roundUp, maxOf, largestAlign, furthestEnd, isFloating, recorded, refuseRecord, recordMade, orRecord, recordAnswer}
-use Rattle.layouts.proofs.Making.{round-least, largest-bound}
+use Rattle.shape.specs.Arithmetic.{roundUp}
+use Rattle.layouts.specs.Record.{maxOf, largestAlign, furthestEnd, isFloating, recorded, refuseRecord, recordMade, orRecord, recordAnswer}
+use Rattle.shape.proofs.Rounding.{round-least}
+use Rattle.layouts.proofs.Making.{largest-bound}
 
 -- pieces end where the furthest does, or before
 ends-inside : (size : ℕ) (ps : List Piece) → piecesRefusal ps ≡ accepted → furthestEnd ps ≤ size → extentRefusal size ps ≡ accepted

@@ -10,7 +10,7 @@ use Rattle.shape.specs.Numbers.{accepted, bad-list, no-room, most-pieces}
 use Rattle.shape.specs.Words.{piece, scalarsOf, pieceSize, scalarSize, putAt, pieceWords}
 use Rattle.checks.specs.Check.{refuse, orElse, unlessRefused, scalarRefusal}
 use Rattle.layouts.specs.declared.Placed.{Placed}
-use Rattle.layouts.specs.Record.{roundUp}
+use Rattle.shape.specs.Arithmetic.{roundUp}
 
 -- scalars, from the first
 unfoldable pub scalarsRefusal : List Scalar → ℕ

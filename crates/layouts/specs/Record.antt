@@ -1,18 +1,15 @@
 -- The record that some pieces make (REFERENCE 4.3): its size, alignment and floating point mode, or the refusal.
-use Prim.Native.Nat.{ℕ, zero, suc, _+_, _-_, _*_, _/_, max}
+use Prim.Native.Nat.{ℕ, zero, suc, max}
 use mathlib.Core.List.{List, [], _∷_}
 use mathlib.Core.Bool.{Bool, true, false, _&&_}
 use lib.Dec.{ltb, eqb}
 use Rattle.shape.specs.declared.Piece.{Piece}
 use Rattle.shape.specs.Numbers.{accepted, bad-size, bad-align, most-offset}
+use Rattle.shape.specs.Arithmetic.{roundUp}
 use Rattle.shape.specs.Words.{piecesOf}
 use Rattle.checks.specs.Check.{orElse, listRefusal, piecesRefusal}
 use Rattle.shape.specs.Questions.{isFloat, endOf}
 use Rattle.layouts.specs.declared.Recorded.{Recorded}
-
--- the next multiple of `a`
-unfoldable pub roundUp : ℕ → ℕ → ℕ
-roundUp n a = (n + (a - 1)) / a * a
 
 -- the largest of a measure of the pieces, 0 where there is none
 unfoldable pub maxOf : (Piece → ℕ) → List Piece → ℕ

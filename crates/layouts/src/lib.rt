@@ -4,11 +4,10 @@ use shape::Piece;
 use shape::Shape;
 ghost use mathlib.Core.Path.{_≡_};
 ghost use mathlib.Core.Bool.{false};
-ghost use Prim.Native.Nat.{_+_, _≤_, _<_};
-ghost use Rattle.shape.specs.Numbers.{accepted, most-word};
+ghost use Rattle.shape.specs.Numbers.{accepted};
 ghost use Rattle.shape.specs.Words.{piecesOf};
 ghost use Rattle.layouts.specs.Members.{membersRefusal, piecesAnswer, piecesWritten};
-ghost use Rattle.layouts.specs.Record.{roundUp, largestAlign, furthestEnd, recorded, recordAnswer};
+ghost use Rattle.layouts.specs.Record.{largestAlign, furthestEnd, recorded, recordAnswer};
 
 // How many pieces were written, or the refusal.
 pub struct Placed {
@@ -35,7 +34,7 @@ pub fn pieces(members: &[u64], out: &mut [u64]) -> Placed
     let mut end = 0;
     while members.len() - at >= shape::SCALAR {
         let s = shape::scalar_at(members, at);
-        let offset = round_up(end, shape::most(s.align, 1));
+        let offset = shape::round_up(end, s.align);
         shape::put_piece(
             out,
             to,
@@ -109,7 +108,7 @@ pub fn record(words: &[u64]) -> Recorded
     if align == 0 {
         return refused(shape::BAD_ALIGN);
     }
-    let size = round_up(furthest_end(words), align);
+    let size = shape::round_up(furthest_end(words), align);
     if size > checks::MOST_OFFSET {
         return refused(shape::BAD_SIZE);
     }
@@ -144,18 +143,6 @@ fn furthest_end(words: &[u64]) -> u64
         at += shape::PIECE;
     }
     best
-}
-
-// The next multiple of `a`.
-fn round_up(n: u64, a: u64) -> u64
-    requires { ⌜ (0 < a) × (n + a ≤ most-word) ⌝ }
-    ensures { λ r. ⌜ r ≡ roundUp n a ⌝ }
-{
-    let over = n % a;
-    if over == 0 {
-        return n;
-    }
-    n + (a - over)
 }
 
 // The refusal of a record's members: the words don't make whole scalars, or too many; then the scalars from the first.

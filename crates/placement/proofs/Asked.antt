@@ -15,7 +15,7 @@ use Rattle.shape.specs.Numbers.{integer, single, double, x87-extended, quad, ac
 use Rattle.shape.specs.Words.{scalar}
 use Rattle.checks.specs.Check as checks
 use Rattle.checks.proofs.Accepted.{else-none}
-use Rattle.layouts.specs.Record.{roundUp}
+use Rattle.shape.specs.Arithmetic.{roundUp}
 use Rattle.abis.specs.Abis as abis
 use Rattle.abis.specs.Abis.{described}
 use Rattle.describe.specs.Description.{termsOf}

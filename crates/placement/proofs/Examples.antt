@@ -3,7 +3,7 @@ use mathlib.Core.Path.{_≡_, refl}
 use mathlib.Core.List.{map}
 use Rattle.checks.specs.Check as checks
 use Rattle.shape.specs.Words.{piecesOf, putAt}
-use Rattle.layouts.specs.Record.{roundUp}
+use Rattle.shape.specs.Arithmetic.{roundUp}
 use Rattle.abis.specs.Abis as abis
 use Rattle.spend.specs.Spending as rules
 use Rattle.spend_scalar.specs.Spending as lone

@@ -14,7 +14,7 @@ use Rattle.shape.specs.declared.Scalar as scalars
 use Rattle.shape.specs.Numbers.{accepted, bad-area}
 use Rattle.shape.specs.Words.{putAt}
 use Rattle.shape.proofs.Bools.{both-true}
-use Rattle.layouts.specs.Record.{roundUp}
+use Rattle.shape.specs.Arithmetic.{roundUp}
 use Rattle.abis.specs.Abis as abis
 use Rattle.abis.specs.Abis.{described}
 use Rattle.spend.specs.declared.Spent.{Spent}

@@ -9,7 +9,7 @@ use lib.ListN.{length, take, drop, set, getD}
 use Rattle.shape.specs.declared.Arg.the-variants.{Scalar}
 use Rattle.shape.specs.declared.Scalar as scalars
 use Rattle.shape.specs.Words.{putAt}
-use Rattle.layouts.specs.Record.{roundUp}
+use Rattle.shape.specs.Arithmetic.{roundUp}
 use Rattle.abis.specs.Abis.{described}
 use Rattle.classify.specs.declared.Call.{Call}
 use Rattle.classify.specs.declared.Answer.{Answer}

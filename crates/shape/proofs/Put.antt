@@ -4,11 +4,12 @@ use mathlib.Core.Path.{_≡_, refl, ap, sym, subst, _∙_}
 use mathlib.Core.Bool.{true, false}
 use mathlib.Core.List.{List, [], _∷_, _++_, append-assoc, append-nil}
 use native.Mathlib.Omega.{arith}
+use native.Mathlib.Nat.{zero-add}
 use native.Mathlib.Numerals.{add-one}
 use borrow.Author.Tests.{le-leb, lt-leb}
 use lib.Dec.{leb}
 use lib.ListN.{length, take, drop, set, length-append, length-drop, take-append-drop}
-use lib.Seq.{sets, sets-eq, length-take-le, drop-append-add, drop-drop, take-at}
+use lib.Seq.{sets, sets-eq, length-take-le, take-append-seam, drop-append-seam, drop-append-add, drop-drop, take-at}
 use Rattle.shape.specs.Words.{putAt}
 
 pub put-fits : (ws : List ℕ) (at : ℕ) (vs : List ℕ) → at + length vs ≤ length ws
@@ -25,7 +26,7 @@ length-put ws at vs h =
     let t : length (take at ws) ≡ at = length-take-le at ws (omega arith) in
     rw (put-fits ws at vs h) (simp (length-append, length-drop) (omega arith))
 
-drop-past : (p q : List ℕ) (n m : ℕ) → length p ≡ n → drop (n + m) (p ++ q) ≡ drop m q
+pub drop-past : (p q : List ℕ) (n m : ℕ) → length p ≡ n → drop (n + m) (p ++ q) ≡ drop m q
 drop-past p q n m e = subst (λ (k : ℕ). drop (k + m) (p ++ q) ≡ drop m q) e (drop-append-add p q m)
 
 -- a run is its first part and then the rest, from where the first part ends
@@ -83,3 +84,14 @@ module _ (ws : List ℕ) (at : ℕ) (vs : List ℕ) where
 
   pub fitted : at + length vs ≤ length ws → (true ≡ leb (at + length vs) (length ws)) × (stores ws at vs ≡ putAt ws at vs)
   fitted h = (sym (le-leb _ _ h), put-stores ws at vs h)
+
+-- words put at the front stand there, and those behind them are as they were
+module _ (ws vs : List ℕ) (fits : length vs ≤ length ws) where
+  put-first : putAt ws 0 vs ≡ vs ++ drop (length vs) ws
+  put-first = put-fits ws 0 vs (omega arith) ∙ ap (λ (n : ℕ). vs ++ drop n ws) (zero-add (length vs))
+
+  pub put-front : take (length vs) (putAt ws 0 vs) ≡ vs
+  put-front = ap (take (length vs)) put-first ∙ take-append-seam vs (drop (length vs) ws)
+
+  pub put-behind : drop (length vs) (putAt ws 0 vs) ≡ drop (length vs) ws
+  put-behind = ap (drop (length vs)) put-first ∙ drop-append-seam vs (drop (length vs) ws)

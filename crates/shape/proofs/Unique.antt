@@ -15,6 +15,8 @@ use Rattle.shape.proofs.Piece.end.Reads as piece-end
 use Rattle.shape.proofs.least.Reads as least
 use Rattle.shape.proofs.most.Reads as most
 use Rattle.shape.proofs.minus.Reads as minus
+use Rattle.shape.proofs.sum.Reads as sum
+use Rattle.shape.proofs.round_up.Reads as round-up
 use Rattle.shape.proofs.one_if.Reads as one-if
 use Rattle.shape.proofs.wide.Reads as wide
 
@@ -56,6 +58,12 @@ most-decides κs a r q s t p p′ = p ∙ sym p′
 
 minus-decides : (κs : Lfts 0) → OneAnswer (minus.Post κs)
 minus-decides κs a r q s t p p′ = p ∙ sym p′
+
+sum-decides : (κs : Lfts 0) → OneAnswer (sum.Post κs)
+sum-decides κs a r q s t p p′ = p ∙ sym p′
+
+round-up-decides : (κs : Lfts 0) → OneAnswer (round-up.Post κs)
+round-up-decides κs a r q s t p p′ = p ∙ sym p′
 
 one-if-decides : (κs : Lfts 0) → OneAnswer (one-if.Post κs)
 one-if-decides κs a r q s t p p′ = p .0 ∙ sym (p′ .0)

@@ -1,4 +1,5 @@
 pub mod Numbers
 pub mod Words
+pub mod Arithmetic
 pub mod Questions
 pub mod Lists

@@ -59,6 +59,12 @@ bad-area = 8
 abbrev pub bad-extent : ℕ
 bad-extent = 9
 
+abbrev pub bad-type : ℕ
+bad-type = 10
+
+abbrev pub too-deep : ℕ
+too-deep = 11
+
 -- the largest size of a scalar or a piece
 abbrev pub most-size : ℕ
 most-size = 64

@@ -1,8 +1,9 @@
 // What a classifier is asked about: kinds, scalars, pieces and shapes, and the refusals. Pieces come in as words, four to a piece: kind, size,
-// alignment, offset. Whether it may be asked, the crate checks says. The rules are those of docs/REFERENCE.md, 1, 2 and 4.1.
+// alignment, offset. Whether it may be asked, the crate checks says. The rules are those of docs/REFERENCE.md, 1, 2, 4.1 and 4.2.
 ghost use mathlib.Core.Path.{_≡_};
 ghost use Prim.Native.Nat.{_-_, _<_, _≤_, min, max, _+_};
 ghost use Rattle.shape.specs.Numbers.{oneIf};
+ghost use Rattle.shape.specs.Arithmetic.{plus, rounded};
 ghost use Rattle.shape.specs.Words.{piecesOf, pieceAt, scalarAt, putAt, pieceSize, pieceWords};
 ghost use lib.Dec.{leb};
 ghost use lib.ListN.{length};
@@ -47,8 +48,12 @@ pub const BAD_AREA: u64 = 8;
 
 pub const BAD_EXTENT: u64 = 9;
 
+pub const BAD_TYPE: u64 = 10;
+
+pub const TOO_DEEP: u64 = 11;
+
 // The largest number of 64 bits.
-const MOST_WORD: u64 = 18446744073709551615;
+pub const MOST_WORD: u64 = 18446744073709551615;
 
 // Words of a scalar and of a piece.
 pub const SCALAR: usize = 3;
@@ -111,7 +116,7 @@ impl Piece {
     pub fn end(self) -> u64
         ensures { λ r. ⌜ r ≡ endOf self ⌝ }
     {
-        self.offset + least(most(self.size, 1), MOST_WORD - self.offset)
+        sum(self.offset, most(self.size, 1))
     }
 }
 
@@ -239,6 +244,25 @@ pub fn minus(a: u64, b: u64) -> u64
     ensures { λ r. ⌜ r ≡ a - b ⌝ }
 {
     if a < b { 0 } else { a - b }
+}
+
+// A sum, or the largest number where it passes 64 bits.
+pub fn sum(a: u64, b: u64) -> u64
+    ensures { λ r. ⌜ r ≡ plus a b ⌝ }
+{
+    a + least(b, MOST_WORD - a)
+}
+
+// The next multiple of `a`, where 0 counts as 1, or the largest number where that passes 64 bits.
+pub fn round_up(n: u64, a: u64) -> u64
+    ensures { λ r. ⌜ r ≡ rounded n a ⌝ }
+{
+    let step = most(a, 1);
+    let over = n % step;
+    if over == 0 {
+        return n;
+    }
+    sum(n, step - over)
 }
 
 // A yes as 1, a no as 0.

@@ -8,13 +8,13 @@ use libc::STDOUT_FILENO;
 use shape::Shape;
 use slots::Found;
 use text::append;
+use text::append_number;
+use words::WORD;
 ghost use Prim.Native.Nat.{_<_, _≤_};
 ghost use lib.ListN.{length};
 ghost use Rattle.io.specs.Counts.{Counts};
 
-// Bytes of a word, words of a record, and the most pieces that a shape may have here.
-const WORD: usize = 8;
-
+// Words of a record, and the most pieces that a shape may have here.
 const RECORD: usize = 6;
 
 const MOST_HELD: u64 = 64;
@@ -83,22 +83,8 @@ fn read(bytes: &mut [u8], words: &mut [u64]) -> bool {
     if io::read_full(STDIN_FILENO, bytes) < bytes.len() {
         return false;
     }
-    unpack(bytes, words);
+    words::unpack(bytes, words);
     true
-}
-
-// The little-endian words of the bytes.
-fn unpack(bytes: &[u8], words: &mut [u64]) {
-    for i in 0..bytes.len() {
-        shift_in(words, i / WORD, bytes[i]);
-    }
-}
-
-// A byte goes to the top of a word. Eight of them leave nothing of what the word was.
-fn shift_in(words: &mut [u64], at: usize, byte: u8) {
-    if at < words.len() {
-        words[at] = (words[at] >> 8) | ((byte as u64) << 56);
-    }
 }
 
 // Prints the shape's lines; whether they went. The words of a piece are those behind the first of its record.
@@ -308,7 +294,7 @@ fn put_accepted(
 {
     if refusal != shape::ACCEPTED {
         let to = put_text(out, at, REFUSED);
-        return put_number(out, to, b' ', refusal);
+        return append_number(out, to, b' ', refusal);
     }
     put_words(out, at, size, count, each)
 }
@@ -333,7 +319,7 @@ fn put_found(out: &mut [u8], at: usize, found: Found, each: &[u64]) -> usize {
 }
 
 fn put_slots(out: &mut [u8], at: usize, count: u64, each: &[u64]) -> usize {
-    let to = put_number(out, at, b' ', count);
+    let to = append_number(out, at, b' ', count);
     put_words(out, to, slots::SLOT, count, each)
 }
 
@@ -346,7 +332,7 @@ fn put_words(out: &mut [u8], from: usize, size: usize, count: u64, each: &[u64])
         if (i / size) as u64 >= count {
             return at;
         }
-        at = put_number(out, at, before(i % size), each[i]);
+        at = append_number(out, at, before(i % size), each[i]);
     }
     at
 }
@@ -356,12 +342,4 @@ fn before(word: usize) -> u8 {
         return b' ';
     }
     b':'
-}
-
-// A byte, and a number behind it.
-fn put_number(out: &mut [u8], at: usize, byte: u8, n: u64) -> usize {
-    let mut digits = [0u8; 20];
-    let count = io::decimal(n, &mut digits);
-    let to = append(out, at, &[byte]);
-    append(out, to, &digits[..count])
 }

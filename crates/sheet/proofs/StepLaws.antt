@@ -17,9 +17,9 @@ use Rattle.sheet_records.specs.declared.Reading.{Reading}
 use Rattle.sheet_records.specs.Reading.{came, readAnswer, readPieces}
 use Rattle.sheet_records.specs.Known.{actOf, stoppedReader}
 use Rattle.sheet_records.specs.declared.known.Act as acts
-use Rattle.sheet_lines.specs.Text.{Put}
+use Rattle.text.specs.Text.{Put}
 use Rattle.sheet_lines.specs.Printing.{longest, line, Lined}
-use Rattle.sheet_lines.proofs.TextLaws.{append-put}
+use Rattle.text.proofs.Putting.{append-put}
 use Rattle.sheet_lines.proofs.LineLaws.{line-there}
 use Rattle.sheet_perform.specs.declared.State.{State}
 use Rattle.sheet.specs.declared.Step.{Step}

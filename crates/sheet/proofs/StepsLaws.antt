@@ -10,9 +10,9 @@ use lib.ListN.{length, take, drop, length-drop}
 use lib.Seq.{drop-drop}
 use Rattle.shape.proofs.Bools.{both-true}
 use Rattle.sheet_records.specs.Records.{recordSize}
-use Rattle.sheet_lines.specs.Text.{Put}
+use Rattle.text.specs.Text.{Put}
 use Rattle.sheet_lines.specs.Printing.{longest}
-use Rattle.sheet_lines.proofs.TextLaws.{put-then, put-nothing}
+use Rattle.text.proofs.Putting.{put-then, put-nothing}
 use Rattle.sheet_lines.proofs.PrintingLaws.{Goes, goes-first}
 use Rattle.sheet_perform.specs.declared.State.{State}
 use Rattle.sheet.specs.declared.Step.{Step}

@@ -13,7 +13,7 @@ ghost use mathlib.Core.Bool.{_&&_};
 ghost use lib.Dec.{leb};
 ghost use lib.ListN.{length};
 ghost use Rattle.sheet_records.specs.Records.{recordSize};
-ghost use Rattle.sheet_lines.specs.Text.{Put};
+ghost use Rattle.text.specs.Text.{Put};
 ghost use Rattle.sheet_lines.specs.Printing.{longest};
 ghost use Rattle.sheet.specs.Sheet.{stopText, CarriedOut, Stepped, Taken, Finished};
 

@@ -11,9 +11,9 @@ use Rattle.spend.specs.Ways.{wayFrom}
 use Rattle.classify.specs.declared.Outcome.{Outcome}
 use Rattle.classify.specs.declared.Answer.{Answer}
 use Rattle.sheet_records.specs.declared.known.Act as acts
-use Rattle.sheet_lines.specs.Text.{decimal, mostDigits}
-use Rattle.sheet_lines.specs.Printing.{newline, space, wayText, actText, refusedText, nameText, part, pair, countsText, markAt, slotsText, restText, line, mostName, mostPart, mostPair, mostCounts, mostRest, longest}
-use Rattle.sheet_lines.proofs.TextLaws.{digits-bound}
+use Rattle.text.specs.Numbers.{part, mostPart}
+use Rattle.sheet_lines.specs.Printing.{newline, space, wayText, actText, refusedText, nameText, pair, countsText, markAt, slotsText, restText, line, mostName, mostPair, mostCounts, mostRest, longest}
+use Rattle.text.proofs.Digits.{part-bound}
 
 either : (b : Bool) (x y : List ℕ) (n : ℕ) → length x ≤ n → length y ≤ n → length (cond b x y) ≤ n
 either true x y n h k = h
@@ -39,9 +39,6 @@ act-bound acts.the-variants.Value way = way-bound way
 name-bound : (act : acts.Act) (o : Outcome) → length (nameText act o) ≤ mostName
 unfolding nameText
 name-bound act o = either (eqb (o .refusal) 0) (actText act (wayFrom (o .way))) refusedText mostName (act-bound act (wayFrom (o .way))) (omega arith)
-
-part-bound : (mark n : ℕ) → length (part mark n) ≤ mostPart
-part-bound mark n = let h : length (decimal n) ≤ mostDigits = digits-bound mostDigits n in omega arith
 
 pair-bound : (m n : ℕ) → length (pair m n) ≤ mostPair
 pair-bound m n = joined (part space m) (part space n) mostPart mostPart (part-bound space m) (part-bound space n)

@@ -11,7 +11,7 @@ use Rattle.shape.proofs.Bools.{both-true}
 use Rattle.slots.specs.Words.{slotSize, mostSlots}
 use Rattle.classify.specs.declared.Answer.{Answer}
 use Rattle.sheet_records.specs.declared.known.Act.{Act}
-use Rattle.sheet_lines.specs.Text.{Put}
+use Rattle.text.specs.Text.{Put}
 use Rattle.sheet_lines.specs.Printing.{longest, line, lineEnd, lineOut, Lined}
 use Rattle.sheet_lines.proofs.BoundLaws.{line-bound}
 

@@ -14,9 +14,10 @@ use Rattle.spend.specs.Ways.{wayFrom}
 use Rattle.classify.specs.declared.Outcome.{Outcome}
 use Rattle.classify.specs.declared.Answer.{Answer}
 use Rattle.sheet_records.specs.declared.known.Act as acts
-use Rattle.sheet_lines.specs.Text.{Put, decimal}
-use Rattle.sheet_lines.specs.Printing.{space, newline, wayText, actText, refusedText, nameText, part, pair, countsText, markAt, slotsText, restText, line, mostPart}
-use Rattle.sheet_lines.proofs.TextLaws.{put-then, put-nothing}
+use Rattle.text.specs.Text.{Put}
+use Rattle.text.specs.Numbers.{part, mostPart}
+use Rattle.sheet_lines.specs.Printing.{space, newline, wayText, actText, refusedText, nameText, pair, countsText, markAt, slotsText, restText, line}
+use Rattle.text.proofs.Putting.{put-then, put-nothing}
 
 module _ (o : List ℕ) (at r : ℕ) (p : List ℕ) where
   module _ (way : ways.Way) where
@@ -70,10 +71,6 @@ module _ (o : List ℕ) (at r : ℕ) (p : List ℕ) where
     pub rest-slots : out .refusal ≡ 0 → Put o at (slotsText 0 (take (out .slots * slotSize) slots)) r p → Put o at (restText out slots) r p
     unfolding restText
     rest-slots h x = rw (eq-eqb _ _ h) x
-
-pub part-put : (o : List ℕ) (at mark n r : ℕ) (p : List ℕ) (t : ℕ) (q : List ℕ)
-    → Put o at (mark ∷ []) r p → Put p r (decimal n) t q → Put o at (part mark n) t q
-part-put o at mark n r p t q x y = put-then x y
 
 pub pair-put : (o : List ℕ) (at m n r : ℕ) (p : List ℕ) (t : ℕ) (q : List ℕ)
     → Put o at (part space m) r p → Put p r (part space n) t q → Put o at (pair m n) t q

@@ -14,7 +14,7 @@ use Rattle.spend.specs.Ways.{wayFrom}
 use Rattle.classify.specs.declared.Outcome.{Outcome}
 use Rattle.classify.specs.declared.Answer.{Answer}
 use Rattle.sheet_records.specs.declared.known.Act as acts
-use Rattle.sheet_lines.specs.Text.{decimal, mostDigits}
+use Rattle.text.specs.Numbers.{part, mostPart}
 
 abbrev pub space : ℕ
 space = 32
@@ -43,10 +43,6 @@ refusedText = bytes "refused"
 
 unfoldable pub nameText : acts.Act → Outcome → List ℕ
 nameText act o = cond (eqb (o .refusal) 0) (actText act (wayFrom (o .way))) refusedText
-
--- a number behind a mark
-abbrev pub part : ℕ → ℕ → List ℕ
-part mark n = mark ∷ decimal n
 
 -- two numbers, each behind a space
 abbrev pub pair : ℕ → ℕ → List ℕ
@@ -78,12 +74,9 @@ line act a slots =
 
 -- ---- a line at a place of a text
 
--- the letters of the longest name, a number behind a mark, two of them, the six counts, and the words of the most slots
+-- the letters of the longest name, two numbers behind their marks, the six counts, and the words of the most slots
 abbrev pub mostName : ℕ
 mostName = 9
-
-abbrev pub mostPart : ℕ
-mostPart = 1 + mostDigits
 
 abbrev pub mostPair : ℕ
 mostPair = 2 * mostPart

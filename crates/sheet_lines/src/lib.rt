@@ -6,8 +6,7 @@ use classify::Answer;
 use classify::Outcome;
 use sheet_records::Act;
 use spend::Way;
-use writing::put_byte;
-use writing::put_number;
+use writing::put_part;
 use writing::put_text;
 ghost use mathlib.Core.Path.{_≡_};
 ghost use mathlib.Core.Bool.{_&&_};
@@ -15,16 +14,18 @@ ghost use Prim.Native.Nat.{_+_, _*_, _/_, _≤_};
 ghost use lib.Dec.{leb};
 ghost use lib.ListN.{length, take};
 ghost use Rattle.slots.specs.Words.{slotSize, mostSlots};
-ghost use Rattle.sheet_lines.specs.Text.{Put};
+ghost use Rattle.text.specs.Text.{Put};
+ghost use Rattle.text.specs.Numbers.{mostPart};
 ghost use Rattle.sheet_lines.specs.Printing as spec;
 
-// The letters of the longest name, and a number behind a mark.
+// The letters of the longest name.
 const MOST_NAME: usize = 9;
 
-const MOST_PART: usize = 1 + writing::DIGITS as usize;
-
 // No line is longer: a name, six counts, the words of the most slots, and a newline.
-pub const LONGEST: usize = MOST_NAME + 6 * MOST_PART + slots::MOST_WORDS * MOST_PART + 1;
+pub const LONGEST: usize = MOST_NAME
+    + 6 * text::MOST_PART
+    + slots::MOST_WORDS * text::MOST_PART
+    + 1;
 
 // Writes the line of an operation from a place of the text on, and answers where it ends. Nothing is written where the longest line has no
 // room, and of an answer that has more slots than any result needs or than stand beside it: no answer of an operation has.
@@ -66,7 +67,7 @@ fn print(act: Act, answer: Answer, slots: &[u64], out: &mut [u8], at: usize) -> 
     let a = put_name(act, outcome, out, at);
     let b = put_counts(answer, out, a);
     let c = put_rest(outcome, slots, out, b);
-    put_byte(out, c, b'\n')
+    put_text(out, c, b"\n")
 }
 
 fn put_name(act: Act, outcome: Outcome, out: &mut [u8], at: usize) -> usize
@@ -121,8 +122,8 @@ fn put_rest(outcome: Outcome, slots: &[u64], out: &mut [u8], at: usize) -> usize
 
 // The words of slots: a space before each slot, and a colon between its words.
 fn put_slots(slots: &[u64], n: usize, out: &mut [u8], at: usize) -> usize
-    requires { ⌜ (at + n * spec.mostPart ≤ length (now out)) × (n ≤ length (now slots)) ⌝ }
-    ensures { λ r. ⌜ Put (now (out .entry)) at (spec.slotsText 0 (take n (now (slots .entry)))) r (now (out .exit)) × (r ≤ at + n * spec.mostPart) ⌝ }
+    requires { ⌜ (at + n * mostPart ≤ length (now out)) × (n ≤ length (now slots)) ⌝ }
+    ensures { λ r. ⌜ Put (now (out .entry)) at (spec.slotsText 0 (take n (now (slots .entry)))) r (now (out .exit)) × (r ≤ at + n * mostPart) ⌝ }
 {
     let mut to = at;
     let mut i = 0;
@@ -146,13 +147,4 @@ fn put_pair(out: &mut [u8], at: usize, m: u64, n: u64) -> usize
 {
     let to = put_part(out, at, b' ', m);
     put_part(out, to, b' ', n)
-}
-
-// A number behind a mark.
-fn put_part(out: &mut [u8], at: usize, mark: u8, n: u64) -> usize
-    requires { ⌜ at + spec.mostPart ≤ length (now out) ⌝ }
-    ensures { λ r. ⌜ Put (now (out .entry)) at (spec.part mark n) r (now (out .exit)) × (r ≤ at + spec.mostPart) ⌝ }
-{
-    let to = put_byte(out, at, mark);
-    put_number(out, to, n)
 }

@@ -1,23 +1,10 @@
--- A record's words, joined from their bytes.
-use Prim.Native.Nat.{ℕ, _+_, _*_}
+-- A record, made of its words.
+use Prim.Native.Nat.{ℕ}
 use mathlib.Core.Path.{_≡_}
 use mathlib.Core.List.{List}
-use lib.ListN.{getD}
+use Rattle.words.specs.Packed.{wordAt}
 use Rattle.sheet_records.specs.declared.records.Record.{Record}
-use Rattle.sheet_records.specs.Records.{quarterAt, halfAt, wordAt, recordOf}
-
-module _ (bs : List ℕ) (at a b : ℕ) where
-  pub quarter-made : a ≡ getD bs at 0 → b ≡ getD bs (at + 1) 0 → a + b * 256 ≡ quarterAt bs at
-  unfolding quarterAt
-  quarter-made x y = rw (x, y)
-
-  pub half-made : a ≡ quarterAt bs at → b ≡ quarterAt bs (at + 2) → a + b * 65536 ≡ halfAt bs at
-  unfolding halfAt
-  half-made x y = rw (x, y)
-
-  pub word-made : a ≡ halfAt bs at → b ≡ halfAt bs (at + 4) → a + b * 4294967296 ≡ wordAt bs at
-  unfolding wordAt
-  word-made x y = rw (x, y)
+use Rattle.sheet_records.specs.Records.{recordOf}
 
 abbrev sixWords : ℕ → ℕ → ℕ → ℕ → ℕ → ℕ → Record
 sixWords a b c d e f = record { first = a; second = b; third = c; fourth = d; fifth = e; sixth = f }

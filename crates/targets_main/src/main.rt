@@ -192,9 +192,7 @@ fn put_answer(out: &mut [u8], at: usize, answer: u64) -> usize {
     if answer == targets::NONE {
         return append(out, at, b" none");
     }
-    let mut digits = [0u8; 20];
-    let count = io::decimal(answer, &mut digits);
-    put_name(out, at, &digits[..count])
+    text::append_number(out, at, b' ', answer)
 }
 
 // ---- its name

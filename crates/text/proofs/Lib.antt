@@ -1,3 +1,6 @@
 mod Copy
 pub mod Dots
+pub mod Putting
+pub mod Digits
+pub mod Decimal
 mod Unique

@@ -1,7 +1,8 @@
 -- Texts as bytes, and what writing one into a buffer answers and leaves (REFERENCE 3, 5.5, 6.4).
-use Prim.Native.Nat.{ℕ, _+_}
+use Prim.Native.Nat.{ℕ, _+_, _≤_}
 use Prim.Native.Char.{code}
 use Prim.Native.String.{String, [] as ends, _∷_ as _then_}
+use mathlib.Core.Path.{_≡_}
 use mathlib.Core.List.{List, [], _∷_}
 use mathlib.Core.Bool.{cond}
 use lib.Dec.{leb, eqb}
@@ -29,6 +30,12 @@ putWritten name out = putAt out 0 name
 -- the place behind some bytes that were put at a place, or the same place where they didn't fit, by the length of the buffer
 unfoldable pub appendEnd : ℕ → ℕ → List ℕ → ℕ
 appendEnd room at bs = cond (leb (at + length bs) room) (at + length bs) at
+
+-- `text` stands from `at` on, where it fits, and ends at `to`; all other bytes are as they were
+pub record Put (before : List ℕ) (at : ℕ) (text : List ℕ) (to : ℕ) (after : List ℕ) : Type 0 where
+  pub ends : to ≡ at + length text
+  pub put : after ≡ putAt before at text
+  pub fits : at + length text ≤ length before
 
 abbrev pub dot : ℕ
 dot = 46

@@ -11,7 +11,7 @@ use lib.Seq.{take-take, length-take-le}
 use Rattle.shape.specs.declared.Scalar.{Scalar}
 use Rattle.shape.specs.Numbers.{integer, x87-extended, quad, accepted, bad-kind, bad-size, bad-align, bad-area, most-size, most-align}
 use Rattle.shape.proofs.Bools.{both-true}
-use Rattle.layouts.specs.Record.{roundUp}
+use Rattle.shape.specs.Arithmetic.{roundUp}
 use Rattle.varargs.specs.declared.Offsets.{Offsets}
 use Rattle.varargs.specs.declared.Located.{Located}
 use Rattle.varargs.specs.declared.Area.{Area}

@@ -9,7 +9,7 @@ use denote.Ref.{now}
 use Rattle.shape.specs.declared.Scalar.{Scalar}
 use Rattle.shape.specs.Numbers.{integer, single, double, x87-extended, quad, accepted, bad-kind, bad-size, bad-align, bad-area, most-size, most-align}
 use Rattle.checks.specs.Check.{refuse}
-use Rattle.layouts.specs.Record.{roundUp}
+use Rattle.shape.specs.Arithmetic.{roundUp}
 use Rattle.varargs.specs.declared.Offsets.{Offsets}
 use Rattle.varargs.specs.declared.Area.{Area}
 use Rattle.varargs.specs.declared.Area.the-variants.{Nowhere, Save, Overflow}

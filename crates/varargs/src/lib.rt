@@ -14,7 +14,7 @@ use shape::X87_EXTENDED;
 ghost use mathlib.Core.Path.{_≡_};
 ghost use Prim.Native.Nat.{_+_, _≤_, _<_};
 ghost use lib.ListN.{length, take, drop};
-ghost use Rattle.layouts.specs.Record.{roundUp};
+ghost use Rattle.shape.specs.Arithmetic.{roundUp};
 ghost use Rattle.varargs.specs.Lists.{areaNumber, isOwnSize, unnamedRefusal, isSaveArea, overflowStart, locatedNowhere, inOverflow, inIntegers, inFloats, located, partOf, Inside, shown, readsAs};
 
 // The save area: the integer places, 8 bytes each from 0, and behind them the float places, 16 bytes each.

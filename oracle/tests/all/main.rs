@@ -10,3 +10,4 @@ mod layouts;
 mod lists;
 mod shapes;
 mod sheet;
+mod types;

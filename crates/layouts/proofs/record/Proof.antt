@@ -1,7 +1,6 @@
 -- `record` answers the record that the pieces make: each way out is one law of the tests that led there.
-use Rattle.layouts.proofs.Making.{record-list, record-pieces, record-empty, record-align, record-bounds, record-large, record-many, record-one}
+use Rattle.layouts.proofs.Making.{record-list, record-pieces, record-empty, record-align, record-large, record-many, record-one}
 use borrow.Author.Needs.{needs}
-use native.Mathlib.Omega.{arith}
 use Rattle.layouts.proofs.record.Statement.{statement}
 use Rattle.layouts.proofs.record.Tie as tie
 
@@ -21,7 +20,7 @@ record-spec =
     (λ c κs. search needs)
     (λ c. search (record-align))
     (λ c κs. search needs)
-    (λ c κs. (omega arith, search (record-bounds)))
+    (λ c κs. search needs)
     (λ c κs. search needs)
     (λ c. search (record-large))
     (λ c κs. search needs)

@@ -2,7 +2,8 @@
 use Prim.Native.Nat.{_≤_, _+_, _*_, _-_}
 use mathlib.Core.Path.{_≡_, refl}
 use lib.ListN.{length, take}
-use Rattle.sheet_lines.specs.Printing.{slotsText, mostPart}
+use Rattle.text.specs.Numbers.{mostPart}
+use Rattle.sheet_lines.specs.Printing.{slotsText}
 use Rattle.sheet_lines.proofs.PrintingLaws.{Goes, slotsFrom, goes-first, goes-next, goes-last}
 use native.Mathlib.Omega.{arith}
 use borrow.Author.Needs.{needs}

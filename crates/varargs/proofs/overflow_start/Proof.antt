@@ -1,7 +1,7 @@
 -- `overflow_start`: an alignment above 8 rounds up to 16.
 use borrow.Author.Needs.{needs}
 use borrow.Author.Tests.{lt-ltb, le-ltb}
-use Rattle.layouts.specs.Record.{roundUp}
+use Rattle.shape.specs.Arithmetic.{roundUp}
 use Rattle.varargs.specs.Lists.{overflowStart}
 use Rattle.varargs.proofs.overflow_start.Statement.{statement}
 use Rattle.varargs.proofs.overflow_start.Tie as tie

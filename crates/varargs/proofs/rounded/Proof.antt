@@ -1,7 +1,7 @@
 -- `rounded` is rounding up to 8, written out.
 use borrow.Author.Needs.{needs}
 use mathlib.Core.Path.{refl}
-use Rattle.layouts.specs.Record.{roundUp}
+use Rattle.shape.specs.Arithmetic.{roundUp}
 use Rattle.varargs.proofs.rounded.Statement.{statement}
 use Rattle.varargs.proofs.rounded.Tie as tie
 

@@ -1,5 +1,5 @@
 -- `put_text` appends a text that has room.
-use Rattle.sheet_lines.proofs.TextLaws.{append-put}
+use Rattle.text.proofs.Putting.{append-put}
 use borrow.Author.Needs.{needs}
 use Rattle.sheet_lines.proofs.writing.put_text.Statement.{statement}
 use Rattle.sheet_lines.proofs.writing.put_text.Tie as tie

@@ -1,0 +1,10 @@
+pub mod Pour
+pub mod Steps
+pub mod Pieces
+pub mod Paths
+pub mod Typed
+pub mod Answering
+pub mod Passing
+pub mod Flattening
+pub mod Scalars
+mod Unique

@@ -1,0 +1,4 @@
+pub mod Leaves
+pub mod Flattened
+pub mod Writing
+pub mod Records
