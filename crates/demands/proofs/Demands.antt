@@ -26,7 +26,9 @@ use Rattle.types.specs.Trees.{wanted}
 use Rattle.flatten.specs.declared.Flattened.{Flattened}
 use Rattle.flatten.specs.Flattened.{flattenAnswer, flattenWritten, frontWords, Flattens}
 use Rattle.flatten.specs.Records.{IsRecordOf}
+use Rattle.flatten.specs.Examples as example-types
 use Rattle.flatten.proofs.Flattening as flattening
+use Rattle.flatten.proofs.Examples as shown-types
 use Rattle.describe.specs.Questions.{isByReference, returnsByReference, wideReturnsIn}
 use Rattle.describe.specs.Description.{Description}
 use Rattle.abis.specs.Abis.{described, description-count}
@@ -455,6 +457,10 @@ flattened-as-record = typing.as-record
 pub performed-flattened-as-record : (types members out scalars : List ℕ) (r : Flattened) (after : List ℕ) → IsFlattened types members out r after
     → length scalars % scalarSize ≡ 0 → IsRecordOf types members (scalarsOf scalars) → r .refusal ≡ accepted → AsRecord scalars out r after
 performed-flattened-as-record = typing.performed-as-record
+
+-- lists to look at, computed: the answer to each, and the words of its pieces
+pub types-found : map example-types.found example-types.examples ≡ map example-types.expected example-types.examples
+types-found = shown-types.examples-found
 
 -- ---- Reading a variable argument list: the callee's side of description 0 (REFERENCE 15)
 --

@@ -7,4 +7,5 @@ pub mod Answering
 pub mod Passing
 pub mod Flattening
 pub mod Scalars
+pub mod Examples
 mod Unique
