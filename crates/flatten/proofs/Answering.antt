@@ -14,7 +14,7 @@ use Rattle.checks.specs.Check.{orElse, unlessRefused}
 use Rattle.checks.proofs.Check.{else-first, left-alone}
 use Rattle.layouts.specs.Members.{piecesWords}
 use Rattle.types.specs.declared.Row.{Row}
-use Rattle.types.specs.Entries.{most-entries, most-levels}
+use Rattle.types.specs.Entries.{most-levels}
 use Rattle.types.specs.Tree.{Tree, alignOf, sizeOf, reachOf, leavesOf}
 use Rattle.types.specs.Trees.{entries, wanted, typesRefusal}
 use Rattle.types.specs.Table.{rowAt, counted, rowOfTree, filled, tableRefusal, measureRefusal, Measured}
@@ -46,11 +46,7 @@ module _ (ts ms out : List ℕ) (n : ℕ) (en : n ≡ flattenRefusal ts ms out) 
 
 -- ---- by what `measure` answered
 
--- the table that `flatten` lends is never too short
-pub long-table : 4 * most-entries ≤ 4096
-long-table = omega arith
-
-module _ (ts ms out tb : List ℕ) (long : 4 * most-entries ≤ length tb) (q : ℕ) (eq : q ≡ measureRefusal ts ms tb) where
+module _ (ts ms out tb : List ℕ) (long : min (length ts) 4096 ≤ length tb) (q : ℕ) (eq : q ≡ measureRefusal ts ms tb) where
   of-types : q ≡ typesRefusal ts ms
   of-types = eq ∙ measure-types ts ms tb long
 

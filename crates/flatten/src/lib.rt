@@ -8,10 +8,12 @@ use shape::sum;
 use types::Entry;
 use types::Row;
 ghost use mathlib.Core.Path.{_≡_};
+ghost use Prim.Native.Nat.{_≤_, min};
 ghost use Rattle.shape.specs.Numbers.{accepted};
 ghost use Rattle.shape.specs.Arithmetic.{rounded};
 ghost use Rattle.shape.specs.Words.{piece, pieceWords, putAt};
 ghost use lib.Dec.{eqb};
+ghost use lib.ListN.{length};
 ghost use Rattle.types.specs.Entries.{union-kind, listed};
 ghost use Rattle.flatten.specs.Flattened.{flattened, flattenAnswer, flattenWritten};
 ghost use Rattle.flatten.specs.Writing.{overMembers, overElements, stepOf, entryPieces, nextAt, pourAt, pourWords};
@@ -29,13 +31,38 @@ pub struct Flattened {
 pub fn flatten(types: &[u64], members: &[u64], out: &mut [u64]) -> Flattened
     ensures { λ r. ⌜ (r ≡ flattenAnswer (now (types .entry)) (now (members .entry)) (now (out .entry))) × (now (out .exit) ≡ flattenWritten (now (types .entry)) (now (members .entry)) (now (out .entry))) ⌝ }
 {
-    let mut table = [0u64; types::TABLE];
-    let refusal = types::measure(types, members, &mut table);
+    if types.len() > types::SHORT_TABLE {
+        return flatten_many(types, members, out);
+    }
+    flatten_few(types, members, out)
+}
+
+fn flatten_few(types: &[u64], members: &[u64], out: &mut [u64]) -> Flattened
+    requires { ⌜ length (now types) ≤ 128 ⌝ }
+    ensures { λ r. ⌜ (r ≡ flattenAnswer (now (types .entry)) (now (members .entry)) (now (out .entry))) × (now (out .exit) ≡ flattenWritten (now (types .entry)) (now (members .entry)) (now (out .entry))) ⌝ }
+{
+    let mut table = [0u64; types::SHORT_TABLE];
+    flatten_by(types, members, &mut table, out)
+}
+
+fn flatten_many(types: &[u64], members: &[u64], out: &mut [u64]) -> Flattened
+    ensures { λ r. ⌜ (r ≡ flattenAnswer (now (types .entry)) (now (members .entry)) (now (out .entry))) × (now (out .exit) ≡ flattenWritten (now (types .entry)) (now (members .entry)) (now (out .entry))) ⌝ }
+{
+    let mut table = [0u64; types::LONG_TABLE];
+    flatten_by(types, members, &mut table, out)
+}
+
+// The same, by a table that has room for as many entries as the list has, or may have.
+fn flatten_by(types: &[u64], members: &[u64], table: &mut [u64], out: &mut [u64]) -> Flattened
+    requires { ⌜ min (length (now types)) 4096 ≤ length (now table) ⌝ }
+    ensures { λ r. ⌜ (r ≡ flattenAnswer (now (types .entry)) (now (members .entry)) (now (out .entry))) × (now (out .exit) ≡ flattenWritten (now (types .entry)) (now (members .entry)) (now (out .entry))) ⌝ }
+{
+    let refusal = types::measure(types, members, table);
     if refusal != ACCEPTED {
         return refused(refusal);
     }
     let last = (types.len() / types::ENTRY - 1) as u64;
-    let row = types::row_at(&table, last);
+    let row = types::row_at(table, last);
     if row.leaves > checks::MOST_PIECES as u64 {
         return refused(NO_ROOM);
     }
@@ -45,7 +72,7 @@ pub fn flatten(types: &[u64], members: &[u64], out: &mut [u64]) -> Flattened
     if row.leaves == 0 {
         return made(row);
     }
-    write_type(types, members, &table, out, last, 0, 0, types::MOST_LEVELS);
+    write_type(types, members, table, out, last, 0, 0, types::MOST_LEVELS);
     made(row)
 }
 

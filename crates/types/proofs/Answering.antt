@@ -1,5 +1,5 @@
 -- What `measure` answers and leaves, by the tests that led there.
-use Prim.Native.Nat.{ℕ, zero, suc, _+_, _*_, _/_, _%_, _≤_, _<_}
+use Prim.Native.Nat.{ℕ, zero, suc, _+_, _*_, _/_, _%_, _≤_, _<_, min}
 use mathlib.Core.Path.{_≡_, refl, sym, _∙_}
 use mathlib.Core.Bool.{true, not}
 use mathlib.Core.List.{List}
@@ -102,7 +102,7 @@ passed-over (suc l) r x t h = refl
 
 -- ---- for whoever lends a table that is long enough
 
-module _ (ts ms tb : List ℕ) (fits : 4 * most-entries ≤ length tb) where
+module _ (ts ms tb : List ℕ) (fits : min (length ts) 4096 ≤ length tb) where
   long-enough : listsRefusal ts ms ≡ accepted → length ts ≤ length tb
   long-enough z = let w = whole ts ms z in omega (arith, w .parts, w .few)
 

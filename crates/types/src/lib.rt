@@ -44,8 +44,13 @@ pub const MOST_ELEMENTS: u64 = 1024;
 
 pub const MOST_LEVELS: u64 = 16;
 
+// A list of few entries has a short table, since to clear a long one takes longer than to flatten such a list.
+const FEW_ENTRIES: usize = 32;
+
+pub const SHORT_TABLE: usize = ENTRY * FEW_ENTRIES;
+
 // The words of a table that is never too short.
-pub const TABLE: usize = 4096;
+pub const LONG_TABLE: usize = ENTRY * MOST_ENTRIES;
 
 // An entry: of a scalar its size and alignment, of a record or a union its first member's place and their count, of an array its element and
 // their count.
@@ -107,8 +112,34 @@ fn check_references(types: &[u64], members: &[u64]) -> u64
     requires { ⌜ (0 < entries (now types)) × (entries (now types) ≤ 1024) ⌝ }
     ensures { λ r. ⌜ r ≡ referencesRefusal (now (types .entry)) (now (members .entry)) ⌝ }
 {
+    if types.len() / ENTRY > FEW_ENTRIES {
+        return check_many(types, members);
+    }
+    check_few(types, members)
+}
+
+fn check_few(types: &[u64], members: &[u64]) -> u64
+    requires { ⌜ (0 < entries (now types)) × (entries (now types) ≤ 32) ⌝ }
+    ensures { λ r. ⌜ r ≡ referencesRefusal (now (types .entry)) (now (members .entry)) ⌝ }
+{
+    let mut levels = [0u64; FEW_ENTRIES];
+    check_levels(types, members, &mut levels)
+}
+
+fn check_many(types: &[u64], members: &[u64]) -> u64
+    requires { ⌜ (0 < entries (now types)) × (entries (now types) ≤ 1024) ⌝ }
+    ensures { λ r. ⌜ r ≡ referencesRefusal (now (types .entry)) (now (members .entry)) ⌝ }
+{
     let mut levels = [0u64; MOST_ENTRIES];
-    if !find_levels(types, members, &mut levels) {
+    check_levels(types, members, &mut levels)
+}
+
+// The same, where there is a word for the levels of each entry.
+fn check_levels(types: &[u64], members: &[u64], levels: &mut [u64]) -> u64
+    requires { ⌜ (0 < entries (now types)) × (entries (now types) ≤ length (now levels)) ⌝ }
+    ensures { λ r. ⌜ r ≡ referencesRefusal (now (types .entry)) (now (members .entry)) ⌝ }
+{
+    if !find_levels(types, members, levels) {
         return BAD_TYPE;
     }
     if levels[types.len() / ENTRY - 1] > MOST_LEVELS {
