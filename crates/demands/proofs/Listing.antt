@@ -1,5 +1,5 @@
 -- What functions placed and read is what the definitions place and read, so that the theorems of crates/placement hold of the functions themselves.
-use Prim.Native.Nat.{ℕ, zero, suc, _+_, _*_, _%_, _≤_, _<_}
+use Prim.Native.Nat.{ℕ, _+_, _*_, _%_, _≤_, _<_}
 use mathlib.Core.Path.{_≡_, refl, sym, _∙_, ap, subst}
 use mathlib.Core.Bool.{true, _||_, not}
 use mathlib.Core.List.{List, [], _∷_, _++_}
@@ -26,11 +26,11 @@ use Rattle.placement.proofs.Steps.{step}
 use Rattle.placement.proofs.Back as theorems
 use Rattle.export_varargs.specs.Numbers.{partNumbers, areaFrom}
 use Rattle.export_varargs.proofs.Shown.{area-back, shown-back}
-use Rattle.demands.specs.Refusals.{IsRefusal, OneOf, isOneOf, RefusedAs, readRefusals, noBytes}
+use Rattle.demands.specs.Refusals.{IsRefusal, isOneOf, RefusedAs, readRefusals, noBytes}
 use Rattle.demands.specs.Performed.{Started, Performed, Asks, as-fixed, as-variadic, AllPerformed}
 use Rattle.demands.specs.Lists as by
 use Rattle.demands.specs.Lists.{AllPlaced, IsRead, AllRead}
-use Rattle.demands.proofs.Refusing.{refuse-within, Within}
+use Rattle.demands.proofs.Refusing.{refuse-within, one-of, Within}
 use Rattle.demands.proofs.Performed.{performed-defined, started-defined, ledger-performed}
 
 -- ---- a read
@@ -54,17 +54,13 @@ list-within s =
     (refuse-within readRefusals (ltb most-size (s .size) || not (isOwnSize (s .kind) (s .size))) bad-size _ refl
     (refuse-within readRefusals (ltb most-align (s .align) || not (eqb (s .align) (s .size))) bad-align accepted refl tt))
 
-one-of : (n : ℕ) → Within readRefusals n → (n ≡ accepted → ⊥) → OneOf readRefusals n
-one-of zero w h = absurd (h refl)
-one-of (suc n) w h = w
-
 pub located-refused : (save overflow : ℕ) (at : Offsets) (s : Scalar) → IsRefusal (located save overflow at s .refusal)
     → RefusedAs readRefusals (located save overflow at s .refusal) (locatedNowhere (located save overflow at s .refusal) at) (located save overflow at s)
 unfolding isOneOf
 located-refused save overflow at s =
     located-so (λ (l : Located). IsRefusal (l .refusal) → RefusedAs readRefusals (l .refusal) (locatedNowhere (l .refusal) at) l) s at
     (λ h. record { one-of-them = refl; rest-zero = refl }) (λ l e z h. absurd (h e)) save overflow
-    (λ wrong h. record { one-of-them = one-of _ (list-within s) wrong; rest-zero = refl })
+    (λ wrong h. record { one-of-them = one-of readRefusals _ (list-within s) wrong; rest-zero = refl })
 
 pub read-refused : (save overflow : List ℕ) (at : Offsets) (s : Scalar) → IsRefusal (readsAs save overflow at s .refusal)
     → RefusedAs readRefusals (readsAs save overflow at s .refusal) (noBytes (readsAs save overflow at s .refusal) at) (readsAs save overflow at s)

@@ -60,6 +60,11 @@ module _ (numbers : List ℕ) where
   else-within zero rest h k = k
   else-within (suc n) rest h k = h
 
+  -- a refusal is one of them
+  pub one-of : (n : ℕ) → Within numbers n → IsRefusal n → OneOf numbers n
+  one-of zero w h = absurd (h refl)
+  one-of (suc n) w h = w
+
 -- ---- the checks: what each answers is in any list that has its numbers
 
 module _ (numbers : List ℕ) where

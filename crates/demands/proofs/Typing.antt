@@ -1,6 +1,6 @@
 -- What functions flattened is what the definitions say, and what these say: the refusals and when each is given, each leaf one piece, and records of
 -- scalars.
-use Prim.Native.Nat.{ℕ, zero, suc, _+_, _*_, _/_, _%_, _≤_, _<_, max}
+use Prim.Native.Nat.{ℕ, zero, suc, _+_, _/_, _%_, _≤_, _<_, max}
 use mathlib.Core.Path.{_≡_, refl, ap, sym, subst, _∙_}
 use mathlib.Core.Bool.{Bool, true, false, not, _||_}
 use mathlib.Core.List.{List, [], _∷_}
@@ -8,17 +8,15 @@ use mathlib.Core.Logic.{_⊎_, ⊎-elim}
 use native.Mathlib.Nat.{eq-or-lt-of-le}
 use native.Mathlib.Omega.{arith}
 use borrow.Author.Tests.{lt-ltb, le-ltb, le-leb, ltb-true, ltb-false, eqb-true}
-use lib.Dec.{ltb, leb, eqb}
+use lib.Dec.{ltb, eqb}
 use lib.ListN.{length}
 use Rattle.shape.specs.declared.Piece.{Piece}
 use Rattle.shape.specs.declared.Shape.{Shape}
 use Rattle.shape.specs.Numbers.{accepted, bad-list, bad-kind, bad-size, bad-align, no-room, bad-type, too-deep, most-offset, most-pieces}
 use Rattle.shape.specs.Arithmetic.{roundUp}
-use Rattle.shape.specs.Words.{pieceSize, scalarSize, piecesOf, scalarsOf, putAt}
-use Rattle.shape.proofs.Words.{length-scalars}
+use Rattle.shape.specs.Words.{scalarSize, piecesOf, scalarsOf, putAt}
 use Rattle.checks.specs.Check.{refuse, orElse, unlessRefused, shapeRefusal, Passes}
 use Rattle.checks.proofs.Check.{else-first}
-use Rattle.checks.proofs.Accepted.{refuse-none, else-none}
 use Rattle.layouts.specs.Record.{maxOf, largestAlign, furthestEnd, isFloating, recorded, recordAnswer}
 use Rattle.layouts.specs.Members.{membersRefusal, placed, piecesWords, piecesAnswer, piecesWritten}
 use Rattle.layouts.proofs.Members.{pieces-back, length-placed}
@@ -28,17 +26,17 @@ use Rattle.types.specs.Trees.{typeAt, entries, wanted, listsRefusal, references
 use Rattle.types.proofs.Limits.{wanted-size}
 use Rattle.flatten.specs.declared.Flattened.{Flattened}
 use Rattle.flatten.specs.Leaves.{leafPieces}
-use Rattle.flatten.specs.Flattened.{flattened, roomRefusal, flattenRefusal, orFlattened, flattenAnswer, flattenWritten, frontWords, Flattens}
+use Rattle.flatten.specs.Flattened.{roomRefusal, flattenRefusal, orFlattened, flattenAnswer, flattenWritten, frontWords, Flattens}
 use Rattle.flatten.specs.Records.{IsRecordOf}
 use Rattle.flatten.proofs.Pieces.{length-leaves}
 use Rattle.flatten.proofs.Passing.{wanted-passes}
 use Rattle.flatten.proofs.Flattening as theorems
 use Rattle.flatten.proofs.Scalars.{scalars-pieces, scalars-align, scalars-size, scalars-pass}
-use Rattle.demands.specs.Refusals.{IsRefusal, isOneOf, OneOf, RefusedAs}
+use Rattle.demands.specs.Refusals.{IsRefusal, isOneOf, OneOf}
 use Rattle.demands.specs.Rust.{recordAlign, recordSize}
 use Rattle.demands.specs.Types as by
 use Rattle.demands.specs.Types.{IsFlattened, typeRefusals, RefusedType, entryRefusals, Refers, Because, AsRecord}
-use Rattle.demands.proofs.Refusing.{Within, refuse-within, else-within, scalar-within}
+use Rattle.demands.proofs.Refusing.{Within, refuse-within, else-within, one-of, scalar-within}
 use Rattle.demands.proofs.Answering.{record-as-rust}
 
 -- ---- of functions
@@ -123,11 +121,7 @@ lists-number ts ms h = only-number bad-list (listsRefusal ts ms) (lists-within (
 
 entry-number : (t : Tree) → IsRefusal (treeRefusal t) → OneOf entryRefusals (treeRefusal t)
 unfolding isOneOf
-entry-number t = go (treeRefusal t) (tree-within entryRefusals refl refl refl t)
-  where
-    go : (n : ℕ) → Within entryRefusals n → IsRefusal n → OneOf entryRefusals n
-    go zero w h = absurd (h refl)
-    go (suc n) w h = w
+entry-number t = one-of entryRefusals (treeRefusal t) (tree-within entryRefusals refl refl refl t)
 
 module _ (ts ms : List ℕ) where
   -- the first entry of some that is refused by itself

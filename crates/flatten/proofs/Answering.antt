@@ -1,21 +1,20 @@
 -- What `flatten` answers and leaves in the buffer, by the tests that led there.
-use Prim.Native.Nat.{ℕ, zero, suc, _+_, _-_, _*_, _/_, _≤_, _<_, min, max}
+use Prim.Native.Nat.{ℕ, zero, suc, _-_, _/_, _≤_, _<_, min, max}
 use mathlib.Core.Path.{_≡_, refl, ap, sym, _∙_}
 use mathlib.Core.List.{List, []}
 use native.Mathlib.Omega.{arith}
 use borrow.Author.Tests.{lt-ltb, le-ltb}
 use lib.ListN.{length}
-use Rattle.shape.specs.declared.Piece.{Piece}
 use Rattle.shape.specs.Numbers.{accepted, no-room, most-pieces}
 use Rattle.shape.specs.Arithmetic.{rounded}
 use Rattle.shape.specs.Words.{putAt}
 use Rattle.shape.proofs.Put.{put-none}
-use Rattle.checks.specs.Check.{orElse, unlessRefused}
+use Rattle.checks.specs.Check.{unlessRefused}
 use Rattle.checks.proofs.Check.{else-first, left-alone}
 use Rattle.layouts.specs.Members.{piecesWords}
 use Rattle.types.specs.declared.Row.{Row}
 use Rattle.types.specs.Entries.{most-levels}
-use Rattle.types.specs.Tree.{Tree, alignOf, sizeOf, reachOf, leavesOf}
+use Rattle.types.specs.Tree.{Tree, alignOf, sizeOf, leavesOf}
 use Rattle.types.specs.Trees.{entries, wanted, typesRefusal}
 use Rattle.types.specs.Table.{rowAt, counted, rowOfTree, filled, tableRefusal, measureRefusal, Measured}
 use Rattle.types.proofs.Answering.{measure-types, measured}
@@ -25,7 +24,7 @@ use Rattle.flatten.specs.declared.Flattened.{Flattened}
 use Rattle.flatten.specs.Flattened.{flattened, roomRefusal, flattenRefusal, orFlattened, flattenAnswer, flattenWritten}
 use Rattle.flatten.specs.Leaves.{leafPieces}
 use Rattle.flatten.specs.Writing.{entryPieces, pourWords}
-use Rattle.flatten.proofs.Pieces.{treePieces, no-leaves, each-leaf, length-leaves}
+use Rattle.flatten.proofs.Pieces.{no-leaves, each-leaf, length-leaves}
 use Rattle.flatten.proofs.Pour.{pour-fits}
 use Rattle.flatten.proofs.Typed.{entry-typed}
 

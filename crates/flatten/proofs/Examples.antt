@@ -15,5 +15,5 @@ use Rattle.flatten.specs.Examples as shown
 use Rattle.flatten.specs.Examples.{examples, found, expected}
 
 pub examples-found : map found examples ≡ map expected examples
-unfolding words.piecesOf words.firstPiece words.pieceAt words.putAt arithmetic.roundUp lists.every checks.scalarRefusal members.piecesWords entries.listed entries.meaningOf entries.referred entries.allReferBack tree.alignOf tree.reach tree.lastReach tree.sizeOf tree.takesOf tree.levelsOf tree.leavesOf trees.laidOut trees.treeOf trees.trees trees.listsRefusal trees.referencesRefusal trees.treeRefusal trees.treesRefusal trees.typesRefusal leaves.offsetAt leaves.scalarAtEnd leaves.under leaves.elementPaths leaves.leafPaths leaves.eachOf flat.roomRefusal flat.flattenRefusal flat.flattenAnswer flat.flattenWritten shown.arraysFrom
+unfolding words.piecesOf words.firstPiece words.pieceAt words.putAt arithmetic.roundUp lists.every checks.scalarRefusal members.piecesWords entries.membersFrom entries.meaningOf entries.referred entries.allReferBack tree.alignOf tree.reach tree.lastReach tree.sizeOf tree.takesOf tree.levelsOf tree.leavesOf trees.laidOut trees.treeOf trees.trees trees.listsRefusal trees.referencesRefusal trees.treeRefusal trees.treesRefusal trees.typesRefusal leaves.offsetAt leaves.scalarAtEnd leaves.elementPaths leaves.leafPaths flat.roomRefusal flat.flattenRefusal flat.flattenAnswer flat.flattenWritten shown.arraysFrom
 examples-found = refl

@@ -1,34 +1,33 @@
 -- What is asked of `flatten`, of its definitions: each leaf one piece, size and alignment, and the buffer afterwards.
-use Prim.Native.Nat.{ℕ, zero, suc, _+_, _*_, _/_, _≤_, _<_}
+use Prim.Native.Nat.{ℕ, zero, suc, _*_, _/_, _≤_, _<_}
 use mathlib.Core.Path.{_≡_, refl, ap, sym, _∙_}
-use mathlib.Core.List.{List, [], _∷_, _++_}
+use mathlib.Core.List.{List, [], _∷_, map}
 use mathlib.Core.Option.Option.{some}
 use native.Mathlib.Omega.{arith}
 use borrow.Author.Tests.{ltb-false}
 use lib.Dec.{ltb}
-use lib.ListN.{length, getD, getElem?, take, drop}
+use lib.ListN.{length, getD, getElem?, take, drop, length-map}
 use Rattle.shape.specs.declared.Piece.{Piece}
 use Rattle.shape.specs.declared.Shape.{Shape}
-use Rattle.shape.specs.Numbers.{accepted, no-room, most-pieces}
-use Rattle.shape.specs.Words.{piecesOf, putAt}
+use Rattle.shape.specs.Numbers.{accepted, most-pieces}
+use Rattle.shape.specs.Words.{putAt}
 use Rattle.shape.proofs.Put.{put-front, put-behind}
-use Rattle.checks.specs.Check.{orElse, unlessRefused, shapeRefusal}
+use Rattle.checks.specs.Check.{shapeRefusal}
 use Rattle.checks.proofs.Accepted.{refuse-none, else-none}
 use Rattle.layouts.specs.Members.{piecesWords}
 use Rattle.layouts.proofs.Members.{length-words, pieces-back}
 use Rattle.types.specs.Tree.{Tree, sizeOf, alignOf, leavesOf}
 use Rattle.types.specs.Trees.{wanted, typesRefusal}
 use Rattle.flatten.specs.declared.Flattened.{Flattened}
-use Rattle.flatten.specs.Leaves.{leafPaths, leafPiece, eachOf, leafPieces, EachLeaf}
+use Rattle.flatten.specs.Leaves.{leafPaths, leafPiece, leafPieces, EachLeaf}
 use Rattle.flatten.specs.Flattened.{flattened, roomRefusal, flattenRefusal, orFlattened, flattenAnswer, flattenWritten, frontWords, Flattens}
-use Rattle.flatten.proofs.Pieces.{length-each, leaves-counted, length-leaves}
+use Rattle.flatten.proofs.Pieces.{leaves-counted, length-leaves}
 use Rattle.flatten.proofs.Paths.{leaf-listed, listed-leaf, never-twice}
 use Rattle.flatten.proofs.Passing.{shape-passes}
 
 -- ---- each leaf, one piece
 
-each-at : (g : List ℕ → Piece) (ps : List (List ℕ)) (k : ℕ) → k < length ps → getElem? (eachOf g ps) k ≡ some (g (getD ps k []))
-unfolding eachOf
+each-at : (g : List ℕ → Piece) (ps : List (List ℕ)) (k : ℕ) → k < length ps → getElem? (map g ps) k ≡ some (g (getD ps k []))
 each-at g [] k h = absurd (omega arith)
 each-at g (p ∷ ps) zero h = refl
 each-at g (p ∷ ps) (suc k) h = each-at g ps k (omega arith)
@@ -39,7 +38,7 @@ every-leaf t =
       ends = listed-leaf t;
       listed = leaf-listed t;
       once = never-twice t;
-      as-many = length-each (leafPiece t) (leafPaths t);
+      as-many = length-map (leafPaths t) (leafPiece t);
       piece-at = each-at (leafPiece t) (leafPaths t);
     }
 

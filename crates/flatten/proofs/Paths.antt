@@ -22,62 +22,62 @@ samePath (i ∷ p) [] = false
 samePath (i ∷ p) (j ∷ q) = eqb i j && samePath p q
 
 -- how often a path stands in a list
-unfoldable times : List ℕ → List (List ℕ) → ℕ
-times p [] = 0
-times p (q ∷ qs) = oneIf (samePath p q) + times p qs
+unfoldable howOften : List ℕ → List (List ℕ) → ℕ
+howOften p [] = 0
+howOften p (q ∷ qs) = oneIf (samePath p q) + howOften p qs
 
-times-append : (p : List ℕ) (ps qs : List (List ℕ)) → times p (ps ++ qs) ≡ times p ps + times p qs
-unfolding times
-times-append p [] qs = sym (zero-add _)
-times-append p (q ∷ ps) qs = let h : times p (ps ++ qs) ≡ times p ps + times p qs = times-append p ps qs in omega arith
+often-append : (p : List ℕ) (ps qs : List (List ℕ)) → howOften p (ps ++ qs) ≡ howOften p ps + howOften p qs
+unfolding howOften
+often-append p [] qs = sym (zero-add _)
+often-append p (q ∷ ps) qs = let h : howOften p (ps ++ qs) ≡ howOften p ps + howOften p qs = often-append p ps qs in omega arith
 
-under-none : (i : ℕ) (ps : List (List ℕ)) → times [] (under i ps) ≡ 0
-unfolding times under samePath
+under-none : (i : ℕ) (ps : List (List ℕ)) → howOften [] (under i ps) ≡ 0
+unfolding howOften samePath
 under-none i [] = refl
-under-none i (p ∷ ps) = let h : times [] (under i ps) ≡ 0 = under-none i ps in omega arith
+under-none i (p ∷ ps) = let h : howOften [] (under i ps) ≡ 0 = under-none i ps in omega arith
 
-under-same : (i j : ℕ) → eqb i j ≡ true → (p : List ℕ) (ps : List (List ℕ)) → times (i ∷ p) (under j ps) ≡ times p ps
-unfolding times under samePath
+under-same : (i j : ℕ) → eqb i j ≡ true → (p : List ℕ) (ps : List (List ℕ)) → howOften (i ∷ p) (under j ps) ≡ howOften p ps
+unfolding howOften samePath
 under-same i j e p [] = refl
-under-same i j e p (q ∷ ps) = let h : times (i ∷ p) (under j ps) ≡ times p ps = under-same i j e p ps in rw e (omega arith)
+under-same i j e p (q ∷ ps) = let h : howOften (i ∷ p) (under j ps) ≡ howOften p ps = under-same i j e p ps in rw e (omega arith)
 
-under-other : (i j : ℕ) → eqb i j ≡ false → (p : List ℕ) (ps : List (List ℕ)) → times (i ∷ p) (under j ps) ≡ 0
-unfolding times under samePath
+under-other : (i j : ℕ) → eqb i j ≡ false → (p : List ℕ) (ps : List (List ℕ)) → howOften (i ∷ p) (under j ps) ≡ 0
+unfolding howOften samePath
 under-other i j e p [] = refl
-under-other i j e p (q ∷ ps) = let h : times (i ∷ p) (under j ps) ≡ 0 = under-other i j e p ps in rw e (omega arith)
+under-other i j e p (q ∷ ps) = let h : howOften (i ∷ p) (under j ps) ≡ 0 = under-other i j e p ps in rw e (omega arith)
 
 -- a first child numbered j, and others from the next number on: where a path stands among their paths
 module _ (j : ℕ) (ps qs : List (List ℕ)) where
-  first-none : times [] qs ≡ 0 → times [] (under j ps ++ qs) ≡ 0
-  first-none h = times-append [] (under j ps) qs ∙ rw (under-none j ps, h)
+  first-none : howOften [] qs ≡ 0 → howOften [] (under j ps ++ qs) ≡ 0
+  first-none h = often-append [] (under j ps) qs ∙ rw (under-none j ps, h)
 
-  first-below : (i : ℕ) (p : List ℕ) → i < j → times (i ∷ p) qs ≡ 0 → times (i ∷ p) (under j ps ++ qs) ≡ 0
-  first-below i p lt h = times-append (i ∷ p) (under j ps) qs ∙ rw (under-other i j (ne-eqb i j (λ (e : i ≡ j). omega arith)) p ps, h)
+  first-below : (i : ℕ) (p : List ℕ) → i < j → howOften (i ∷ p) qs ≡ 0 → howOften (i ∷ p) (under j ps ++ qs) ≡ 0
+  first-below i p lt h = often-append (i ∷ p) (under j ps) qs ∙ rw (under-other i j (ne-eqb i j (λ (e : i ≡ j). omega arith)) p ps, h)
 
-  first-here : (p : List ℕ) → times (j ∷ p) qs ≡ 0 → times (j ∷ p) (under j ps ++ qs) ≡ times p ps
-  first-here p h = times-append (j ∷ p) (under j ps) qs ∙ rw (under-same j j (eq-eqb j j refl) p ps, h) (omega arith)
+  first-here : (p : List ℕ) → howOften (j ∷ p) qs ≡ 0 → howOften (j ∷ p) (under j ps ++ qs) ≡ howOften p ps
+  first-here p h = often-append (j ∷ p) (under j ps) qs ∙ rw (under-same j j (eq-eqb j j refl) p ps, h) (omega arith)
 
-  first-later : (i : ℕ) (p : List ℕ) → j < i → times (i ∷ p) (under j ps ++ qs) ≡ times (i ∷ p) qs
-  first-later i p lt = times-append (i ∷ p) (under j ps) qs ∙ rw (under-other i j (ne-eqb i j (λ (e : i ≡ j). omega arith)) p ps) (zero-add _)
+  first-later : (i : ℕ) (p : List ℕ) → j < i → howOften (i ∷ p) (under j ps ++ qs) ≡ howOften (i ∷ p) qs
+  first-later i p lt = often-append (i ∷ p) (under j ps) qs ∙ rw (under-other i j (ne-eqb i j (λ (e : i ≡ j). omega arith)) p ps) (zero-add _)
 
 -- no path of children that are numbered from j on is empty, or starts below j
-forest-none : (f : Forest) (j : ℕ) → times [] (forestPaths f j) ≡ 0
-unfolding leafPaths times
+forest-none : (f : Forest) (j : ℕ) → howOften [] (forestPaths f j) ≡ 0
+unfolding leafPaths howOften
 forest-none empty j = refl
 forest-none (child o t f) j = first-none j (leafPaths t) (forestPaths f (suc j)) (forest-none f (suc j))
 
-forest-below : (f : Forest) (j i : ℕ) (p : List ℕ) → i < j → times (i ∷ p) (forestPaths f j) ≡ 0
-unfolding leafPaths times
+forest-below : (f : Forest) (j i : ℕ) (p : List ℕ) → i < j → howOften (i ∷ p) (forestPaths f j) ≡ 0
+unfolding leafPaths howOften
 forest-below empty j i p lt = refl
 forest-below (child o t f) j i p lt = first-below j (leafPaths t) (forestPaths f (suc j)) i p lt (forest-below f (suc j) i p (omega arith))
 
-elements-none : (ps : List (List ℕ)) (n j : ℕ) → times [] (elementPaths ps j n) ≡ 0
-unfolding elementPaths times
+elements-none : (ps : List (List ℕ)) (n j : ℕ) → howOften [] (elementPaths ps j n) ≡ 0
+unfolding elementPaths howOften
 elements-none ps zero j = refl
 elements-none ps (suc n) j = first-none j ps (elementPaths ps (suc j) n) (elements-none ps n (suc j))
 
-elements-below : (ps : List (List ℕ)) (n j i : ℕ) (p : List ℕ) → i < j → times (i ∷ p) (elementPaths ps j n) ≡ 0
-unfolding elementPaths times
+elements-below : (ps : List (List ℕ)) (n j i : ℕ) (p : List ℕ) → i < j → howOften (i ∷ p) (elementPaths ps j n) ≡ 0
+unfolding elementPaths howOften
 elements-below ps zero j i p lt = refl
 elements-below ps (suc n) j i p lt = first-below j ps (elementPaths ps (suc j) n) i p lt (elements-below ps n (suc j) i p (omega arith))
 
@@ -88,8 +88,8 @@ ltb-suc i n = ⊎-elim
     (at-most n i)
 
 -- element j + i of n is there where i is below n
-elements-once : (ps : List (List ℕ)) (p : List ℕ) (b : Bool) → times p ps ≡ oneIf b → (n j i : ℕ) → times ((j + i) ∷ p) (elementPaths ps j n) ≡ oneIf (ltb i n && b)
-unfolding elementPaths times
+elements-once : (ps : List (List ℕ)) (p : List ℕ) (b : Bool) → howOften p ps ≡ oneIf b → (n j i : ℕ) → howOften ((j + i) ∷ p) (elementPaths ps j n) ≡ oneIf (ltb i n && b)
+unfolding elementPaths howOften
 elements-once ps p b h zero j i = rw (le-ltb i 0 (omega arith))
 elements-once ps p b h (suc n) j zero =
     let e : j + 0 ≡ j = omega arith in
@@ -100,9 +100,9 @@ elements-once ps p b h (suc n) j (suc i) =
 
 -- a path stands once among the leaf paths if it ends at a scalar, and else never
 mutual
-  unfolding leafPaths times samePath endsAtScalar
+  unfolding leafPaths howOften samePath endsAtScalar
 
-  once : (t : Tree) (p : List ℕ) → times p (leafPaths t) ≡ oneIf (endsAtScalar t p)
+  once : (t : Tree) (p : List ℕ) → howOften p (leafPaths t) ≡ oneIf (endsAtScalar t p)
   once (leaf s) [] = refl
   once (leaf s) (i ∷ p) = refl
   once (group f) [] = forest-none f 0
@@ -110,7 +110,7 @@ mutual
   once (array t n) [] = elements-none (leafPaths t) n 0
   once (array t n) (i ∷ p) = rw zero-add at (elements-once (leafPaths t) p (endsAtScalar t p) (once t p) n 0 i)
 
-  once-child : (f : Forest) (j i : ℕ) (p : List ℕ) → times ((j + i) ∷ p) (forestPaths f j) ≡ oneIf (childEnds f i p)
+  once-child : (f : Forest) (j i : ℕ) (p : List ℕ) → howOften ((j + i) ∷ p) (forestPaths f j) ≡ oneIf (childEnds f i p)
   once-child empty j i p = refl
   once-child (child o t f) j zero p =
       let e : j + 0 ≡ j = omega arith in
@@ -137,46 +137,46 @@ path-same (i ∷ p) (j ∷ q) h =
     let r : p ≡ q = path-same p q (s .1) in
     cc
 
-found : (p : List ℕ) (ps : List (List ℕ)) → 1 ≤ times p ps → List·Memᴰ p ps
-unfolding times
-found p [] h = absurd (omega arith)
-found p (q ∷ ps) h = here (samePath p q) refl (λ (r : 1 ≤ times p ps). found p ps r)
+often-found : (p : List ℕ) (ps : List (List ℕ)) → 1 ≤ howOften p ps → List·Memᴰ p ps
+unfolding howOften
+often-found p [] h = absurd (omega arith)
+often-found p (q ∷ ps) h = here (samePath p q) refl (λ (r : 1 ≤ howOften p ps). often-found p ps r)
   where
-    here : (b : Bool) → samePath p q ≡ b → (1 ≤ times p ps → List·Memᴰ p ps) → List·Memᴰ p (q ∷ ps)
+    here : (b : Bool) → samePath p q ≡ b → (1 ≤ howOften p ps → List·Memᴰ p ps) → List·Memᴰ p (q ∷ ps)
     here true e rest = List·Memᴰ·head (path-same p q e)
-    here false e rest = List·Memᴰ·tail (rest (let r : 1 ≤ oneIf false + times p ps = rw e at h in omega arith))
+    here false e rest = List·Memᴰ·tail (rest (let r : 1 ≤ oneIf false + howOften p ps = rw e at h in omega arith))
 
-counted : (p : List ℕ) (ps : List (List ℕ)) → List·Memᴰ p ps → 1 ≤ times p ps
-unfolding times
-counted p (q ∷ ps) (List·Memᴰ·head e) = rw (e, path-self q) (omega arith)
-counted p (q ∷ ps) (List·Memᴰ·tail m) = let h : 1 ≤ times p ps = counted p ps m in omega arith
+often-listed : (p : List ℕ) (ps : List (List ℕ)) → List·Memᴰ p ps → 1 ≤ howOften p ps
+unfolding howOften
+often-listed p (q ∷ ps) (List·Memᴰ·head e) = rw (e, path-self q) (omega arith)
+often-listed p (q ∷ ps) (List·Memᴰ·tail m) = let h : 1 ≤ howOften p ps = often-listed p ps m in omega arith
 
 pub leaf-listed : (t : Tree) (p : List ℕ) → endsAtScalar t p ≡ true → List·Memᴰ p (leafPaths t)
-leaf-listed t p h = found p (leafPaths t) (rw (once t p, h) (omega arith))
+leaf-listed t p h = often-found p (leafPaths t) (rw (once t p, h) (omega arith))
 
 pub listed-leaf : (t : Tree) (p : List ℕ) → List·Memᴰ p (leafPaths t) → endsAtScalar t p ≡ true
-listed-leaf t p m = of-one (endsAtScalar t p) (rw once at (counted p (leafPaths t) m))
+listed-leaf t p m = of-one (endsAtScalar t p) (rw once at (often-listed p (leafPaths t) m))
   where
     of-one : (b : Bool) → 1 ≤ oneIf b → b ≡ true
     of-one true h = refl
     of-one false h = absurd (omega arith)
 
-at-times : (ps : List (List ℕ)) (j : ℕ) → j < length ps → 1 ≤ times (getD ps j []) ps
-unfolding times
-at-times [] j h = absurd (omega arith)
-at-times (p ∷ ps) zero h = rw (path-self p) (omega arith)
-at-times (p ∷ ps) (suc j) h = let r : 1 ≤ times (getD ps j []) ps = at-times ps j (omega arith) in omega arith
+often-at : (ps : List (List ℕ)) (j : ℕ) → j < length ps → 1 ≤ howOften (getD ps j []) ps
+unfolding howOften
+often-at [] j h = absurd (omega arith)
+often-at (p ∷ ps) zero h = rw (path-self p) (omega arith)
+often-at (p ∷ ps) (suc j) h = let r : 1 ≤ howOften (getD ps j []) ps = often-at ps j (omega arith) in omega arith
 
-two-times : (ps : List (List ℕ)) (i j : ℕ) → i < j → j < length ps → getD ps i [] ≡ getD ps j [] → 2 ≤ times (getD ps j []) ps
-unfolding times
-two-times [] i j lt h e = absurd (omega arith)
-two-times (p ∷ ps) i zero lt h e = absurd (omega arith)
-two-times (p ∷ ps) zero (suc j) lt h e =
-    let r : 1 ≤ times (getD ps j []) ps = at-times ps j (omega arith) in
+often-twice : (ps : List (List ℕ)) (i j : ℕ) → i < j → j < length ps → getD ps i [] ≡ getD ps j [] → 2 ≤ howOften (getD ps j []) ps
+unfolding howOften
+often-twice [] i j lt h e = absurd (omega arith)
+often-twice (p ∷ ps) i zero lt h e = absurd (omega arith)
+often-twice (p ∷ ps) zero (suc j) lt h e =
+    let r : 1 ≤ howOften (getD ps j []) ps = often-at ps j (omega arith) in
     let s : samePath (getD ps j []) p ≡ true = rw e (path-self (getD ps j [])) in
     rw s (omega arith)
-two-times (p ∷ ps) (suc i) (suc j) lt h e =
-    let r : 2 ≤ times (getD ps j []) ps = two-times ps i j (omega arith) (omega arith) e in
+often-twice (p ∷ ps) (suc i) (suc j) lt h e =
+    let r : 2 ≤ howOften (getD ps j []) ps = often-twice ps i j (omega arith) (omega arith) e in
     omega arith
 
 one-at-most : (b : Bool) → oneIf b ≤ 1
@@ -185,4 +185,4 @@ one-at-most false = omega arith
 
 pub never-twice : (t : Tree) (i j : ℕ) → i < j → j < length (leafPaths t) → getD (leafPaths t) i [] ≡ getD (leafPaths t) j [] → ⊥
 never-twice t i j lt h e =
-    omega (arith, two-times (leafPaths t) i j lt h e, once t (getD (leafPaths t) j []), one-at-most (endsAtScalar t (getD (leafPaths t) j [])))
+    omega (arith, often-twice (leafPaths t) i j lt h e, once t (getD (leafPaths t) j []), one-at-most (endsAtScalar t (getD (leafPaths t) j [])))

@@ -1,13 +1,13 @@
 -- The pieces of a type, depth first, from a place on: one for each leaf path, its scalar at the sum of its parents' offsets.
 use Prim.Native.Nat.{ℕ, zero, suc, _+_, _*_}
 use mathlib.Core.Path.{_≡_, refl, ap, sym, _∙_}
-use mathlib.Core.List.{List, [], _∷_, _++_}
+use mathlib.Core.List.{List, [], _∷_, _++_, map}
 use native.Mathlib.Nat.{zero-add, suc-mul, zero-mul}
 use native.Mathlib.Omega.{arith}
-use lib.ListN.{length, length-append}
+use lib.ListN.{length, length-append, length-map}
 use Rattle.shape.specs.declared.Piece.{Piece}
 use Rattle.types.specs.Tree.{Tree, Forest, leaf, group, array, empty, child, sizeOf, leavesOf, leavesIn}
-use Rattle.flatten.specs.Leaves.{offsetAt, childOffset, scalarAtEnd, childScalar, under, elementPaths, leafPaths, forestPaths, pieceOf, leafPiece, eachOf, leafPieces}
+use Rattle.flatten.specs.Leaves.{offsetAt, childOffset, scalarAtEnd, childScalar, under, elementPaths, leafPaths, forestPaths, pieceOf, leafPiece, leafPieces}
 
 -- n elements' pieces, a size apart
 unfoldable pub elementPieces : (ℕ → List Piece) → ℕ → ℕ → ℕ → List Piece
@@ -58,19 +58,17 @@ no-leaves t base h = no-length (treePieces t base) (pieces-count t base ∙ h)
 
 -- ---- one for each leaf path
 
-each-append : (g : List ℕ → Piece) (ps qs : List (List ℕ)) → eachOf g (ps ++ qs) ≡ eachOf g ps ++ eachOf g qs
-unfolding eachOf
+each-append : (g : List ℕ → Piece) (ps qs : List (List ℕ)) → map g (ps ++ qs) ≡ map g ps ++ map g qs
 each-append g [] qs = refl
 each-append g (p ∷ ps) qs = ap (λ (l : List Piece). g p ∷ l) (each-append g ps qs)
 
-each-under : (g : List ℕ → Piece) (i : ℕ) (ps : List (List ℕ)) → eachOf g (under i ps) ≡ eachOf (λ p. g (i ∷ p)) ps
-unfolding eachOf under
+each-under : (g : List ℕ → Piece) (i : ℕ) (ps : List (List ℕ)) → map g (under i ps) ≡ map (λ p. g (i ∷ p)) ps
 each-under g i [] = refl
 each-under g i (p ∷ ps) = ap (λ (l : List Piece). g (i ∷ p) ∷ l) (each-under g i ps)
 
 -- a first child's paths, and then the others
-each-child : (g : List ℕ → Piece) (i : ℕ) (ps qs : List (List ℕ)) (here rest : List Piece) → here ≡ eachOf (λ p. g (i ∷ p)) ps → rest ≡ eachOf g qs
-    → here ++ rest ≡ eachOf g (under i ps ++ qs)
+each-child : (g : List ℕ → Piece) (i : ℕ) (ps qs : List (List ℕ)) (here rest : List Piece) → here ≡ map (λ p. g (i ∷ p)) ps → rest ≡ map g qs
+    → here ++ rest ≡ map g (under i ps ++ qs)
 each-child g i ps qs here rest ea eb = rw (ea, eb) (sym (each-append g (under i ps) qs ∙ rw (each-under g i ps)))
 
 -- the piece at the end of a path, from a place on
@@ -79,10 +77,10 @@ pieceFrom t base p = pieceOf (scalarAtEnd t p) (base + offsetAt t p)
 
 -- elements from number j on
 elements-each : (t : Tree) (g : List ℕ → Piece)
-    → ((base : ℕ) (k : List ℕ → Piece) → ((p : List ℕ) → k p ≡ pieceFrom t base p) → treePieces t base ≡ eachOf k (leafPaths t))
+    → ((base : ℕ) (k : List ℕ → Piece) → ((p : List ℕ) → k p ≡ pieceFrom t base p) → treePieces t base ≡ map k (leafPaths t))
     → (n j base : ℕ) → ((i : ℕ) (p : List ℕ) → g ((j + i) ∷ p) ≡ pieceOf (scalarAtEnd t p) (base + (i * sizeOf t + offsetAt t p)))
-    → elementPieces (treePieces t) (sizeOf t) base n ≡ eachOf g (elementPaths (leafPaths t) j n)
-unfolding elementPieces elementPaths eachOf
+    → elementPieces (treePieces t) (sizeOf t) base n ≡ map g (elementPaths (leafPaths t) j n)
+unfolding elementPieces elementPaths
 elements-each t g one zero j base h = refl
 elements-each t g one (suc n) j base h =
     let z : j ≡ j + 0 = omega arith in
@@ -94,36 +92,31 @@ elements-each t g one (suc n) j base h =
     each-child g j (leafPaths t) (elementPaths (leafPaths t) (suc j) n) _ _ a b
 
 mutual
-  unfolding treePieces leafPaths eachOf scalarAtEnd offsetAt
+  unfolding treePieces leafPaths scalarAtEnd offsetAt
 
-  tree-each : (t : Tree) (base : ℕ) (g : List ℕ → Piece) → ((p : List ℕ) → g p ≡ pieceFrom t base p) → treePieces t base ≡ eachOf g (leafPaths t)
+  tree-each : (t : Tree) (base : ℕ) (g : List ℕ → Piece) → ((p : List ℕ) → g p ≡ pieceFrom t base p) → treePieces t base ≡ map g (leafPaths t)
   tree-each (leaf s) base g h = let z : base + 0 ≡ base = omega arith in rw (h [], z)
   tree-each (group f) base g h = forest-each f 0 base g (λ i p. rw zero-add (h (i ∷ p)))
   tree-each (array t n) base g h = elements-each t g (λ b k q. tree-each t b k q) n 0 base (λ i p. rw zero-add (h (i ∷ p)))
 
   -- children from number j on
   forest-each : (f : Forest) (j base : ℕ) (g : List ℕ → Piece) → ((i : ℕ) (p : List ℕ) → g ((j + i) ∷ p) ≡ pieceOf (childScalar f i p) (base + childOffset f i p))
-      → forestPieces f base ≡ eachOf g (forestPaths f j)
+      → forestPieces f base ≡ map g (forestPaths f j)
   forest-each empty j base g h = refl
   forest-each (child o t f) j base g h =
       let z : j ≡ j + 0 = omega arith in
-      let a : treePieces t (base + o) ≡ eachOf (λ p. g (j ∷ p)) (leafPaths t) =
+      let a : treePieces t (base + o) ≡ map (λ p. g (j ∷ p)) (leafPaths t) =
       tree-each t (base + o) (λ p. g (j ∷ p)) (λ p. ap (λ (k : ℕ). g (k ∷ p)) z ∙ h 0 p ∙ ap (λ (k : ℕ). pieceOf (scalarAtEnd t p) k) (omega arith)) in
-      let b : forestPieces f base ≡ eachOf g (forestPaths f (suc j)) =
+      let b : forestPieces f base ≡ map g (forestPaths f (suc j)) =
       forest-each f (suc j) base g (λ i p. ap (λ (k : ℕ). g (k ∷ p)) (omega arith) ∙ h (suc i) p) in
       each-child g j (leafPaths t) (forestPaths f (suc j)) _ _ a b
 
 pub each-leaf : (t : Tree) → treePieces t 0 ≡ leafPieces t
 each-leaf t = tree-each t 0 (leafPiece t) (λ p. ap (λ (k : ℕ). pieceOf (scalarAtEnd t p) k) (sym (zero-add (offsetAt t p))))
 
-pub length-each : (g : List ℕ → Piece) (ps : List (List ℕ)) → length (eachOf g ps) ≡ length ps
-unfolding eachOf
-length-each g [] = refl
-length-each g (p ∷ ps) = ap suc (length-each g ps)
-
 -- as many leaves are counted as there are leaf paths
 pub leaves-counted : (t : Tree) → length (leafPaths t) ≡ leavesOf t
-leaves-counted t = sym (length-each (leafPiece t) (leafPaths t)) ∙ ap length (sym (each-leaf t)) ∙ pieces-count t 0
+leaves-counted t = sym (length-map (leafPaths t) (leafPiece t)) ∙ ap length (sym (each-leaf t)) ∙ pieces-count t 0
 
 pub length-leaves : (t : Tree) → length (leafPieces t) ≡ leavesOf t
-length-leaves t = length-each (leafPiece t) (leafPaths t) ∙ leaves-counted t
+length-leaves t = length-map (leafPaths t) (leafPiece t) ∙ leaves-counted t

@@ -1,30 +1,28 @@
 -- A record of scalars is flattened to what `pieces` makes of them, with the size and the alignment that `record` finds.
-use Prim.Native.Nat.{ℕ, zero, suc, _+_, _-_, _≤_, _<_, min, max}
+use Prim.Native.Nat.{ℕ, _+_, _-_, _≤_, max}
 use mathlib.Core.Path.{_≡_, refl, ap, sym, _∙_}
-use mathlib.Core.Bool.{Bool, true, false, _&&_}
-use mathlib.Core.List.{List, [], _∷_, _++_}
+use mathlib.Core.Bool.{true, false}
+use mathlib.Core.List.{List, [], _∷_}
 use native.Mathlib.Nat.{zero-add}
 use native.Mathlib.Omega.{arith}
 use borrow.Author.Tests.{ltb-true, eqb-true}
 use lib.Dec.{ltb}
-use Rattle.shape.specs.declared.Piece.{Piece}
 use Rattle.shape.specs.declared.Scalar.{Scalar}
 use Rattle.shape.specs.Lists.{every}
 use Rattle.shape.specs.Numbers.{accepted, most-word}
 use Rattle.shape.specs.Arithmetic.{roundUp}
-use Rattle.shape.specs.Questions.{endOf}
 use Rattle.shape.proofs.Bools.{both-true}
 use Rattle.shape.proofs.Rounding.{round-least}
-use Rattle.checks.specs.Check.{orElse, scalarRefusal}
+use Rattle.checks.specs.Check.{scalarRefusal}
 use Rattle.layouts.specs.Record.{maxOf, largestAlign, furthestEnd}
 use Rattle.layouts.specs.Members.{scalarsRefusal, placed}
-use Rattle.types.specs.Entries.{one, several, meaningAt, referred, refersBack}
+use Rattle.types.specs.Entries.{meaningAt, referred, refersBack}
 use Rattle.types.specs.Tree.{Tree, Forest, leaf, group, empty, child, alignOf, largestIn, reach, sizeOf, furthestIn, takesOf}
 use Rattle.types.specs.Trees.{laidOut, treeOf, typeAt, entries, wanted, typesRefusal}
 use Rattle.types.proofs.Types.{own-type}
 use Rattle.types.proofs.Sizes.{largest-some}
 use Rattle.types.proofs.Limits.{Accepted, accepted-lists, scalarsFit, forestFits, wanted-size, wanted-fits}
-use Rattle.flatten.specs.Leaves.{pieceOf, leafPieces}
+use Rattle.flatten.specs.Leaves.{leafPieces}
 use Rattle.flatten.specs.Records.{AreScalars, none, next, IsRecordOf}
 use Rattle.flatten.proofs.Pieces.{treePieces, forestPieces, each-leaf}
 

@@ -1,37 +1,37 @@
 -- What each function of the cycle writes, in the form in which its proof meets it.
-use Prim.Native.Nat.{ℕ, zero, suc, _+_, _-_, _≤_, _<_}
-use mathlib.Core.Path.{_≡_, refl, ap, sym, _∙_}
+use Prim.Native.Nat.{ℕ, suc, _+_, _-_, _≤_, _<_}
+use mathlib.Core.Path.{_≡_, ap, sym, _∙_}
 use mathlib.Core.Bool.{Bool, true, false}
 use mathlib.Core.List.{List, [], _∷_, _++_}
 use native.Mathlib.Nat.{sub-zero}
 use native.Mathlib.Omega.{arith}
 use lib.Dec.{eqb}
-use lib.ListN.{length, getD}
+use lib.ListN.{getD}
 use Rattle.shape.specs.declared.Piece.{Piece}
 use Rattle.shape.specs.Arithmetic.{plus, rounded}
 use Rattle.shape.specs.Words.{piece}
 use Rattle.types.specs.declared.Entry.{Entry}
 use Rattle.types.specs.declared.Row.{Row}
-use Rattle.types.specs.Entries.{nowhere, union-kind, array-kind, entryAt, listed, hasMembers, meaningOf}
+use Rattle.types.specs.Entries.{nowhere, union-kind, array-kind, entryAt, membersFrom, hasMembers, meaningOf}
 use Rattle.types.specs.Table.{rowAt, placeFrom}
 use Rattle.types.proofs.Reading.{members-start, members-step, members-end, means-several, means-repeated, means-one}
-use Rattle.flatten.specs.Writing.{ifLeaves, overMembers, overElements, stepOf, spread, entryPieces, pourAt, pourWords}
+use Rattle.flatten.specs.Writing.{ifLeaves, overMembers, overElements, stepOf, spread, entryPieces}
 
 -- ---- members
 
 module _ (f : ℕ → ℕ → List Piece) (tb ms : List ℕ) (overlaid : Bool) (base first count : ℕ) where
-  pub members-begin : overMembers f tb overlaid base 0 (listed ms first count) ≡ overMembers f tb overlaid base 0 (listed ms (first + 0) (count - 0))
+  pub members-begin : overMembers f tb overlaid base 0 (membersFrom ms first count) ≡ overMembers f tb overlaid base 0 (membersFrom ms (first + 0) (count - 0))
   members-begin = ap (λ (l : List ℕ). overMembers f tb overlaid base 0 l) (members-start ms first count)
 
   module _ (end i : ℕ) where
     pub members-turn : i < count → (m : ℕ) → m ≡ getD ms (first + i) nowhere → (r : Row) → r ≡ rowAt tb m → (o : ℕ) → o ≡ placeFrom overlaid end (r .align)
         → (b : ℕ) → b ≡ plus base o → (e : ℕ) → e ≡ plus o (r .takes)
-        → overMembers f tb overlaid base end (listed ms (first + i) (count - i))
-        ≡ ifLeaves (r .leaves) (f m b) ++ overMembers f tb overlaid base e (listed ms (first + (i + 1)) (count - (i + 1)))
+        → overMembers f tb overlaid base end (membersFrom ms (first + i) (count - i))
+        ≡ ifLeaves (r .leaves) (f m b) ++ overMembers f tb overlaid base e (membersFrom ms (first + (i + 1)) (count - (i + 1)))
     unfolding overMembers
     members-turn lt m em r er o eo b eb e ee = rw (members-step ms first count i lt m em, ee, eb, eo, er)
 
-    pub members-done : count ≤ i → overMembers f tb overlaid base end (listed ms (first + i) (count - i)) ≡ []
+    pub members-done : count ≤ i → overMembers f tb overlaid base end (membersFrom ms (first + i) (count - i)) ≡ []
     unfolding overMembers
     members-done ge = rw (members-end ms first count i ge)
 
@@ -70,7 +70,7 @@ module _ (ts ms tb : List ℕ) (levels e base : ℕ) where
         ∙ ap (λ (y : Entry). spread (entryPieces ts ms tb (levels - 1)) tb (meaningOf ms y) base) (sym ex)
 
     pub of-members : b ≡ true
-        → overMembers (entryPieces ts ms tb (levels - 1)) tb (eqb (x .kind) union-kind) base 0 (listed ms (x .second) (x .third)) ≡ entryPieces ts ms tb levels e base
+        → overMembers (entryPieces ts ms tb (levels - 1)) tb (eqb (x .kind) union-kind) base 0 (membersFrom ms (x .second) (x .third)) ≡ entryPieces ts ms tb levels e base
     unfolding spread
     of-members h = sym (one-down ∙ rw (means-several ms x b eb h))
 

@@ -1,6 +1,6 @@
 -- The pieces that are written of an entry are those of its type, where the table has the rows of the entries' types and nothing passes 64 bits: a part
 -- of a type ends no later than the type.
-use Prim.Native.Nat.{ℕ, zero, suc, _+_, _*_, _≤_, _<_, min, max}
+use Prim.Native.Nat.{ℕ, zero, suc, _+_, _*_, _≤_, _<_, max}
 use mathlib.Core.Path.{_≡_, refl, ap, sym, _∙_}
 use mathlib.Core.Bool.{Bool, true, false}
 use mathlib.Core.List.{List, [], _∷_, _++_}
@@ -12,12 +12,12 @@ use lib.Dec.{ltb}
 use Rattle.shape.specs.declared.Piece.{Piece}
 use Rattle.shape.specs.Lists.{every}
 use Rattle.shape.specs.Numbers.{most-word}
-use Rattle.shape.specs.Arithmetic.{roundUp, plus, rounded}
+use Rattle.shape.specs.Arithmetic.{plus, rounded}
 use Rattle.shape.proofs.Bools.{both-true}
 use Rattle.shape.proofs.Rounding.{round-least}
 use Rattle.types.specs.declared.Row.{Row}
 use Rattle.types.specs.Entries.{Meaning, one, several, repeated, meaningAt, referred, refersBack}
-use Rattle.types.specs.Tree.{Tree, Forest, leaf, group, array, alignOf, largestIn, reach, lastReach, sizeOf, furthestIn, reachOf, takesOf, levelsOf, levelsIn, leavesOf}
+use Rattle.types.specs.Tree.{Tree, leaf, group, array, alignOf, reach, lastReach, sizeOf, furthestIn, reachOf, takesOf, levelsOf, levelsIn, leavesOf}
 use Rattle.types.specs.Trees.{offsetFrom, laidOut, treeOf, typeAt}
 use Rattle.types.specs.Table.{rowAt, counted, rowOfTree, placeFrom, Measured}
 use Rattle.types.proofs.Types.{own-type}

@@ -3,7 +3,7 @@
 use Prim.Native.Nat.{ℕ, zero, suc, _+_, _*_, _<_}
 use mathlib.Core.Path.{_≡_}
 use mathlib.Core.Bool.{Bool, true, false, _&&_}
-use mathlib.Core.List.{List, [], _∷_, _++_, List·Memᴰ}
+use mathlib.Core.List.{List, [], _∷_, _++_, map, List·Memᴰ}
 use mathlib.Core.Option.Option.{some}
 use lib.Dec.{ltb}
 use lib.ListN.{length, getD, getElem?}
@@ -58,9 +58,8 @@ unfoldable mutual
 -- ---- the leaf paths, from the first member and the first element on
 
 -- each path one step longer
-unfoldable pub under : ℕ → List (List ℕ) → List (List ℕ)
-under i [] = []
-under i (p ∷ ps) = (i ∷ p) ∷ under i ps
+abbrev pub under : ℕ → List (List ℕ) → List (List ℕ)
+under i ps = map (λ (p : List ℕ). i ∷ p) ps
 
 -- those of n elements, numbered from i on, each with the same paths inside
 unfoldable pub elementPaths : List (List ℕ) → ℕ → ℕ → List (List ℕ)
@@ -86,13 +85,9 @@ pieceOf s o = piece (s .kind) (s .size) (s .align) o
 abbrev pub leafPiece : Tree → List ℕ → Piece
 leafPiece t p = pieceOf (scalarAtEnd t p) (offsetAt t p)
 
-unfoldable pub eachOf : (List ℕ → Piece) → List (List ℕ) → List Piece
-eachOf g [] = []
-eachOf g (p ∷ ps) = g p ∷ eachOf g ps
-
 -- one piece for each leaf path, in order
 abbrev pub leafPieces : Tree → List Piece
-leafPieces t = eachOf (leafPiece t) (leafPaths t)
+leafPieces t = map (leafPiece t) (leafPaths t)
 
 -- ---- each leaf, one piece
 

@@ -14,7 +14,7 @@ ghost use Rattle.shape.specs.Arithmetic.{rounded};
 ghost use Rattle.shape.specs.Words.{piece, pieceWords, putAt};
 ghost use lib.Dec.{eqb};
 ghost use lib.ListN.{length};
-ghost use Rattle.types.specs.Entries.{union-kind, listed};
+ghost use Rattle.types.specs.Entries.{union-kind, membersFrom};
 ghost use Rattle.flatten.specs.Flattened.{flattened, flattenAnswer, flattenWritten};
 ghost use Rattle.flatten.specs.Writing.{overMembers, overElements, stepOf, entryPieces, nextAt, pourAt, pourWords};
 
@@ -136,7 +136,7 @@ fn write_members(
     at: usize,
     levels: u64,
 ) -> usize
-    ensures { λ r. ⌜ (r ≡ pourAt (overMembers (entryPieces (now (types .entry)) (now (members .entry)) (now (table .entry)) levels) (now (table .entry)) (eqb (x .kind) union-kind) base 0 (listed (now (members .entry)) (x .second) (x .third))) (now (out .entry)) at) × (now (out .exit) ≡ pourWords (overMembers (entryPieces (now (types .entry)) (now (members .entry)) (now (table .entry)) levels) (now (table .entry)) (eqb (x .kind) union-kind) base 0 (listed (now (members .entry)) (x .second) (x .third))) (now (out .entry)) at) ⌝ }
+    ensures { λ r. ⌜ (r ≡ pourAt (overMembers (entryPieces (now (types .entry)) (now (members .entry)) (now (table .entry)) levels) (now (table .entry)) (eqb (x .kind) union-kind) base 0 (membersFrom (now (members .entry)) (x .second) (x .third))) (now (out .entry)) at) × (now (out .exit) ≡ pourWords (overMembers (entryPieces (now (types .entry)) (now (members .entry)) (now (table .entry)) levels) (now (table .entry)) (eqb (x .kind) union-kind) base 0 (membersFrom (now (members .entry)) (x .second) (x .third))) (now (out .entry)) at) ⌝ }
 {
     let overlaid = x.kind == types::UNION;
     let mut to = at;

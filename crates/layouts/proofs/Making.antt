@@ -8,7 +8,7 @@ use borrow.Author.Tests.{lt-ltb, le-ltb, eq-eqb, ne-eqb}
 use lib.Dec.{ltb, eqb}
 use lib.ListN.{length, drop}
 use Rattle.shape.specs.declared.Piece.{Piece}
-use Rattle.shape.specs.Numbers.{accepted, bad-size, bad-align, most-offset, most-word}
+use Rattle.shape.specs.Numbers.{accepted, bad-size, bad-align, most-offset}
 use Rattle.shape.specs.Arithmetic.{roundUp, rounded}
 use Rattle.shape.specs.Words.{piecesOf, pieceAt}
 use Rattle.checks.specs.Check.{orElse, listRefusal, piecesRefusal}

@@ -87,7 +87,7 @@ module _ (ws : List ℕ) (at : ℕ) (vs : List ℕ) where
 
 -- words put at the front stand there, and those behind them are as they were
 module _ (ws vs : List ℕ) (fits : length vs ≤ length ws) where
-  put-first : putAt ws 0 vs ≡ vs ++ drop (length vs) ws
+  pub put-first : putAt ws 0 vs ≡ vs ++ drop (length vs) ws
   put-first = put-fits ws 0 vs (omega arith) ∙ ap (λ (n : ℕ). vs ++ drop n ws) (zero-add (length vs))
 
   pub put-front : take (length vs) (putAt ws 0 vs) ≡ vs

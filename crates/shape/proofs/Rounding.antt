@@ -2,7 +2,7 @@
 use Prim.Native.Nat.{ℕ, suc, _+_, _-_, _*_, _/_, _%_, _≤_, _<_, min, max}
 use mathlib.Core.Path.{_≡_, ap, sym, _∙_}
 use native.Mathlib.Omega.{arith}
-use native.Mathlib.Nat.{div-add-mod', div-mul-le-self, mod-lt, suc-mul, add-mul, mul-assoc, add-mul-div-right}
+use native.Mathlib.Nat.{div-add-mod', div-mul-le-self, mod-lt, suc-mul, add-mul, add-mul-div-right}
 use lib.Arith.{digits-div}
 use Rattle.shape.specs.Numbers.{most-word}
 use Rattle.shape.specs.Arithmetic.{roundUp, rounded}

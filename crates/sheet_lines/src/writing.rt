@@ -1,5 +1,4 @@
 // Text at a place of a lent buffer that has room for it. Each function answers where the text ends.
-ghost use mathlib.Core.Path.{_≡_};
 ghost use Prim.Native.Nat.{_+_, _≤_};
 ghost use lib.ListN.{length};
 ghost use Rattle.text.specs.Text.{Put};

@@ -8,7 +8,7 @@ use borrow.Author.Tests.{le-leb}
 use lib.ListN.{length, drop, length-append, length-drop}
 use lib.Seq.{take-append-seam, drop-append-add, drop-drop}
 use Rattle.shape.specs.Words.{putAt}
-use Rattle.shape.proofs.Put.{put-fits, put-short}
+use Rattle.shape.proofs.Put.{put-fits, put-short, put-first}
 use Rattle.slots.specs.declared.Slot.{Slot}
 use Rattle.slots.specs.Words.{slotWords, slotSize, wordsOf, written, slotsRead}
 
@@ -41,8 +41,7 @@ pub written-fits : (ss : List Slot) (ws : List ℕ) → slotSize * length ss ≤
 unfolding written
 written-fits ss ws h =
     let l : length (wordsOf ss) ≡ slotSize * length ss = length-words ss in
-    let z : 0 + length (wordsOf ss) ≡ length (wordsOf ss) = omega arith in
-    put-fits ws 0 (wordsOf ss) (omega arith) ∙ rw z
+    put-first ws (wordsOf ss) (omega arith)
 
 pub written-short : (ss : List Slot) (ws : List ℕ) → length ws < slotSize * length ss → ws ≡ written ss ws
 unfolding written

@@ -1,5 +1,5 @@
 -- What `measure` answers and leaves, by the tests that led there.
-use Prim.Native.Nat.{ℕ, zero, suc, _+_, _*_, _/_, _%_, _≤_, _<_, min}
+use Prim.Native.Nat.{ℕ, zero, suc, _+_, _%_, _≤_, _<_, min}
 use mathlib.Core.Path.{_≡_, refl, sym, _∙_}
 use mathlib.Core.Bool.{true, not}
 use mathlib.Core.List.{List}
@@ -11,7 +11,7 @@ use Rattle.shape.specs.Numbers.{accepted, no-room}
 use Rattle.checks.specs.Check.{refuse, orElse, unlessRefused}
 use Rattle.checks.proofs.Check.{else-first, else-regroup, left-alone}
 use Rattle.checks.proofs.Accepted.{refuse-none, else-none}
-use Rattle.types.specs.Entries.{most-entries, most-members, refersBack, meaningAt, allReferBack}
+use Rattle.types.specs.Entries.{most-entries, refersBack, meaningAt, allReferBack}
 use Rattle.types.specs.Tree.{levelsOf}
 use Rattle.types.specs.Trees.{entries, wanted, listsRefusal, referencesRefusal, treesRefusal, typesRefusal}
 use Rattle.types.specs.Table.{filledRefusal, filled, tableRefusal, measureRefusal, Measured}

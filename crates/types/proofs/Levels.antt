@@ -1,6 +1,6 @@
 -- The levels that are found are those of the entries' types.
-use Prim.Native.Nat.{ℕ, zero, suc, _+_, _-_, _≤_, _<_, min, max}
-use mathlib.Core.Path.{_≡_, refl, ap, sym, _∙_}
+use Prim.Native.Nat.{ℕ, suc, _+_, _-_, _≤_, _<_, min, max}
+use mathlib.Core.Path.{_≡_, refl, ap, _∙_}
 use mathlib.Core.Bool.{Bool, true, false, _&&_, not, cond}
 use mathlib.Core.List.{List, [], _∷_}
 use mathlib.Core.Logic.{_⊎_, ⊎-elim}
@@ -13,7 +13,6 @@ use lib.Seq.{getD-set-same, getD-set-other}
 use Rattle.shape.specs.Lists.{every}
 use Rattle.shape.specs.Numbers.{accepted, bad-type, too-deep, most-word}
 use Rattle.shape.proofs.Bools.{both-true}
-use Rattle.checks.specs.Check.{refuse}
 use Rattle.types.specs.declared.Entry.{Entry}
 use Rattle.types.specs.Entries.{most-levels, Meaning, one, several, repeated, referred, refersBack, entryAt, meaningOf, meaningAt, allReferBack}
 use Rattle.types.specs.Tree.{Tree, alignOf, takesOf, levelsOf, levelsIn}

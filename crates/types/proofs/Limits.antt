@@ -1,7 +1,7 @@
 -- What "not refused" gives of a list's types: each keeps the limits, and so does every scalar in it.
 use Prim.Native.Nat.{ℕ, zero, suc, _+_, _-_, _≤_, _<_, max}
-use mathlib.Core.Path.{_≡_, refl, sym, _∙_}
-use mathlib.Core.Bool.{Bool, true, false, _&&_}
+use mathlib.Core.Path.{_≡_, refl}
+use mathlib.Core.Bool.{Bool, true, _&&_}
 use mathlib.Core.List.{List, [], _∷_}
 use native.Mathlib.Omega.{arith}
 use borrow.Author.Tests.{ltb-true, ltb-false, eq-eqb, eqb-true}
@@ -11,7 +11,7 @@ use Rattle.shape.specs.Numbers.{accepted, most-offset, most-align}
 use Rattle.shape.proofs.Bools.{both-true}
 use Rattle.shape.proofs.Rounding.{round-bound}
 use Rattle.checks.specs.Check.{scalarRefusal}
-use Rattle.checks.proofs.Accepted.{refuse-none, else-none, Fits, fits}
+use Rattle.checks.proofs.Accepted.{refuse-none, else-none, fits}
 use Rattle.types.specs.Entries.{most-elements, most-levels, Meaning, one, several, repeated, meaningAt, referred, refersBack}
 use Rattle.types.specs.Tree.{Tree, Forest, leaf, group, array, empty, child, alignOf, largestIn, sizeOf, takesOf, levelsOf}
 use Rattle.types.specs.Trees.{offsetFrom, laidOut, treeOf, typeAt, entries, wanted, sizeRefusal, treeRefusal, listsRefusal, referencesRefusal, treesRefusal, typesRefusal}

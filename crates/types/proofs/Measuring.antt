@@ -1,6 +1,6 @@
 -- The rows that fill the table are those of the entries' types, and what is refused of them is what is refused of the types.
 use Prim.Native.Nat.{ℕ, zero, suc, _+_, _*_, _≤_, _<_, min, max}
-use mathlib.Core.Path.{_≡_, refl, ap, sym, subst, _∙_}
+use mathlib.Core.Path.{_≡_, refl, ap, sym, _∙_}
 use mathlib.Core.Bool.{Bool, true, false, _&&_}
 use mathlib.Core.List.{List, [], _∷_}
 use mathlib.Core.Logic.{_⊎_, ⊎-elim}
@@ -20,7 +20,7 @@ use Rattle.shape.proofs.Stored.{piece-stored, piece-kept}
 use Rattle.checks.specs.Check.{refuse}
 use Rattle.checks.proofs.Accepted.{refuse-none}
 use Rattle.types.specs.declared.Row.{Row}
-use Rattle.types.specs.Entries.{most-elements, union-kind, array-kind, entryAt, listed, one, several, repeated, hasMembers, meaningAt, referred, refersBack}
+use Rattle.types.specs.Entries.{most-elements, union-kind, array-kind, entryAt, membersFrom, one, several, repeated, hasMembers, meaningAt, referred, refersBack}
 use Rattle.types.specs.Tree.{Tree, Forest, leaf, group, array, alignOf, largestIn, sizeOf, furthestIn, reach, reachOf, takesOf, leavesOf, leavesIn}
 use Rattle.types.specs.Trees.{offsetFrom, laidOut, treeOf, typeAt, sizeRefusal, treeRefusal, treesRefusal}
 use Rattle.types.specs.Table.{row, rowFrom, rowPiece, rowAt, putRow, counted, rowOfTree, placeFrom, membersRow, times, elementsRow, rowOf, entryRefusal, rowHere, refusalHere, filledRefusal, filled, Measured}
@@ -137,7 +137,7 @@ module _ (ts ms tb : List ℕ) (e : ℕ) where
     unfolding treeOf rowOf entryRefusal referred every treeRefusal takesOf reach sizeOf alignOf leavesOf
     fits-by true a eb ea =
         let overlaid : Bool = eqb (entryAt ts e .kind) union-kind in
-        let l : List ℕ = listed ms (entryAt ts e .second) (entryAt ts e .third) in
+        let l : List ℕ = membersFrom ms (entryAt ts e .second) (entryAt ts e .third) in
         let means : meaningAt ts ms e ≡ several overlaid l = means-several ms (entryAt ts e) _ refl eb in
         let here : every (λ m. ltb m e) l ≡ true = rw means at back in
         group-fits (laidOut (typeAt ts ms) overlaid 0 l) (own-type ts ms e back ∙ rw means)

@@ -12,7 +12,7 @@ use Rattle.shape.specs.declared.Piece.{Piece}
 use Rattle.shape.specs.Words.{scalar, pieceAt}
 use Rattle.shape.proofs.Words.{no-piece}
 use Rattle.types.specs.declared.Entry.{Entry}
-use Rattle.types.specs.Entries.{nowhere, union-kind, array-kind, listed, one, several, repeated, hasMembers, meaningOf}
+use Rattle.types.specs.Entries.{nowhere, union-kind, array-kind, membersFrom, one, several, repeated, hasMembers, meaningOf}
 
 -- a word past the end, and one that is there, which doesn't hang on what stands for one that isn't
 past : (ws : List ℕ) (at d : ℕ) → length ws ≤ at → d ≡ getD ws at d
@@ -42,29 +42,29 @@ no-four ws e h p ep = ep ∙ sym (no-piece ws (length ws) (omega arith)) ∙ no-
 -- ---- a loop over members: those from number i on
 
 module _ (ms : List ℕ) (first count : ℕ) where
-  pub members-start : listed ms first count ≡ listed ms (first + 0) (count - 0)
+  pub members-start : membersFrom ms first count ≡ membersFrom ms (first + 0) (count - 0)
   members-start =
       let a : first ≡ first + 0 = omega arith in
       let b : count ≡ count - 0 = omega arith in
-      ap (λ (n : ℕ). listed ms n count) a ∙ ap (λ (n : ℕ). listed ms (first + 0) n) b
+      ap (λ (n : ℕ). membersFrom ms n count) a ∙ ap (λ (n : ℕ). membersFrom ms (first + 0) n) b
 
   module _ (i : ℕ) where
     pub members-step : i < count → (m : ℕ) → m ≡ getD ms (first + i) nowhere
-        → listed ms (first + i) (count - i) ≡ m ∷ listed ms (first + (i + 1)) (count - (i + 1))
-    unfolding listed
+        → membersFrom ms (first + i) (count - i) ≡ m ∷ membersFrom ms (first + (i + 1)) (count - (i + 1))
+    unfolding membersFrom
     members-step lt m em =
         let s : count - i ≡ suc (count - (i + 1)) = omega arith in
         let a : first + i + 1 ≡ first + (i + 1) = omega arith in
         rw (s, em, a)
 
-    pub members-end : count ≤ i → listed ms (first + i) (count - i) ≡ []
-    unfolding listed
+    pub members-end : count ≤ i → membersFrom ms (first + i) (count - i) ≡ []
+    unfolding membersFrom
     members-end ge = let s : count - i ≡ 0 = omega arith in rw s
 
 -- ---- what an entry says
 
 module _ (ms : List ℕ) (x : Entry) (b : Bool) (eb : b ≡ hasMembers (x .kind)) where
-  pub means-several : b ≡ true → meaningOf ms x ≡ several (eqb (x .kind) union-kind) (listed ms (x .second) (x .third))
+  pub means-several : b ≡ true → meaningOf ms x ≡ several (eqb (x .kind) union-kind) (membersFrom ms (x .second) (x .third))
   unfolding meaningOf
   means-several h = rw (← eb, h)
 

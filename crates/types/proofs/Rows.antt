@@ -2,19 +2,18 @@
 use Prim.Native.Nat.{ℕ, suc, _+_, _-_, _*_, _/_, _≤_, _<_, min, max}
 use mathlib.Core.Path.{_≡_, ap, _∙_}
 use mathlib.Core.Bool.{Bool, true, false}
-use mathlib.Core.List.{List, [], _∷_}
+use mathlib.Core.List.{List}
 use native.Mathlib.Nat.{div-add-mod', div-mul-le-self, mod-lt, suc-mul, mul-le-mul-right}
 use native.Mathlib.Omega.{arith}
-use borrow.Author.Tests.{lt-ltb, le-ltb, eq-eqb, ne-eqb}
+use borrow.Author.Tests.{lt-ltb, le-ltb}
 use lib.Dec.{eqb}
-use lib.ListN.{length, getD}
+use lib.ListN.{getD}
 use Rattle.shape.specs.Numbers.{accepted, most-word}
 use Rattle.shape.specs.Arithmetic.{plus, rounded}
-use Rattle.shape.specs.Words.{scalar}
 use Rattle.checks.proofs.Check.{else-first, left-alone}
 use Rattle.types.specs.declared.Entry.{Entry}
 use Rattle.types.specs.declared.Row.{Row}
-use Rattle.types.specs.Entries.{nowhere, union-kind, array-kind, entryAt, listed, hasMembers, meaningOf, referred}
+use Rattle.types.specs.Entries.{nowhere, union-kind, array-kind, entryAt, membersFrom, hasMembers, meaningOf, referred}
 use Rattle.types.specs.Table.{row, rowAt, putRow, placeFrom, membersRow, elementsRow, times, rowOf, entryRefusal, filledRefusal, filled, levelAbove, levelOf}
 use Rattle.types.proofs.Reading.{members-start, members-step, members-end, means-several, means-repeated, means-one}
 
@@ -46,16 +45,16 @@ module _ (a b : ℕ) (nz : b ≡ 0 → ⊥) where
 -- ---- levels
 
 module _ (lv ms : List ℕ) (e first count : ℕ) where
-  pub level-start : levelAbove lv e 0 (listed ms first count) ≡ levelAbove lv e 0 (listed ms (first + 0) (count - 0))
+  pub level-start : levelAbove lv e 0 (membersFrom ms first count) ≡ levelAbove lv e 0 (membersFrom ms (first + 0) (count - 0))
   level-start = ap (λ (l : List ℕ). levelAbove lv e 0 l) (members-start ms first count)
 
-  module _ (i best whole : ℕ) (inv : whole ≡ levelAbove lv e best (listed ms (first + i) (count - i))) where
+  module _ (i best whole : ℕ) (inv : whole ≡ levelAbove lv e best (membersFrom ms (first + i) (count - i))) where
     module _ (lt : i < count) (m : ℕ) (em : m ≡ getD ms (first + i) nowhere) where
       pub level-late : e ≤ m → 0 ≡ whole
       unfolding levelAbove
       level-late h = rw (inv, members-step ms first count i lt m em, le-ltb _ _ h)
 
-      pub level-turn : m < e → (w : ℕ) → w ≡ getD lv m 0 → (b : ℕ) → b ≡ max best w → whole ≡ levelAbove lv e b (listed ms (first + (i + 1)) (count - (i + 1)))
+      pub level-turn : m < e → (w : ℕ) → w ≡ getD lv m 0 → (b : ℕ) → b ≡ max best w → whole ≡ levelAbove lv e b (membersFrom ms (first + (i + 1)) (count - (i + 1)))
       unfolding levelAbove
       level-turn h w ew b eb = rw (inv, members-step ms first count i lt m em, lt-ltb _ _ h, ← ew, ← eb)
 
@@ -64,7 +63,7 @@ module _ (lv ms : List ℕ) (e first count : ℕ) where
     level-end h r er = rw (inv, members-end ms first count i h) er
 
 module _ (lv ms : List ℕ) (e : ℕ) (x : Entry) (b : Bool) (eb : b ≡ hasMembers (x .kind)) where
-  pub level-several : b ≡ true → (r : ℕ) → r ≡ levelAbove lv e 0 (listed ms (x .second) (x .third)) → r ≡ levelOf lv e (meaningOf ms x)
+  pub level-several : b ≡ true → (r : ℕ) → r ≡ levelAbove lv e 0 (membersFrom ms (x .second) (x .third)) → r ≡ levelOf lv e (meaningOf ms x)
   unfolding referred
   level-several h r er = rw (means-several ms x b eb h) er
 
@@ -85,14 +84,14 @@ module _ (lv ms : List ℕ) (e : ℕ) (x : Entry) (b : Bool) (eb : b ≡ hasMemb
 -- ---- rows
 
 module _ (tb ms : List ℕ) (overlaid : Bool) (first count : ℕ) where
-  pub row-start : membersRow tb overlaid 0 0 1 0 (listed ms first count) ≡ membersRow tb overlaid 0 0 1 0 (listed ms (first + 0) (count - 0))
+  pub row-start : membersRow tb overlaid 0 0 1 0 (membersFrom ms first count) ≡ membersRow tb overlaid 0 0 1 0 (membersFrom ms (first + 0) (count - 0))
   row-start = ap (λ (l : List ℕ). membersRow tb overlaid 0 0 1 0 l) (members-start ms first count)
 
-  module _ (i end far align leaves : ℕ) (whole : Row) (inv : whole ≡ membersRow tb overlaid end far align leaves (listed ms (first + i) (count - i))) where
+  module _ (i end far align leaves : ℕ) (whole : Row) (inv : whole ≡ membersRow tb overlaid end far align leaves (membersFrom ms (first + i) (count - i))) where
     pub row-turn : i < count → (m : ℕ) → m ≡ getD ms (first + i) nowhere → (r : Row) → r ≡ rowAt tb m → (o : ℕ) → o ≡ placeFrom overlaid end (r .align)
         → (en : ℕ) → en ≡ plus o (r .takes) → (f : ℕ) → f ≡ plus o (r .reach) → (fa : ℕ) → fa ≡ max far f → (al : ℕ) → al ≡ max align (r .align)
         → (l : ℕ) → l ≡ plus leaves (r .leaves) → (le : ℕ) → le ≡ min l 1025
-        → whole ≡ membersRow tb overlaid en fa al le (listed ms (first + (i + 1)) (count - (i + 1)))
+        → whole ≡ membersRow tb overlaid en fa al le (membersFrom ms (first + (i + 1)) (count - (i + 1)))
     unfolding membersRow
     row-turn lt m em r er o eo en een f ef fa efa al eal l el le ele =
         rw (inv, members-step ms first count i lt m em, ele, el, eal, efa, ef, een, eo, er)
@@ -106,7 +105,7 @@ pub row-elements : (r : Row) (n s : ℕ) → s ≡ rounded (r .reach) (r .align)
 row-elements r n s es p ep l el k ek = rw (ek, el, ep, es)
 
 module _ (tb ms : List ℕ) (x : Entry) (b : Bool) (eb : b ≡ hasMembers (x .kind)) where
-  pub row-several : b ≡ true → (r : Row) → r ≡ membersRow tb (eqb (x .kind) union-kind) 0 0 1 0 (listed ms (x .second) (x .third)) → r ≡ rowOf tb (meaningOf ms x)
+  pub row-several : b ≡ true → (r : Row) → r ≡ membersRow tb (eqb (x .kind) union-kind) 0 0 1 0 (membersFrom ms (x .second) (x .third)) → r ≡ rowOf tb (meaningOf ms x)
   unfolding rowOf
   row-several h r er = rw (means-several ms x b eb h) er
 

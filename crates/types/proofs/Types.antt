@@ -1,7 +1,7 @@
 -- The types of a list's entries: each is made of those of earlier entries, as its words say.
 use Prim.Native.Nat.{ℕ, zero, suc, _+_, _<_}
-use mathlib.Core.Path.{_≡_, refl, ap, sym, _∙_}
-use mathlib.Core.Bool.{Bool, true, false, _&&_}
+use mathlib.Core.Path.{_≡_, refl, ap, _∙_}
+use mathlib.Core.Bool.{Bool, true}
 use mathlib.Core.List.{List, [], _∷_, _++_}
 use mathlib.Core.Logic.{_⊎_, ⊎-elim}
 use native.Mathlib.Nat.{eq-or-lt-of-le}
@@ -13,7 +13,7 @@ use lib.Seq.{getD-append-add}
 use Rattle.shape.specs.Lists.{every}
 use Rattle.shape.proofs.Bools.{both-true}
 use Rattle.types.specs.Entries.{Meaning, one, several, repeated, referred, refersBack, meaningAt, allReferBack}
-use Rattle.types.specs.Tree.{Tree, alignOf, takesOf, group, empty, child, array}
+use Rattle.types.specs.Tree.{Tree, alignOf, takesOf, group, array}
 use Rattle.types.specs.Trees.{offsetFrom, laidOut, treeOf, no-type, trees, typeAt}
 
 module _ (ts ms : List ℕ) where

@@ -52,9 +52,9 @@ abbrev pub entryAt : List ℕ → ℕ → Entry
 entryAt ts e = entryFrom (pieceAt ts (entrySize * e))
 
 -- so many members from a place on
-unfoldable pub listed : List ℕ → ℕ → ℕ → List ℕ
-listed ms at zero = []
-listed ms at (suc n) = getD ms at nowhere ∷ listed ms (at + 1) n
+unfoldable pub membersFrom : List ℕ → ℕ → ℕ → List ℕ
+membersFrom ms at zero = []
+membersFrom ms at (suc n) = getD ms at nowhere ∷ membersFrom ms (at + 1) n
 
 -- ---- what an entry says
 
@@ -71,7 +71,7 @@ hasMembers kind = eqb kind record-kind || eqb kind union-kind
 
 unfoldable pub meaningOf : List ℕ → Entry → Meaning
 meaningOf ms x =
-    cond (hasMembers (x .kind)) (several (eqb (x .kind) union-kind) (listed ms (x .second) (x .third)))
+    cond (hasMembers (x .kind)) (several (eqb (x .kind) union-kind) (membersFrom ms (x .second) (x .third)))
     (cond (eqb (x .kind) array-kind) (repeated (x .second) (x .third)) (one (scalar (x .kind) (x .second) (x .third))))
 
 abbrev pub meaningAt : List ℕ → List ℕ → ℕ → Meaning

@@ -21,7 +21,7 @@ ghost use lib.ListN.{length, getD};
 ghost use Rattle.shape.specs.Numbers.{most-word};
 ghost use Rattle.shape.specs.Words.{pieceAt};
 ghost use Rattle.checks.specs.Check.{unlessRefused};
-ghost use Rattle.types.specs.Entries.{nowhere, entryAt, listed, hasMembers, meaningOf, allReferBack};
+ghost use Rattle.types.specs.Entries.{nowhere, entryAt, membersFrom, hasMembers, meaningOf, allReferBack};
 ghost use Rattle.types.specs.Trees.{entries, sizeRefusal, listsRefusal, referencesRefusal};
 ghost use Rattle.types.specs.Table.{rowAt, putRow, placeFrom, membersRow, elementsRow, times, rowOf, entryRefusal, filledRefusal, filled, tableRefusal, measureRefusal, levelOf, levelAbove, Levelled};
 
@@ -184,7 +184,7 @@ fn level(x: Entry, members: &[u64], levels: &[u64], e: u64) -> u64
 
 // One level more than the deepest of some members. A member past the end of the list isn't earlier, so that the loop is never longer than the list.
 fn level_over(members: &[u64], levels: &[u64], first: u64, count: u64, e: u64) -> u64
-    ensures { λ r. ⌜ r ≡ levelAbove (now (levels .entry)) e 0 (listed (now (members .entry)) first count) ⌝ }
+    ensures { λ r. ⌜ r ≡ levelAbove (now (levels .entry)) e 0 (membersFrom (now (members .entry)) first count) ⌝ }
 {
     let mut best = 0;
     let mut i = 0;
@@ -238,7 +238,7 @@ fn row_of(x: Entry, members: &[u64], table: &[u64]) -> Row
 
 // The row of so many members, overlaid or each behind the one before.
 fn row_over(members: &[u64], table: &[u64], overlaid: bool, first: u64, count: u64) -> Row
-    ensures { λ r. ⌜ r ≡ membersRow (now (table .entry)) overlaid 0 0 1 0 (listed (now (members .entry)) first count) ⌝ }
+    ensures { λ r. ⌜ r ≡ membersRow (now (table .entry)) overlaid 0 0 1 0 (membersFrom (now (members .entry)) first count) ⌝ }
 {
     let mut end = 0;
     let mut far = 0;

@@ -10,7 +10,7 @@ use lib.ListN.{length}
 use borrow.Author.Needs.{needs}
 use borrow.Fn.Kinds.{In}
 use borrow.Fn.PlainCycle.{Measures, is, falls, and}
-use Rattle.types.specs.Entries.{union-kind, listed}
+use Rattle.types.specs.Entries.{union-kind, membersFrom}
 use Rattle.flatten.specs.Writing.{ifLeaves, overMembers, overElements, stepOf, entryPieces, pourAt, pourWords}
 use Rattle.flatten.proofs.Pour.{one-at, one-words, turn-at, turn-words, done-at, done-words, said-at, said-words, some-at, some-words, none-at, none-words}
 use Rattle.flatten.proofs.Steps.{members-begin, members-turn, members-done, elements-turn, elements-done, elements-begin, no-level, of-members, of-elements, of-scalar}
@@ -139,10 +139,10 @@ E-returns t c =
 abbrev M-Inv : write-members-lts.InvT-loop
 M-Inv types members table out₀ x base at levels overlaid to₀ end₀ i₀ out to end i =
     (i ≤ x .third) × (length out ≡ length out₀)
-    × (pourAt (overMembers (entryPieces types members table levels) table (eqb (x .kind) union-kind) base 0 (listed members (x .second) (x .third))) out₀ at
-    ≡ pourAt (overMembers (entryPieces types members table levels) table overlaid base end (listed members (x .second + i) (x .third - i))) out to)
-    × (pourWords (overMembers (entryPieces types members table levels) table (eqb (x .kind) union-kind) base 0 (listed members (x .second) (x .third))) out₀ at
-    ≡ pourWords (overMembers (entryPieces types members table levels) table overlaid base end (listed members (x .second + i) (x .third - i))) out to)
+    × (pourAt (overMembers (entryPieces types members table levels) table (eqb (x .kind) union-kind) base 0 (membersFrom members (x .second) (x .third))) out₀ at
+    ≡ pourAt (overMembers (entryPieces types members table levels) table overlaid base end (membersFrom members (x .second + i) (x .third - i))) out to)
+    × (pourWords (overMembers (entryPieces types members table levels) table (eqb (x .kind) union-kind) base 0 (membersFrom members (x .second) (x .third))) out₀ at
+    ≡ pourWords (overMembers (entryPieces types members table levels) table overlaid base end (membersFrom members (x .second + i) (x .third - i))) out to)
 
 abbrev M-μ : write-members-lts.MeasureT-loop
 M-μ types members table out₀ x base at levels overlaid to₀ end₀ i₀ out to end i = x .third - i

@@ -1,6 +1,5 @@
 -- `check_lists` answers the refusal of the lists: each way out is one law of the tests that led there.
 use Rattle.types.proofs.Checking.{lists-parts, lists-none, lists-many, lists-members, lists-fine}
-use borrow.Author.Needs.{needs}
 use Rattle.types.proofs.check_lists.Statement.{statement}
 use Rattle.types.proofs.check_lists.Tie as tie
 

@@ -1,6 +1,5 @@
 -- `check_size` answers the refusal of a size.
 use Rattle.types.proofs.Checking.{size-large, size-fine}
-use borrow.Author.Needs.{needs}
 use Rattle.types.proofs.check_size.Statement.{statement}
 use Rattle.types.proofs.check_size.Tie as tie
 

@@ -1,5 +1,5 @@
 -- `fill` fills the table, up to the first row that is refused. The invariant: refusal and table are what the entries from the place on decide.
-use Prim.Native.Nat.{_≤_, _-_, _/_}
+use Prim.Native.Nat.{_≤_, _-_}
 use mathlib.Core.Path.{_≡_, refl}
 use native.Mathlib.Nat.{sub-zero}
 use lib.ListN.{length}

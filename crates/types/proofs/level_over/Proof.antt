@@ -2,7 +2,7 @@
 use Prim.Native.Nat.{_≤_, _+_, _-_}
 use mathlib.Core.Path.{_≡_}
 use native.Mathlib.Omega.{arith}
-use Rattle.types.specs.Entries.{listed}
+use Rattle.types.specs.Entries.{membersFrom}
 use Rattle.types.specs.Table.{levelAbove}
 use Rattle.types.proofs.Rows.{level-start, level-late, level-turn, level-end}
 use borrow.Author.Needs.{needs}
@@ -11,7 +11,7 @@ use Rattle.types.proofs.level_over.Tie as tie
 
 abbrev Inv-loop : tie.InvT-loop
 Inv-loop members levels first count e best₀ i₀ best i =
-    (i ≤ count) × (levelAbove levels e 0 (listed members first count) ≡ levelAbove levels e best (listed members (first + i) (count - i)))
+    (i ≤ count) × (levelAbove levels e 0 (membersFrom members first count) ≡ levelAbove levels e best (membersFrom members (first + i) (count - i)))
 
 abbrev μ-loop : tie.MeasureT-loop
 μ-loop members levels first count e best₀ i₀ best i = count - i

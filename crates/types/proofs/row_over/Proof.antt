@@ -2,7 +2,7 @@
 use Prim.Native.Nat.{_≤_, _+_, _-_}
 use mathlib.Core.Path.{_≡_}
 use native.Mathlib.Omega.{arith}
-use Rattle.types.specs.Entries.{listed}
+use Rattle.types.specs.Entries.{membersFrom}
 use Rattle.types.specs.Table.{membersRow}
 use Rattle.types.proofs.Rows.{row-start, row-turn, row-end}
 use borrow.Author.Needs.{needs}
@@ -12,7 +12,7 @@ use Rattle.types.proofs.row_over.Tie as tie
 abbrev Inv-loop : tie.InvT-loop
 Inv-loop members table overlaid first count end₀ far₀ align₀ leaves₀ i₀ end far align leaves i =
     (i ≤ count)
-    × (membersRow table overlaid 0 0 1 0 (listed members first count) ≡ membersRow table overlaid end far align leaves (listed members (first + i) (count - i)))
+    × (membersRow table overlaid 0 0 1 0 (membersFrom members first count) ≡ membersRow table overlaid end far align leaves (membersFrom members (first + i) (count - i)))
 
 abbrev μ-loop : tie.MeasureT-loop
 μ-loop members table overlaid first count end₀ far₀ align₀ leaves₀ i₀ end far align leaves i = count - i
