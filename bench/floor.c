@@ -1,15 +1,15 @@
-/* What the entries cost that decide nothing: the same numbers in, the same checks, an answer of eleven words out, and one fixed way in place
+/* What the entries cost that decide nothing: the same numbers in, the same checks, an answer of fourteen words out, and one fixed way in place
    of the rules. `bench/run --floor` puts them in the library's place, to tell what of a figure is the interface's and not the classifier's. */
 #include <stdint.h>
 
 typedef uint64_t u64;
 
 typedef struct {
-    u64 abi, integer, float_, integers_only;
+    u64 abi, integer, float_, integers_only, stack;
 } call;
 
 typedef struct {
-    u64 refusal, way, integers_passed, integers_given, floats_passed, floats_given, slots;
+    u64 refusal, way, integers_passed, integers_given, floats_passed, floats_given, slots, stack_at, stack_bytes;
 } outcome;
 
 typedef struct {
@@ -36,13 +36,16 @@ static const uint8_t integers[30] = {6, 8, 8, 8, 4, 8, 0, 1, 2, 3, 0, 1, 2, 3, 0
 static const uint8_t floats[30] = {8, 8, 8, 8, 0, 8};
 static const u64 marked = 3;
 
+/* the most bytes on the stack */
+static const u64 most_stack = (u64)1 << 40;
+
 #define REFUSE_IF(test, number)                                                                                                                \
     if (test)                                                                                                                                  \
-        return (answer){{abi, integer, float_, mark}, {number}};
+        return (answer){{abi, integer, float_, mark, stack}, {number}};
 
 #define CHECK_CALL                                                                                                                             \
     REFUSE_IF(abi >= 30, BAD_ABI)                                                                                                              \
-    REFUSE_IF(integer > integers[abi] || float_ > floats[abi] || (mark && abi != marked), BAD_CALL)
+    REFUSE_IF(integer > integers[abi] || float_ > floats[abi] || stack > most_stack || (mark && abi != marked), BAD_CALL)
 
 answer barkpaddle_fresh(u64 abi) {
     if (abi >= 30)
@@ -50,16 +53,16 @@ answer barkpaddle_fresh(u64 abi) {
     return (answer){{abi, integers[abi], floats[abi]}, {0}};
 }
 
-answer barkpaddle_argument_scalar(u64 abi, u64 integer, u64 float_, u64 mark, u64 kind, u64 size, u64 align, u64 *slots, u64 length) {
+answer barkpaddle_argument_scalar(u64 abi, u64 integer, u64 float_, u64 mark, u64 stack, u64 kind, u64 size, u64 align, u64 *slots, u64 length) {
     CHECK_CALL
     REFUSE_IF(kind > 4, BAD_KIND)
     REFUSE_IF(size > 64, BAD_SIZE)
     REFUSE_IF(align > 4096, BAD_ALIGN)
     u64 given = integer > 0;
-    return (answer){{abi, integer - given, float_, mark}, {.way = DIRECT, .integers_given = given}};
+    return (answer){{abi, integer - given, float_, mark, stack}, {.way = DIRECT, .integers_given = given}};
 }
 
-answer barkpaddle_argument_aggregate(u64 abi, u64 integer, u64 float_, u64 mark, u64 size, u64 align, u64 complex, u64 floating, const u64 *words, u64 count, u64 *slots, u64 length) {
+answer barkpaddle_argument_aggregate(u64 abi, u64 integer, u64 float_, u64 mark, u64 stack, u64 size, u64 align, u64 complex, u64 floating, const u64 *words, u64 count, u64 *slots, u64 length) {
     CHECK_CALL
     REFUSE_IF(count % 4 || count > 4096, BAD_LIST)
     REFUSE_IF(size > 1 << 24, BAD_SIZE)
@@ -74,7 +77,7 @@ answer barkpaddle_argument_aggregate(u64 abi, u64 integer, u64 float_, u64 mark,
     }
     REFUSE_IF(reach > size, BAD_EXTENT)
     REFUSE_IF(length < 6, NO_ROOM) /* two slots */
-    return (answer){{abi, integer, float_, mark}, {.way = MEMORY}};
+    return (answer){{abi, integer, float_, mark, stack}, {.way = MEMORY}};
 }
 
 #define NO_PART_IF(test, number)                                                                                                               \

@@ -37,8 +37,10 @@ extern "C" {
 
 /* The version of this header: one number, raised with each change of the header. A program that may be linked to an archive that was made
  * elsewhere compares it with barkpaddle_version() before it asks anything else. Where they differ the archive goes with another header: it
- * may lack what this one names, or answer what this one doesn't. Link the archive that tools/staticlib makes beside this header. */
-#define BARKPADDLE_VERSION UINT64_C(5)
+ * may lack what this one names, take other numbers, or answer what this one doesn't. Link the archive that tools/staticlib makes beside
+ * this header. What entries take, and how structs are laid out, is promised from the first shipped version on; until then it may change
+ * with this number, as it has with 6, where a call has a stack offset and an outcome a place on the stack. */
+#define BARKPADDLE_VERSION UINT64_C(6)
 
 /* The version of the header that the archive goes with. Refuses nothing. */
 uint64_t barkpaddle_version(void);
@@ -84,12 +86,12 @@ uint64_t barkpaddle_version(void);
 /* Refusals. */
 #define BARKPADDLE_ACCEPTED UINT64_C(0)
 #define BARKPADDLE_BAD_ABI UINT64_C(1)    /* there is no description of this number */
-#define BARKPADDLE_BAD_CALL UINT64_C(2)   /* more registers left than there are, or the integers-only mark where there is none */
+#define BARKPADDLE_BAD_CALL UINT64_C(2)   /* more registers left than there are, a mark where there is none, an offset above MOST_STACK */
 #define BARKPADDLE_BAD_LIST UINT64_C(3)   /* the words don't make whole records, or too many; of types: or no entry, or too many members */
 #define BARKPADDLE_BAD_KIND UINT64_C(4)   /* no kind has this number */
 #define BARKPADDLE_BAD_SIZE UINT64_C(5)   /* a size, an offset or a count is above its limit; in a variable list: isn't the scalar's own */
 #define BARKPADDLE_BAD_ALIGN UINT64_C(6)  /* an alignment is above its limit; in a record: all are 0; in a variable list: isn't the size */
-#define BARKPADDLE_NO_ROOM UINT64_C(7)    /* the result doesn't fit the buffer, or is more than MOST_PIECES pieces */
+#define BARKPADDLE_NO_ROOM UINT64_C(7)    /* the result doesn't fit the buffer, is above MOST_PIECES, or ends past MOST_STACK */
 #define BARKPADDLE_BAD_AREA UINT64_C(8)   /* a save area or an offset into it that can't be, or an overflow area that ends too early */
 #define BARKPADDLE_BAD_EXTENT UINT64_C(9) /* a piece ends past its aggregate's size */
 #define BARKPADDLE_BAD_TYPE UINT64_C(10)  /* an entry refers to itself, to a later entry or to none */
@@ -152,15 +154,16 @@ uint64_t barkpaddle_version(void);
 #define BARKPADDLE_FORM_AGGREGATE UINT64_C(2)
 
 /* Limits: each of these numbers is still accepted. */
-#define BARKPADDLE_LARGEST_SCALAR UINT64_C(64)       /* size of a scalar or a piece */
-#define BARKPADDLE_LARGEST_SHAPE UINT64_C(16777216)  /* size of an aggregate, or of an entry that isn't a scalar */
-#define BARKPADDLE_LARGEST_OFFSET UINT64_C(16777216) /* offset of a piece */
-#define BARKPADDLE_LARGEST_ALIGN UINT64_C(4096)      /* any alignment */
-#define BARKPADDLE_MOST_PIECES UINT64_C(1024)        /* records of a list, or scalars in a type */
-#define BARKPADDLE_MOST_ENTRIES UINT64_C(1024)       /* entries of a list of types */
-#define BARKPADDLE_MOST_MEMBERS UINT64_C(4096)       /* words of a list of members */
-#define BARKPADDLE_MOST_ELEMENTS UINT64_C(1024)      /* elements of an array */
-#define BARKPADDLE_MOST_LEVELS UINT64_C(16)          /* levels of a type, a scalar counting as one */
+#define BARKPADDLE_LARGEST_SCALAR UINT64_C(64)        /* size of a scalar or a piece */
+#define BARKPADDLE_LARGEST_SHAPE UINT64_C(16777216)   /* size of an aggregate, or of an entry that isn't a scalar */
+#define BARKPADDLE_LARGEST_OFFSET UINT64_C(16777216)  /* offset of a piece */
+#define BARKPADDLE_LARGEST_ALIGN UINT64_C(4096)       /* any alignment */
+#define BARKPADDLE_MOST_PIECES UINT64_C(1024)         /* records of a list, or scalars in a type */
+#define BARKPADDLE_MOST_ENTRIES UINT64_C(1024)        /* entries of a list of types */
+#define BARKPADDLE_MOST_MEMBERS UINT64_C(4096)        /* words of a list of members */
+#define BARKPADDLE_MOST_ELEMENTS UINT64_C(1024)       /* elements of an array */
+#define BARKPADDLE_MOST_LEVELS UINT64_C(16)           /* levels of a type, a scalar counting as one */
+#define BARKPADDLE_MOST_STACK UINT64_C(1099511627776) /* offset on the stack, and where a value ends there */
 
 /* No description's and no attribute's name has more bytes than this. */
 #define BARKPADDLE_MOST_NAME_BYTES 64
@@ -261,6 +264,7 @@ typedef struct barkpaddle_call {
     uint64_t integer; /* the registers left */
     uint64_t float_;
     uint64_t integers_only; /* the mark: yes or no */
+    uint64_t stack;         /* the next stack offset: 0 at the start */
 } barkpaddle_call;
 
 /* How a value travels, or why it was refused. */
@@ -271,12 +275,14 @@ typedef struct barkpaddle_outcome {
     uint64_t integers_given;
     uint64_t floats_passed;
     uint64_t floats_given;
-    uint64_t slots; /* how many slots were written */
+    uint64_t slots;    /* how many slots were written */
+    uint64_t stack_at; /* where on the stack this value's bytes stand, and how many they are; 0 and 0 where none of it is there */
+    uint64_t stack_bytes;
 } barkpaddle_outcome;
 
 /* What an operation on a call answers; one on a lent call answers the outcome alone. */
 typedef struct barkpaddle_answer {
-    barkpaddle_call next; /* its four numbers are handed to the next operation, or it is lent to one */
+    barkpaddle_call next; /* its five numbers are handed to the next operation, or it is lent to one */
     barkpaddle_outcome outcome;
 } barkpaddle_answer;
 
@@ -339,8 +345,8 @@ typedef struct barkpaddle_rule {
 
 /* ---- a call and its operations ----
  *
- * A call is four numbers: its description, the integer and the float registers left, and the integers-only mark. Each operation takes a
- * call as these four and answers the next one, with the outcome behind it.
+ * A call is five numbers: its description, the integer and the float registers left, the integers-only mark, and the next stack offset.
+ * Each operation takes a call as these five and answers the next one, with the outcome behind it.
  *
  * Every operation refuses, in this order: BAD_ABI; BAD_CALL; what its value has to be refused for; NO_ROOM.
  * A scalar is refused by kind, size, alignment. An aggregate: BAD_LIST; its size; its alignment; then its pieces from the first, each by
@@ -348,51 +354,64 @@ typedef struct barkpaddle_rule {
  * has nothing to check.
  *
  * `words` are an aggregate's pieces, `words_length` words of them. Slots go to the front of `slots`, which has `slots_length` words and so
- * room for a third as many slots, rounded down; ways other than WAY_PIECES write nothing. NO_ROOM judges what the result needs.
+ * room for a third as many slots, rounded down; ways other than WAY_PIECES write nothing. NO_ROOM judges what the result needs: its slots,
+ * and the stack, where nothing may end past MOST_STACK.
+ *
+ * What of an argument isn't in given registers stands on the stack, in stack_bytes bytes from stack_at on (REFERENCE 9.9):
+ *
+ *     WAY_DIRECT      the scalar; of one that was given integer registers, its bytes behind those that these hold
+ *     WAY_PIECES      the last slots, as many as were given no register, a word of the integer width each; of a scalar, as WAY_DIRECT
+ *     WAY_REFERENCE   the address
+ *     WAY_MEMORY      the aggregate, whole
+ *
+ * Where stack_bytes is more than that, it comes first, and padding behind it. Of a result only the address can be there, where it was given
+ * no register and has none of its own (RETURN_POINTER_DEDICATED). Offsets count bytes from the first stack argument. Where that is belongs
+ * to the bridge; on ABI_WINDOWS_X64 it is behind the 32 bytes of home space. The bytes of two operations never overlap: the next call's
+ * `stack` is where this value's bytes end, or as it was where there are none. Behind the last argument it is their number in all.
  */
 
-/* The start of a call on a description: both banks whole, no mark. Refuses BAD_ABI. */
+/* The start of a call on a description: both banks whole, no mark, nothing on the stack. Refuses BAD_ABI. */
 barkpaddle_answer barkpaddle_fresh(uint64_t abi);
 
 /* The same call, to a function whose parameters end in dots (REFERENCE 9.6). May come late and more than once. Refuses BAD_ABI, then
  * BAD_CALL. */
-barkpaddle_answer barkpaddle_variadic(uint64_t abi, uint64_t integer, uint64_t float_, uint64_t integers_only);
+barkpaddle_answer barkpaddle_variadic(uint64_t abi, uint64_t integer, uint64_t float_, uint64_t integers_only, uint64_t stack);
 
 /* How the return value comes back (REFERENCE 9.4). */
 barkpaddle_answer barkpaddle_return_void(
-    uint64_t abi, uint64_t integer, uint64_t float_, uint64_t integers_only, uint64_t *slots, uint64_t slots_length);
+    uint64_t abi, uint64_t integer, uint64_t float_, uint64_t integers_only, uint64_t stack, uint64_t *slots, uint64_t slots_length);
 barkpaddle_answer barkpaddle_return_scalar(
-    uint64_t abi, uint64_t integer, uint64_t float_, uint64_t integers_only, uint64_t kind, uint64_t size, uint64_t align,
+    uint64_t abi, uint64_t integer, uint64_t float_, uint64_t integers_only, uint64_t stack, uint64_t kind, uint64_t size, uint64_t align,
     uint64_t *slots, uint64_t slots_length);
 barkpaddle_answer barkpaddle_return_aggregate(
-    uint64_t abi, uint64_t integer, uint64_t float_, uint64_t integers_only, uint64_t size, uint64_t align, uint64_t complex_,
-    uint64_t floating, const uint64_t *words, uint64_t words_length, uint64_t *slots, uint64_t slots_length);
+    uint64_t abi, uint64_t integer, uint64_t float_, uint64_t integers_only, uint64_t stack, uint64_t size, uint64_t align,
+    uint64_t complex_, uint64_t floating, const uint64_t *words, uint64_t words_length, uint64_t *slots, uint64_t slots_length);
 
 /* How the next fixed argument travels (REFERENCE 9.2, 9.3). */
 barkpaddle_answer barkpaddle_argument_void(
-    uint64_t abi, uint64_t integer, uint64_t float_, uint64_t integers_only, uint64_t *slots, uint64_t slots_length);
+    uint64_t abi, uint64_t integer, uint64_t float_, uint64_t integers_only, uint64_t stack, uint64_t *slots, uint64_t slots_length);
 barkpaddle_answer barkpaddle_argument_scalar(
-    uint64_t abi, uint64_t integer, uint64_t float_, uint64_t integers_only, uint64_t kind, uint64_t size, uint64_t align,
+    uint64_t abi, uint64_t integer, uint64_t float_, uint64_t integers_only, uint64_t stack, uint64_t kind, uint64_t size, uint64_t align,
     uint64_t *slots, uint64_t slots_length);
 barkpaddle_answer barkpaddle_argument_aggregate(
-    uint64_t abi, uint64_t integer, uint64_t float_, uint64_t integers_only, uint64_t size, uint64_t align, uint64_t complex_,
-    uint64_t floating, const uint64_t *words, uint64_t words_length, uint64_t *slots, uint64_t slots_length);
+    uint64_t abi, uint64_t integer, uint64_t float_, uint64_t integers_only, uint64_t stack, uint64_t size, uint64_t align,
+    uint64_t complex_, uint64_t floating, const uint64_t *words, uint64_t words_length, uint64_t *slots, uint64_t slots_length);
 
 /* How the next argument after the dots travels (REFERENCE 9.5). */
 barkpaddle_answer barkpaddle_variadic_argument_void(
-    uint64_t abi, uint64_t integer, uint64_t float_, uint64_t integers_only, uint64_t *slots, uint64_t slots_length);
+    uint64_t abi, uint64_t integer, uint64_t float_, uint64_t integers_only, uint64_t stack, uint64_t *slots, uint64_t slots_length);
 barkpaddle_answer barkpaddle_variadic_argument_scalar(
-    uint64_t abi, uint64_t integer, uint64_t float_, uint64_t integers_only, uint64_t kind, uint64_t size, uint64_t align,
+    uint64_t abi, uint64_t integer, uint64_t float_, uint64_t integers_only, uint64_t stack, uint64_t kind, uint64_t size, uint64_t align,
     uint64_t *slots, uint64_t slots_length);
 barkpaddle_answer barkpaddle_variadic_argument_aggregate(
-    uint64_t abi, uint64_t integer, uint64_t float_, uint64_t integers_only, uint64_t size, uint64_t align, uint64_t complex_,
-    uint64_t floating, const uint64_t *words, uint64_t words_length, uint64_t *slots, uint64_t slots_length);
+    uint64_t abi, uint64_t integer, uint64_t float_, uint64_t integers_only, uint64_t stack, uint64_t size, uint64_t align,
+    uint64_t complex_, uint64_t floating, const uint64_t *words, uint64_t words_length, uint64_t *slots, uint64_t slots_length);
 
 /* What a fixed argument that travels as WAY_MEMORY is aligned to in the argument area (REFERENCE 9.7). Refuses like
  * barkpaddle_argument_aggregate, but never NO_ROOM. */
 barkpaddle_told barkpaddle_in_memory(
-    uint64_t abi, uint64_t integer, uint64_t float_, uint64_t integers_only, uint64_t size, uint64_t align, uint64_t complex_,
-    uint64_t floating, const uint64_t *words, uint64_t words_length);
+    uint64_t abi, uint64_t integer, uint64_t float_, uint64_t integers_only, uint64_t stack, uint64_t size, uint64_t align,
+    uint64_t complex_, uint64_t floating, const uint64_t *words, uint64_t words_length);
 
 /* ---- a lent call (REFERENCE 14) ----
  *
@@ -544,6 +563,9 @@ uint64_t barkpaddle_callee_pops(uint64_t convention);
  *     gp_offset         gp_offset: 0, 8, .., 40, or AREA_GP_END where no integer place is left
  *     fp_offset         fp_offset: AREA_FP_START, 64, .., 160, or AREA_FP_END where no float place is left
  *     overflow_offset   how far overflow_arg_area is behind `overflow`
+ *
+ * Lent from the first stack argument on, named parameters among it, `overflow` starts 16-aligned, and overflow_offset is the `stack` of the
+ * call that the result and the named parameters left.
  *
  * An answer's three offsets go to the next read; overflow_arg_area is then `overflow` plus overflow_offset. That `overflow` is 16-aligned
  * is for the caller to see to: where it isn't, a value that is aligned to 16 is looked for in a wrong place. A length is what may be read

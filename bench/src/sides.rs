@@ -1,6 +1,7 @@
 //! The sides: each starts a call and asks for one argument, and answers a sum of all that was said,
-//! so that nothing is left out and both can be held against each other. And what the library alone
-//! has: refused operations, and reads of variable argument lists.
+//! so that nothing is left out and both can be held against each other; but for the stack, which the
+//! original says nothing of. And what the library alone has: refused operations, and reads of
+//! variable argument lists.
 
 use crate::original::{self, Given, Row};
 use crate::values::{self, Numbers, Value};
@@ -19,6 +20,7 @@ pub struct Call {
     integer: u64,
     float: u64,
     integers_only: u64,
+    stack: u64,
 }
 
 #[repr(C)]
@@ -30,6 +32,8 @@ struct Outcome {
     floats_passed: u64,
     floats_given: u64,
     slots: u64,
+    stack_at: u64,
+    stack_bytes: u64,
 }
 
 #[repr(C)]
@@ -52,8 +56,8 @@ struct Part {
 #[rustfmt::skip]
 unsafe extern "C" {
     safe fn barkpaddle_fresh(abi: u64) -> Answer;
-    fn barkpaddle_argument_scalar(abi: u64, integer: u64, float: u64, integers_only: u64, kind: u64, size: u64, align: u64, slots: *mut u64, slots_length: u64) -> Answer;
-    fn barkpaddle_argument_aggregate(abi: u64, integer: u64, float: u64, integers_only: u64, size: u64, align: u64, complex: u64, floating: u64, words: *const u64, words_length: u64, slots: *mut u64, slots_length: u64) -> Answer;
+    fn barkpaddle_argument_scalar(abi: u64, integer: u64, float: u64, integers_only: u64, stack: u64, kind: u64, size: u64, align: u64, slots: *mut u64, slots_length: u64) -> Answer;
+    fn barkpaddle_argument_aggregate(abi: u64, integer: u64, float: u64, integers_only: u64, stack: u64, size: u64, align: u64, complex: u64, floating: u64, words: *const u64, words_length: u64, slots: *mut u64, slots_length: u64) -> Answer;
     fn barkpaddle_read_scalar(save: *const u8, save_length: u64, overflow: *const u8, overflow_length: u64, gp_offset: u64, fp_offset: u64, overflow_offset: u64, kind: u64, size: u64, align: u64) -> Part;
 }
 
@@ -101,20 +105,20 @@ pub fn ours(_: &'static Row, number: u64, asked: &Asked, slots: &mut [u64]) -> u
 // In line, so that nothing stands between a side and the entries.
 #[inline(always)]
 fn argument(call: Call, value: &Value, slots: &mut [u64]) -> Answer {
-    let Call { abi, integer, float, integers_only: mark } = call;
+    let Call { abi, integer, float, integers_only: mark, stack } = call;
     let (room, length) = (slots.as_mut_ptr(), slots.len() as u64);
     match &value.numbers {
         // SAFETY: the buffer is `slots`.
         Numbers::Scalar { kind, size, align } => unsafe {
             barkpaddle_argument_scalar(
-                abi, integer, float, mark, *kind, *size, *align, room, length,
+                abi, integer, float, mark, stack, *kind, *size, *align, room, length,
             )
         },
         // SAFETY: the list is `words`, the buffer is `slots`.
         Numbers::Aggregate { size, align, words } => unsafe {
             let (list, count) = (words.as_ptr(), words.len() as u64);
             barkpaddle_argument_aggregate(
-                abi, integer, float, mark, *size, *align, 0, 0, list, count, room, length,
+                abi, integer, float, mark, stack, *size, *align, 0, 0, list, count, room, length,
             )
         },
     }
@@ -141,8 +145,8 @@ impl Refused {
 
 /// One refused operation for each number that an argument can be refused with.
 pub fn refused() -> Vec<Refused> {
-    const CALL: Call = Call { abi: 0, integer: 6, float: 8, integers_only: 0 };
-    const NO_ABI: Call = Call { abi: 30, integer: 0, float: 0, integers_only: 0 };
+    const CALL: Call = Call { abi: 0, integer: 6, float: 8, integers_only: 0, stack: 0 };
+    const NO_ABI: Call = Call { abi: 30, integer: 0, float: 0, integers_only: 0, stack: 0 };
     const TOO_MANY: Call = Call { integer: 7, ..CALL };
     let make = |name, refusal, call, value, room| Refused { name, refusal, call, value, room };
     let two = |change: fn(&mut Vec<u64>)| {

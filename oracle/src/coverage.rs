@@ -2,17 +2,19 @@
 //!
 //! What can decide is read off the original's descriptions: each rule of both lists of each row,
 //! with what it comes to, each line for scalars that the row's fields let apply, and the same after
-//! the dots and behind the mark where these change the answer. A sheet covers them if each decides
-//! at least once, and if nothing else does: then this list is the right one.
+//! the dots and behind the mark where these change the answer; and each line of the table that says
+//! what goes to the stack, with each rounding that can be seen there. A sheet covers them if each
+//! decides at least once, and if nothing else does: then this list is the right one.
 
 use std::collections::HashMap;
 use std::io::{self, Write};
 
-use rucc_abi::{AbiDescription, Short, Travel, Variadic};
+use rucc_abi::{AbiDescription, ReturnPointer, Rule, Short, StackArgs, Travel, Variadic};
 
 use crate::numbers;
 use crate::sheet::{self, Asked, Decided, Ending, REFUSED};
 use crate::spending::{DARWIN_ARM64, End, Point, RISCV_LP64D, WINDOWS_ARM64};
+use crate::stack::MOVED_TO_WIDTH;
 use crate::values::LARGEST_SCALAR;
 
 /// Prints how often each of them decides. The inner error tells what is wrong with the sheet.
@@ -130,12 +132,33 @@ fn place(row: usize, rules: Rules, point: Point) -> String {
             };
             format!("row {row} {list} rule {at} {end}")
         }
+        Point::Stack(of, how) => on_the_stack(row, rules, of, how),
     }
+}
+
+/// For the stack the mark changes nothing, and the dots only where all behind them is in memory.
+///
+/// Where stack arguments aren't packed, every offset is a multiple of the width unless an alignment
+/// that is none went before. So hardly a start moves on to one there, and what does is counted for all
+/// these rows at once.
+fn on_the_stack(row: usize, rules: Rules, of: &str, how: &str) -> String {
+    let description = numbers::row(row);
+    let list = match rules {
+        Rules::Return => Rules::Return,
+        _ if nothing_left(description, rules) => Rules::VariadicArgument,
+        _ => Rules::Argument,
+    };
+    let list = list.text();
+    if how == MOVED_TO_WIDTH && description.stack_args != StackArgs::Packed {
+        return format!("any row {list} stack: {of} {how}");
+    }
+    format!("row {row} {list} stack: {of} {how}")
 }
 
 /// Everything that a sheet can show, in order. Of the refusals, 2, 3, 7 and 8 are missing: a sheet's
 /// calls come from its own operations, its pieces are whole and 1,025 of them stop it, there is room
-/// for the most slots of any answer, and it has no variable argument lists.
+/// for the most slots of any answer, it has no variable argument lists, and a stack isn't full before
+/// 65,536 operations (edge.rs).
 fn expected() -> Vec<String> {
     let mut expected: Vec<String> =
         ["fresh", "marked", "ignore", "direct", "pieces", "reference", "memory"]
@@ -143,14 +166,23 @@ fn expected() -> Vec<String> {
             .map(|word| format!("line {word}"))
             .collect();
     expected.extend([1, 4, 5, 6, 9].iter().map(|refusal| format!("refusal {refusal}")));
+    // Row 0 stands for all that don't pack.
+    expected.push(on_the_stack(0, Rules::Return, "pointer", MOVED_TO_WIDTH));
+    for of in ["pointer", "scalar", "aggregate"] {
+        expected.push(on_the_stack(0, Rules::Argument, of, MOVED_TO_WIDTH));
+    }
     for row in 0..numbers::ROWS {
         for what in ["fresh", "mark", "an argument after the dots"] {
             expected.push(format!("row {row} {what}"));
         }
         for &rules in Rules::of(row) {
             let description = numbers::row(row);
-            let points =
-                [vec![Point::Void], scalars(description, rules), aggregates(description, rules)];
+            let points = [
+                vec![Point::Void],
+                scalars(description, rules),
+                aggregates(description, rules),
+                stacked(description, rules),
+            ];
             expected.extend(points.concat().iter().map(|point| place(row, rules, *point)));
         }
     }
@@ -229,4 +261,81 @@ fn aggregates(row: &AbiDescription, rules: Rules) -> Vec<Point> {
         points.extend(ends.iter().map(|end| Point::Rule(at, *end)));
     }
     points
+}
+
+/// What can go to the stack, and how (REFERENCE 9.9).
+fn stacked(row: &AbiDescription, rules: Rules) -> Vec<Point> {
+    let lines = match rules {
+        Rules::Return => stacked_returns(row),
+        Rules::Argument => stacked_arguments(row, false),
+        _ if nothing_left(row, rules) => stacked_arguments(row, true),
+        // It goes there as any argument does.
+        _ => vec![],
+    };
+    let applying = lines.iter().filter(|(_, _, applies)| *applies);
+    applying.map(|(of, how, _)| Point::Stack(of, how)).collect()
+}
+
+/// What is of a value there, how, and whether a row can reach that.
+type StackLines = Vec<(&'static str, &'static str, bool)>;
+
+fn stacked_returns(row: &AbiDescription) -> StackLines {
+    let dedicated = row.return_pointer == ReturnPointer::Dedicated;
+    vec![
+        ("pointer", "none", true),
+        ("pointer", "in a register of its own", dedicated),
+        ("pointer", "given", !dedicated && row.banks.integer > 0),
+        ("pointer", "placed", !dedicated),
+    ]
+}
+
+/// Those of a fixed argument, or of one after dots behind which all is in memory.
+fn stacked_arguments(row: &AbiDescription, dots: bool) -> StackLines {
+    let integers = row.banks.integer > 0 && !dots;
+    let floats = row.banks.float > 0 && !dots;
+    let packed = row.stack_args == StackArgs::Packed;
+    let whole_words = !packed || dots;
+    let wide_by_reference = row.scalars.wide_is_by_reference;
+    let by_reference = wide_by_reference || has_rule(row, |rule| rule.then == Travel::ByReference);
+    let in_slots = has_rule(row, is_in_slots);
+    let short_in_slots = has_rule(row, |rule| is_in_slots(rule) && rule.short == Short::Unchanged);
+    let in_memory = has_rule(row, may_be_in_memory);
+    vec![
+        ("nothing", "travels", true),
+        ("pointer", "given", by_reference && integers),
+        ("pointer", "placed", by_reference),
+        ("pointer", MOVED_TO_WIDTH, by_reference && packed),
+        ("scalar", "in a float register", floats),
+        ("scalar", "given", integers),
+        ("scalar", "without a byte", !wide_by_reference),
+        ("scalar", "placed in part", integers && !row.banks.shared),
+        ("scalar", "placed whole", true),
+        ("scalar", "moved on to 16", true),
+        ("scalar", "moved on to its size", packed),
+        ("scalar", "moved on to 8", dots),
+        ("scalar", "of a length rounded up", whole_words),
+        ("scalar", "of a length as it is", !whole_words),
+        ("aggregate", "given", in_slots && integers),
+        ("aggregate", "in slots, placed whole", short_in_slots),
+        ("aggregate", "in memory", in_memory),
+        ("aggregate", "moved on to in_memory", in_memory || short_in_slots),
+        ("aggregate", "moved on to in_memory, less than the width", packed && !dots),
+        ("aggregate", "moved on to 8", dots),
+        ("aggregate", "of a length rounded up", in_memory && whole_words),
+        ("aggregate", "of a length as it is", in_memory && !whole_words),
+    ]
+}
+
+fn has_rule(row: &AbiDescription, is_such: impl Fn(&Rule) -> bool) -> bool {
+    row.arguments.iter().any(is_such)
+}
+
+fn is_in_slots(rule: &Rule) -> bool {
+    matches!(rule.then, Travel::AsFound | Travel::AsIntegers | Travel::AsOneInteger)
+}
+
+/// Whether an argument is in memory by this rule, or for want of registers.
+fn may_be_in_memory(rule: &Rule) -> bool {
+    matches!(rule.then, Travel::InMemory | Travel::InMemoryAndSpend)
+        || matches!(rule.short, Short::Memory | Short::MemoryAndDrain)
 }

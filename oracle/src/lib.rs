@@ -1,7 +1,9 @@
 //! The original Rust, unchanged, answering questions about the thirty calling conventions.
 
+pub mod agreement;
 pub mod coverage;
 pub mod damage;
+pub mod edge;
 pub mod find;
 pub mod generate;
 pub mod layouts;
@@ -16,5 +18,6 @@ pub mod rows;
 pub mod shapes;
 pub mod sheet;
 pub mod spending;
+pub mod stack;
 pub mod types;
 pub mod values;

@@ -5,7 +5,7 @@ use std::path::Path;
 use std::process::ExitCode;
 
 use oracle::{
-    coverage, damage, find, generate, layouts, lists, lookups, rows, shapes, sheet, types,
+    coverage, damage, edge, find, generate, layouts, lists, lookups, rows, shapes, sheet, types,
 };
 
 const USAGE: &str = "\
@@ -19,6 +19,7 @@ usage: oracle rows                         every fact of the thirty descriptions
        oracle coverage                     by which rules that sheet decides, and how often
        oracle generate SEED COUNT [good]   a random sheet of so many operations
        oracle generate SEED COUNT damaged  one that stops on its way
+       oracle edge                         one that gets to the largest stack offset
        oracle types                        what each type comes to, a sheet of types read likewise
        oracle types-generate SEED COUNT    such a sheet of random types, many of them refused
        oracle types-c SEED COUNT FOLDER [KIND]
@@ -87,6 +88,7 @@ fn answer(out: &mut impl Write, words: &[&str]) -> Option<io::Result<Result<(), 
             generate::write(out, number(seed)?, number(count)?)
         }
         ["generate", seed, count, "damaged"] => damage::write(out, number(seed)?, number(count)?),
+        ["edge"] => edge::write(out),
         ["types-generate", seed, count] => types::write(out, number(seed)?, number(count)?),
         ["types-c", seed, count, folder] => {
             types::write_c(Path::new(folder), number(seed)?, number(count)?, None)

@@ -2,7 +2,8 @@
 //! memory (REFERENCE 3). The Rust has none. Those of a variable argument list are reader.rs's.
 //!
 //! A sheet's call is always one that its own operations led to, its lists are whole, and its
-//! slots have room, so BAD_CALL, BAD_LIST and NO_ROOM have no place here. BAD_EXTENT comes last.
+//! slots have room, so BAD_LIST has no place here, and BAD_CALL and NO_ROOM are given for the stack
+//! alone, by stack.rs. BAD_EXTENT comes last.
 
 use crate::numbers::ROWS;
 use crate::values::{
@@ -11,9 +12,11 @@ use crate::values::{
 };
 
 pub const BAD_ABI: u64 = 1;
+pub const BAD_CALL: u64 = 2;
 pub const BAD_KIND: u64 = 4;
 pub const BAD_SIZE: u64 = 5;
 pub const BAD_ALIGN: u64 = 6;
+pub const NO_ROOM: u64 = 7;
 pub const BAD_AREA: u64 = 8;
 pub const BAD_EXTENT: u64 = 9;
 

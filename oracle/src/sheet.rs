@@ -1,20 +1,23 @@
 //! `oracle sheet`: reads a sheet and prints its lines (REFERENCE 11).
 //!
-//! Ways, slots and counts left come from the Rust. Refusals, stops and the split into passed over
-//! and given come from the rules; where they and the Rust can't both be right, the run ends.
+//! Ways, slots and counts left come from the Rust. Refusals, stops, the split into passed over and
+//! given, and where on the stack the rest stands come from the rules; where they and the Rust can't
+//! both be right, the run ends.
 
 use std::fmt;
 use std::io::{self, Write};
 
 use rucc_abi::{Call, Pass};
 
+use crate::agreement;
 use crate::numbers;
 use crate::records::{
     self, AGGREGATE, ARGUMENT, BYTES, FRESH, MARK, PIECE, RETURN, Record, SCALAR,
     VARIADIC_ARGUMENT, VOID,
 };
 use crate::refusals;
-use crate::spending::{self, Before, Outcome, Points, Spent, Way};
+use crate::spending::{self, Before, Outcome, Points, Spent};
+use crate::stack::{self, Stack, Stacked};
 use crate::values::{MOST_PIECES, Piece, Scalar, Shape, Value};
 
 /// Prints a line for each operation of the sheet. The inner error tells of a contradiction.
@@ -138,14 +141,17 @@ impl Reader<'_> {
     }
 }
 
-/// An open call: the Rust's, the number of its row, and its mark, which the Rust doesn't show.
+/// An open call: the Rust's, the number of its row, its mark, which the Rust doesn't show, and its
+/// next stack offset, which the Rust doesn't have.
 struct Open {
     call: Call,
     row: usize,
     integers_only: bool,
+    offset: u64,
 }
 
-/// What a line says: what happened, the counts left, what was spent, and the slots or a refusal.
+/// What a line says: what happened, the counts left, what was spent, the slots or a refusal, and the
+/// stack offset before and after.
 pub struct Line {
     pub word: &'static str,
     left: [u64; 2],
@@ -153,16 +159,18 @@ pub struct Line {
     floats: Spent,
     /// The slots, or the refusal's number.
     pub rest: Vec<String>,
+    offsets: [u64; 2],
 }
 
 impl fmt::Display for Line {
     fn fmt(&self, out: &mut fmt::Formatter<'_>) -> fmt::Result {
-        let Self { word, left, integers, floats, rest } = self;
+        let Self { word, left, integers, floats, rest, offsets } = self;
         write!(out, "{word} {} {}", left[0], left[1])?;
         for spent in [integers, floats] {
             write!(out, " {} {}", spent.passed_over, spent.given)?;
         }
-        rest.iter().try_for_each(|word| write!(out, " {word}"))
+        rest.iter().try_for_each(|word| write!(out, " {word}"))?;
+        write!(out, " {} {}", offsets[0], offsets[1])
     }
 }
 
@@ -171,11 +179,11 @@ fn perform(open: &mut Option<Open>, operation: Operation) -> Result<(Line, Decid
         *open = None;
         let decided = |row, asked| Decided { row, asked, integers_only: false, points: vec![] };
         if let Some(refusal) = refusals::of_fresh(description) {
-            return Ok((refused([0, 0], refusal), decided(None, Asked::Nothing)));
+            return Ok((refused([0, 0], 0, refusal), decided(None, Asked::Nothing)));
         }
         let row = description as usize;
-        let call = open.insert(Open { call: numbers::row(row).call(), row, integers_only: false });
-        return Ok((unspent("fresh", call.left()), decided(Some(row), Asked::Fresh)));
+        let call = open.insert(Open::new(row));
+        return Ok((call.unspent("fresh"), decided(Some(row), Asked::Fresh)));
     }
     let call = open.as_mut().ok_or(Ending::Stop)?;
     let (row, integers_only) = (Some(call.row), call.integers_only);
@@ -196,6 +204,10 @@ fn perform(open: &mut Option<Open>, operation: Operation) -> Result<(Line, Decid
 }
 
 impl Open {
+    fn new(row: usize) -> Self {
+        Self { call: numbers::row(row).call(), row, integers_only: false, offset: 0 }
+    }
+
     fn left(&self) -> [u64; 2] {
         [u64::from(self.call.integer_left()), u64::from(self.call.float_left())]
     }
@@ -206,20 +218,48 @@ impl Open {
     }
 
     fn mark(&mut self) -> Result<Line, Ending> {
+        if let Some(refusal) = stack::of_offset(self.offset) {
+            return Ok(self.refused(refusal));
+        }
         let before = self.before();
         self.call = self.call.clone().variadic();
         self.integers_only = spending::marked(before);
         if self.left() != [before.integers, before.floats] {
             return Err(Ending::Contradiction(format!("a mark changed {before:?}")));
         }
-        Ok(unspent("marked", self.left()))
+        Ok(self.unspent("marked"))
     }
 
     /// A return, an argument or one after the dots.
     fn place(&mut self, asked: Asked, value: &Value, points: &mut Points) -> Result<Line, Ending> {
-        if let Some(refusal) = refusals::of_value(value) {
-            return Ok(refused(self.left(), refusal));
+        let refusal = stack::of_offset(self.offset).or_else(|| refusals::of_value(value));
+        if let Some(refusal) = refusal {
+            return Ok(self.refused(refusal));
         }
+        let was = self.call.clone();
+        let (pass, outcome) = self.travel(asked, value, points)?;
+        match self.stack(asked, value, &pass, outcome, points)? {
+            Ok(Stacked { next, .. }) => {
+                let offsets = [self.offset, next];
+                self.offset = next;
+                Ok(placed(&pass, self.left(), outcome, offsets))
+            }
+            // It leaves the call, of which the Rust has spent by now, and goes by no rule.
+            Err(refusal) => {
+                self.call = was;
+                points.clear();
+                Ok(self.refused(refusal))
+            }
+        }
+    }
+
+    /// How the value travels and what it spends, by the Rust and by the rules.
+    fn travel(
+        &mut self,
+        asked: Asked,
+        value: &Value,
+        points: &mut Points,
+    ) -> Result<(Pass, Outcome), Ending> {
         let before = self.before();
         let call = &mut self.call;
         let (pass, outcome) = match asked {
@@ -232,99 +272,147 @@ impl Open {
             ),
             _ => (value.ask(|arg| call.argument(arg)), spending::argument(before, value, points)),
         };
-        if !agree(before, &pass, self.left(), outcome) {
+        if !agreement::on_registers(before, &pass, self.left(), outcome) {
             let left = self.left();
             return Err(Ending::Contradiction(format!(
                 "on {asked:?} {value:?} of {before:?}\nthe Rust: {pass:?}, left {left:?}\nthe rules: {outcome:?}"
             )));
         }
-        Ok(placed(&pass, self.left(), outcome))
+        Ok((pass, outcome))
+    }
+
+    /// Where the rules have what isn't in registers, or their refusal where the stack has no room.
+    fn stack(
+        &self,
+        asked: Asked,
+        value: &Value,
+        pass: &Pass,
+        outcome: Outcome,
+        points: &mut Points,
+    ) -> Result<Result<Stacked, u64>, Ending> {
+        let stack = Stack { row: self.row, offset: self.offset };
+        let stacked = match asked {
+            Asked::Return => stack::returned(stack, outcome, points),
+            Asked::VariadicArgument => stack::variadic_argument(stack, value, outcome, points),
+            _ => stack::argument(stack, value, outcome, points),
+        };
+        let agreed = |stacked: &Stacked| {
+            agreement::on_the_stack(stack, asked, value, pass, outcome, *stacked)
+        };
+        if !stacked.iter().all(agreed) {
+            return Err(Ending::Contradiction(format!(
+                "on {asked:?} {value:?} of {stack:?}\nthe Rust: {pass:?}\nthe rules: {outcome:?}, {stacked:?}"
+            )));
+        }
+        Ok(stacked)
+    }
+
+    fn unspent(&self, word: &'static str) -> Line {
+        unspent(word, self.left(), self.offset)
+    }
+
+    fn refused(&self, refusal: u64) -> Line {
+        refused(self.left(), self.offset, refusal)
     }
 }
 
-/// Whether the Rust and the rules say the same: the way, its number of slots, and of each bank
-/// that what was there is what was passed over, given and left. What the Rust has in memory no
-/// register carries (REFERENCE 9.1), so the rules may give it none.
-fn agree(before: Before, pass: &Pass, left: [u64; 2], outcome: Outcome) -> bool {
-    let way = match pass {
-        Pass::Ignore => Way::Ignore,
-        Pass::Direct => Way::Direct,
-        Pass::Pieces(slots) => Way::Pieces(slots.len() as u64),
-        Pass::Reference => Way::Reference,
-        Pass::Memory => Way::Memory,
-    };
-    let adds_up = |was: u64, spent: Spent, is: u64| was == spent.passed_over + spent.given + is;
-    let given = outcome.integers.given + outcome.floats.given;
-    way == outcome.way
-        && (way != Way::Memory || given == 0)
-        && adds_up(before.integers, outcome.integers, left[0])
-        && adds_up(before.floats, outcome.floats, left[1])
-}
-
-fn placed(pass: &Pass, left: [u64; 2], outcome: Outcome) -> Line {
+fn placed(pass: &Pass, left: [u64; 2], outcome: Outcome, offsets: [u64; 2]) -> Line {
     let rest = match pass {
         Pass::Pieces(slots) => slots.iter().map(numbers::slot).collect(),
         _ => Vec::new(),
     };
     let Outcome { integers, floats, .. } = outcome;
-    Line { word: numbers::way(pass), left, integers, floats, rest }
+    Line { word: numbers::way(pass), left, integers, floats, rest, offsets }
 }
 
-fn unspent(word: &'static str, left: [u64; 2]) -> Line {
+fn unspent(word: &'static str, left: [u64; 2], offset: u64) -> Line {
     let spent = Spent::default();
-    Line { word, left, integers: spent, floats: spent, rest: Vec::new() }
+    Line { word, left, integers: spent, floats: spent, rest: vec![], offsets: [offset; 2] }
 }
 
-fn refused(left: [u64; 2], refusal: u64) -> Line {
-    Line { rest: vec![refusal.to_string()], ..unspent(REFUSED, left) }
+fn refused(left: [u64; 2], offset: u64, refusal: u64) -> Line {
+    Line { rest: vec![refusal.to_string()], ..unspent(REFUSED, left, offset) }
 }
 
 #[cfg(test)]
 mod tests {
-    use rucc_abi::Slot;
-
     use super::*;
 
-    const BEFORE: Before = Before { row: 0, integers: 6, floats: 8, integers_only: false };
+    /// A call on this row that so many integers went before, with any offset.
+    fn open(row: usize, integers: u64, offset: u64) -> Open {
+        let mut call = Open::new(row);
+        for _ in 0..integers {
+            line(&mut call, Asked::Argument, &integer(4));
+        }
+        Open { offset, ..call }
+    }
 
-    /// One eightbyte of integers, as the rules have it.
-    const OUTCOME: Outcome = Outcome {
-        way: Way::Pieces(1),
-        integers: Spent { passed_over: 0, given: 1 },
-        floats: Spent { passed_over: 0, given: 0 },
-    };
+    fn line(call: &mut Open, asked: Asked, value: &Value) -> String {
+        let line = match asked {
+            Asked::Mark => call.mark(),
+            _ => call.place(asked, value, &mut Points::new()),
+        };
+        line.unwrap_or_else(|_| panic!("the Rust and the rules say the same")).to_string()
+    }
 
-    fn slots(count: usize) -> Pass {
-        Pass::Pieces(vec![Slot::Integer { offset: 0, size: 8 }; count])
+    fn integer(size: u64) -> Value {
+        Value::Scalar(Scalar { kind: 0, size, align: size })
+    }
+
+    fn aggregate(size: u64) -> Value {
+        let pieces = Vec::new();
+        Value::Aggregate(Shape { size, align: 1, complex: false, floating: false, pieces })
     }
 
     #[test]
-    fn the_same_answer_agrees() {
-        assert!(agree(BEFORE, &slots(1), [5, 8], OUTCOME));
+    fn an_offset_that_can_not_be_is_refused_first() {
+        for offset in [stack::MOST_STACK + 1, u64::MAX] {
+            for asked in [Asked::Mark, Asked::Return, Asked::Argument, Asked::VariadicArgument] {
+                // The last would be refused for its size.
+                for value in [Value::Void, aggregate(8), aggregate(u64::MAX)] {
+                    let mut call = open(3, 1, offset);
+                    let expected = format!("refused 7 8 0 0 0 0 2 {offset} {offset}");
+                    assert_eq!(line(&mut call, asked, &value), expected);
+                    assert!(!call.integers_only);
+                }
+            }
+        }
     }
 
+    /// Each of them would be given registers or pass them over. The next value still finds them.
     #[test]
-    fn another_way_or_number_of_slots_contradicts() {
-        assert!(!agree(BEFORE, &Pass::Memory, [5, 8], OUTCOME));
-        assert!(!agree(BEFORE, &slots(2), [5, 8], OUTCOME));
+    fn what_has_no_room_spends_nothing() {
+        let wide_float = Value::Scalar(Scalar { kind: 4, size: 64, align: 8 });
+        let most = stack::MOST_STACK;
+        let cases = [
+            (0, 0, "6 8", &wide_float),
+            (1, 7, "1 8", &integer(16)),
+            (1, 7, "1 8", &aggregate(16)),
+            (2, 1, "7 8", &wide_float),
+            (5, 7, "1 8", &integer(16)),
+            (9, 1, "2 0", &aggregate(12)),
+            (22, 0, "2 0", &integer(8)),
+            (22, 0, "2 0", &aggregate(6)),
+        ];
+        for (row, integers, left, value) in cases {
+            let mut call = open(row, integers, most);
+            for asked in [Asked::Argument, Asked::VariadicArgument] {
+                let expected = format!("refused {left} 0 0 0 0 7 {most} {most}");
+                assert_eq!(line(&mut call, asked, value), expected, "row {row}");
+            }
+            let next = line(&mut call, Asked::Argument, &integer(4));
+            assert!(next.ends_with(&format!(" 0 1 0 0 {most} {most}")), "row {row}: {next}");
+        }
     }
 
+    /// Nothing was decided, so nothing is covered.
     #[test]
-    fn what_is_in_memory_is_given_nothing() {
-        let spent = Spent { passed_over: 1, given: 0 };
-        let passed = Outcome { way: Way::Memory, integers: spent, floats: Spent::default() };
-        assert!(agree(BEFORE, &Pass::Memory, [5, 8], passed));
-        let given = Outcome { integers: Spent { passed_over: 0, given: 1 }, ..passed };
-        assert!(!agree(BEFORE, &Pass::Memory, [5, 8], given));
-        let float = Spent { passed_over: 0, given: 1 };
-        let given = Outcome { integers: Spent::default(), floats: float, ..passed };
-        assert!(!agree(BEFORE, &Pass::Memory, [6, 7], given));
-    }
-
-    #[test]
-    fn a_register_that_nobody_accounts_for_contradicts() {
-        assert!(!agree(BEFORE, &slots(1), [6, 8], OUTCOME));
-        assert!(!agree(BEFORE, &slots(1), [4, 8], OUTCOME));
-        assert!(!agree(BEFORE, &slots(1), [5, 7], OUTCOME));
+    fn what_has_no_room_has_no_points() {
+        let mut points = Points::new();
+        let mut call = open(0, 6, stack::MOST_STACK);
+        assert!(call.place(Asked::Argument, &integer(8), &mut points).is_ok());
+        assert!(points.is_empty());
+        assert!(call.place(Asked::Argument, &Value::Void, &mut points).is_ok());
+        assert!(!points.is_empty());
     }
 }

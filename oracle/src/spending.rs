@@ -54,6 +54,8 @@ pub enum Point {
     Scalar(&'static str),
     /// An aggregate, by the rule of this place in its list.
     Rule(usize, End),
+    /// What of it goes to the stack, and how (stack.rs).
+    Stack(&'static str, &'static str),
 }
 
 /// What a rule that matched came to.

@@ -38,7 +38,7 @@ pub struct Bridge {
 }
 
 impl Bridge {
-    /// The start of a call: both banks whole, no mark.
+    /// The start of a call: both banks whole, no mark, nothing on the stack.
     ///
     /// # Errors
     ///
@@ -59,8 +59,9 @@ impl Bridge {
     /// # Errors
     ///
     /// [`Refusal::BadAbi`] where there is no description of the call's number, then
-    /// [`Refusal::BadCall`] where the call has more registers left than there are, or the
-    /// integers-only mark on a description that doesn't use it.
+    /// [`Refusal::BadCall`] where the call has more registers left than there are, the
+    /// integers-only mark on a description that doesn't use it, or a stack offset above
+    /// [`MOST_STACK`](crate::limits::MOST_STACK).
     pub fn variadic(&mut self) -> Result<(), Refusal> {
         Refusal::check(ffi::barkpaddle_bridge_variadic(&mut self.call.numbers).refusal)
     }

@@ -9,7 +9,7 @@ use crate::numbers::Refusal;
 use crate::outcome::Outcome;
 use crate::values::{Aggregate, Value};
 
-/// A call: its description, the registers left, and the integers-only mark.
+/// A call: its description, the registers left, the integers-only mark, and the next stack offset.
 ///
 /// It is a value: each operation hands back the next call, and a refused one leaves this as it was.
 /// [`Bridge`](crate::Bridge) is one that is updated where it stands.
@@ -21,7 +21,7 @@ pub struct Call {
 }
 
 impl Call {
-    /// The start of a call: both banks whole, no mark.
+    /// The start of a call: both banks whole, no mark, nothing on the stack.
     ///
     /// # Errors
     ///
@@ -32,9 +32,15 @@ impl Call {
 
     /// A call of these numbers, as one that was kept elsewhere. Each operation checks them.
     #[must_use]
-    pub const fn from_parts(abi: Abi, integer: u64, float: u64, integers_only: bool) -> Self {
+    pub const fn from_parts(
+        abi: Abi,
+        integer: u64,
+        float: u64,
+        integers_only: bool,
+        stack: u64,
+    ) -> Self {
         let integers_only = integers_only as u64;
-        Self { numbers: ffi::Call { abi: abi.0, integer, float, integers_only } }
+        Self { numbers: ffi::Call { abi: abi.0, integer, float, integers_only, stack } }
     }
 
     /// The same call, to a function whose parameters end in dots. It may come late and more than
@@ -43,11 +49,12 @@ impl Call {
     /// # Errors
     ///
     /// [`Refusal::BadAbi`] where there is no description of the call's number, then
-    /// [`Refusal::BadCall`] where the call has more registers left than there are, or the
-    /// integers-only mark on a description that doesn't use it.
+    /// [`Refusal::BadCall`] where the call has more registers left than there are, the
+    /// integers-only mark on a description that doesn't use it, or a stack offset above
+    /// [`MOST_STACK`](crate::limits::MOST_STACK).
     pub fn variadic(self) -> Result<Self, Refusal> {
-        let ffi::Call { abi, integer, float, integers_only } = self.numbers;
-        Self::next(&ffi::barkpaddle_variadic(abi, integer, float, integers_only))
+        let ffi::Call { abi, integer, float, integers_only, stack } = self.numbers;
+        Self::next(&ffi::barkpaddle_variadic(abi, integer, float, integers_only, stack))
     }
 
     /// How the return value comes back.
@@ -89,10 +96,11 @@ impl Call {
     /// # Errors
     ///
     /// The first of these that applies: [`Refusal::BadAbi`] where there is no description of the
-    /// call's number; [`Refusal::BadCall`] where the call has more registers left than there are, or
-    /// the integers-only mark on a description that doesn't use it; [`Refusal::BadList`] where the
-    /// aggregate has too many pieces; [`Refusal::BadSize`] for its own size; [`Refusal::BadAlign`]
-    /// for its own alignment; its pieces from the first, each [`Refusal::BadKind`],
+    /// call's number; [`Refusal::BadCall`] where the call has more registers left than there are, the
+    /// integers-only mark on a description that doesn't use it, or a stack offset above
+    /// [`MOST_STACK`](crate::limits::MOST_STACK); [`Refusal::BadList`] where the aggregate has too
+    /// many pieces; [`Refusal::BadSize`] for its own size; [`Refusal::BadAlign`] for its own
+    /// alignment; its pieces from the first, each [`Refusal::BadKind`],
     /// [`Refusal::BadSize`] for its size, then for its offset, [`Refusal::BadAlign`];
     /// [`Refusal::BadExtent`] where the offset and the size of a piece add up to more than the
     /// aggregate's size.
@@ -125,6 +133,13 @@ impl Call {
         self.numbers.integers_only != 0
     }
 
+    /// The next stack offset: where the next argument that goes to the stack may start, in bytes from
+    /// the first stack argument. Behind the last argument it is how many bytes there are in all.
+    #[must_use]
+    pub const fn stack(self) -> u64 {
+        self.numbers.stack
+    }
+
     fn place<'b>(
         self,
         operation: Operation,
@@ -143,7 +158,7 @@ impl Call {
 }
 
 impl fmt::Debug for Call {
-    /// Its four numbers.
+    /// Its five numbers.
     fn fmt(&self, out: &mut fmt::Formatter<'_>) -> fmt::Result {
         self.numbers.fmt(out)
     }

@@ -9,7 +9,7 @@
 //! and a shared one of the same call can't overlap: both are borrowed at once. `Scalar`, `Piece` and
 //! `Entry` are `repr(C)` structs of three, four and four `u64`, so a slice of them is a slice of that
 //! many words, any of which may hold any number. A lent call is borrowed mutably beside the slices, so
-//! it overlaps neither; it is a `repr(C)` struct of four words, which may hold any number, too. Every
+//! it overlaps neither; it is a `repr(C)` struct of five words, which may hold any number, too. Every
 //! struct is asserted to be laid out as the header's (ffi.rs, and values.rs for these three).
 #![allow(unsafe_code)]
 
@@ -31,7 +31,7 @@ pub fn place(
     value: &Value<'_>,
     slots: &mut [u64],
 ) -> ffi::Answer {
-    let ffi::Call { abi, integer, float, integers_only: mark } = call;
+    let ffi::Call { abi, integer, float, integers_only: mark, stack } = call;
     let (room, length) = (slots.as_mut_ptr(), slots.len() as u64);
     match value {
         Value::Void => {
@@ -41,7 +41,7 @@ pub fn place(
                 Operation::VariadicArgument => ffi::barkpaddle_variadic_argument_void,
             };
             // SAFETY: the buffer is `slots`.
-            unsafe { entry(abi, integer, float, mark, room, length) }
+            unsafe { entry(abi, integer, float, mark, stack, room, length) }
         }
         Value::Scalar(scalar) => {
             let entry = match operation {
@@ -51,7 +51,7 @@ pub fn place(
             };
             let (kind, size, align) = (scalar.kind().number(), scalar.size(), scalar.align());
             // SAFETY: the buffer is `slots`.
-            unsafe { entry(abi, integer, float, mark, kind, size, align, room, length) }
+            unsafe { entry(abi, integer, float, mark, stack, kind, size, align, room, length) }
         }
         Value::Aggregate(shape) => {
             let entry = match operation {
@@ -68,6 +68,7 @@ pub fn place(
                     integer,
                     float,
                     mark,
+                    stack,
                     shape.size,
                     shape.align,
                     complex,
@@ -121,7 +122,7 @@ fn asked_about<'a>(value: &Value<'a>) -> (ffi::What, &'a [Piece]) {
 
 /// What a fixed argument that travels as Memory is aligned to.
 pub fn in_memory(call: ffi::Call, shape: &Aggregate<'_>) -> ffi::Told {
-    let ffi::Call { abi, integer, float, integers_only: mark } = call;
+    let ffi::Call { abi, integer, float, integers_only: mark, stack } = call;
     let (complex, floating) = (u64::from(shape.complex), u64::from(shape.floating));
     let (words, count) = (shape.pieces.as_ptr().cast(), words_in(shape.pieces));
     // SAFETY: the list is `shape.pieces`.
@@ -131,6 +132,7 @@ pub fn in_memory(call: ffi::Call, shape: &Aggregate<'_>) -> ffi::Told {
             integer,
             float,
             mark,
+            stack,
             shape.size,
             shape.align,
             complex,

@@ -6,7 +6,7 @@
 //! follow pointers, and entries.rs says why they may.
 #![allow(unsafe_code)]
 
-/// A call: its description, the registers left, and the integers-only mark.
+/// A call: its description, the registers left, the integers-only mark, and the next stack offset.
 #[derive(Debug, Clone, Copy, PartialEq, Eq, Hash)]
 #[repr(C)]
 pub struct Call {
@@ -14,6 +14,7 @@ pub struct Call {
     pub integer: u64,
     pub float: u64,
     pub integers_only: u64,
+    pub stack: u64,
 }
 
 /// How a value travels, or why it was refused: what an operation on a lent call answers.
@@ -26,6 +27,8 @@ pub struct Outcome {
     pub floats_passed: u64,
     pub floats_given: u64,
     pub slots: u64,
+    pub stack_at: u64,
+    pub stack_bytes: u64,
 }
 
 /// What an operation on a call answers.
@@ -145,8 +148,8 @@ macro_rules! laid_out {
 }
 pub(crate) use laid_out;
 
-laid_out!(Call, 32 { abi: 0, integer: 8, float: 16, integers_only: 24 });
-laid_out!(Outcome, 56 {
+laid_out!(Call, 40 { abi: 0, integer: 8, float: 16, integers_only: 24, stack: 32 });
+laid_out!(Outcome, 72 {
     refusal: 0,
     way: 8,
     integers_passed: 16,
@@ -154,8 +157,10 @@ laid_out!(Outcome, 56 {
     floats_passed: 32,
     floats_given: 40,
     slots: 48,
+    stack_at: 56,
+    stack_bytes: 64,
 });
-laid_out!(Answer, 88 { next: 0, outcome: 32 });
+laid_out!(Answer, 112 { next: 0, outcome: 40 });
 laid_out!(What, 48 { form: 0, kind: 8, size: 16, align: 24, complex: 32, floating: 40 });
 laid_out!(Told, 16 { refusal: 0, value: 8 });
 laid_out!(RecordShape, 40 { refusal: 0, size: 8, align: 16, complex: 24, floating: 32 });
@@ -198,7 +203,7 @@ laid_out!(Part, 56 {
 unsafe extern "C" {
     pub safe fn barkpaddle_version() -> u64;
     pub safe fn barkpaddle_fresh(abi: u64) -> Answer;
-    pub safe fn barkpaddle_variadic(abi: u64, integer: u64, float: u64, integers_only: u64) -> Answer;
+    pub safe fn barkpaddle_variadic(abi: u64, integer: u64, float: u64, integers_only: u64, stack: u64) -> Answer;
     pub safe fn barkpaddle_description(abi: u64) -> DescriptionFields;
     pub safe fn barkpaddle_return_rule(abi: u64, index: u64) -> Rule;
     pub safe fn barkpaddle_argument_rule(abi: u64, index: u64) -> Rule;
@@ -210,19 +215,19 @@ unsafe extern "C" {
     pub safe fn barkpaddle_callee_pops(convention: u64) -> u64;
     pub safe fn barkpaddle_bridge_variadic(call: &mut Call) -> Outcome;
 
-    pub fn barkpaddle_return_void(abi: u64, integer: u64, float: u64, integers_only: u64, slots: *mut u64, slots_length: u64) -> Answer;
-    pub fn barkpaddle_argument_void(abi: u64, integer: u64, float: u64, integers_only: u64, slots: *mut u64, slots_length: u64) -> Answer;
-    pub fn barkpaddle_variadic_argument_void(abi: u64, integer: u64, float: u64, integers_only: u64, slots: *mut u64, slots_length: u64) -> Answer;
-    pub fn barkpaddle_return_scalar(abi: u64, integer: u64, float: u64, integers_only: u64, kind: u64, size: u64, align: u64, slots: *mut u64, slots_length: u64) -> Answer;
-    pub fn barkpaddle_argument_scalar(abi: u64, integer: u64, float: u64, integers_only: u64, kind: u64, size: u64, align: u64, slots: *mut u64, slots_length: u64) -> Answer;
-    pub fn barkpaddle_variadic_argument_scalar(abi: u64, integer: u64, float: u64, integers_only: u64, kind: u64, size: u64, align: u64, slots: *mut u64, slots_length: u64) -> Answer;
-    pub fn barkpaddle_return_aggregate(abi: u64, integer: u64, float: u64, integers_only: u64, size: u64, align: u64, complex: u64, floating: u64, words: *const u64, words_length: u64, slots: *mut u64, slots_length: u64) -> Answer;
-    pub fn barkpaddle_argument_aggregate(abi: u64, integer: u64, float: u64, integers_only: u64, size: u64, align: u64, complex: u64, floating: u64, words: *const u64, words_length: u64, slots: *mut u64, slots_length: u64) -> Answer;
-    pub fn barkpaddle_variadic_argument_aggregate(abi: u64, integer: u64, float: u64, integers_only: u64, size: u64, align: u64, complex: u64, floating: u64, words: *const u64, words_length: u64, slots: *mut u64, slots_length: u64) -> Answer;
+    pub fn barkpaddle_return_void(abi: u64, integer: u64, float: u64, integers_only: u64, stack: u64, slots: *mut u64, slots_length: u64) -> Answer;
+    pub fn barkpaddle_argument_void(abi: u64, integer: u64, float: u64, integers_only: u64, stack: u64, slots: *mut u64, slots_length: u64) -> Answer;
+    pub fn barkpaddle_variadic_argument_void(abi: u64, integer: u64, float: u64, integers_only: u64, stack: u64, slots: *mut u64, slots_length: u64) -> Answer;
+    pub fn barkpaddle_return_scalar(abi: u64, integer: u64, float: u64, integers_only: u64, stack: u64, kind: u64, size: u64, align: u64, slots: *mut u64, slots_length: u64) -> Answer;
+    pub fn barkpaddle_argument_scalar(abi: u64, integer: u64, float: u64, integers_only: u64, stack: u64, kind: u64, size: u64, align: u64, slots: *mut u64, slots_length: u64) -> Answer;
+    pub fn barkpaddle_variadic_argument_scalar(abi: u64, integer: u64, float: u64, integers_only: u64, stack: u64, kind: u64, size: u64, align: u64, slots: *mut u64, slots_length: u64) -> Answer;
+    pub fn barkpaddle_return_aggregate(abi: u64, integer: u64, float: u64, integers_only: u64, stack: u64, size: u64, align: u64, complex: u64, floating: u64, words: *const u64, words_length: u64, slots: *mut u64, slots_length: u64) -> Answer;
+    pub fn barkpaddle_argument_aggregate(abi: u64, integer: u64, float: u64, integers_only: u64, stack: u64, size: u64, align: u64, complex: u64, floating: u64, words: *const u64, words_length: u64, slots: *mut u64, slots_length: u64) -> Answer;
+    pub fn barkpaddle_variadic_argument_aggregate(abi: u64, integer: u64, float: u64, integers_only: u64, stack: u64, size: u64, align: u64, complex: u64, floating: u64, words: *const u64, words_length: u64, slots: *mut u64, slots_length: u64) -> Answer;
     pub fn barkpaddle_bridge_returns(call: &mut Call, what: What, words: *const u64, words_length: u64, slots: *mut u64, slots_length: u64) -> Outcome;
     pub fn barkpaddle_bridge_argument(call: &mut Call, what: What, words: *const u64, words_length: u64, slots: *mut u64, slots_length: u64) -> Outcome;
     pub fn barkpaddle_bridge_variadic_argument(call: &mut Call, what: What, words: *const u64, words_length: u64, slots: *mut u64, slots_length: u64) -> Outcome;
-    pub fn barkpaddle_in_memory(abi: u64, integer: u64, float: u64, integers_only: u64, size: u64, align: u64, complex: u64, floating: u64, words: *const u64, words_length: u64) -> Told;
+    pub fn barkpaddle_in_memory(abi: u64, integer: u64, float: u64, integers_only: u64, stack: u64, size: u64, align: u64, complex: u64, floating: u64, words: *const u64, words_length: u64) -> Told;
     pub fn barkpaddle_pieces(members: *const u64, members_length: u64, pieces: *mut u64, pieces_length: u64) -> Told;
     pub fn barkpaddle_record(words: *const u64, words_length: u64) -> RecordShape;
     pub fn barkpaddle_flatten(types: *const u64, types_length: u64, members: *const u64, members_length: u64, pieces: *mut u64, pieces_length: u64) -> Flat;

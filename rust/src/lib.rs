@@ -1,9 +1,10 @@
 //! How each value of a call travels, on thirty calling conventions.
 //!
 //! Start a [`Call`] on an [`Abi`], then ask for its return value and its arguments in order. Each
-//! answer has the next call and the [`Outcome`]: the way, the slots, the registers spent. The code
-//! that answers is proved: it has an answer to every input. What it can't take is refused with a
-//! [`Refusal`], and a refused operation leaves the call and the lent buffer as they were.
+//! answer has the next call and the [`Outcome`]: the way, the slots, the registers spent, and where on
+//! the stack the rest is ([`Stacked`]). The code that answers is proved: it has an answer to every
+//! input. What it can't take is refused with a [`Refusal`], and a refused operation leaves the call
+//! and the lent buffer as they were.
 //!
 //! ```
 //! use barkpaddle::{Abi, Aggregate, Call, Kind, Piece, Room, Way};
@@ -21,6 +22,7 @@
 //! assert_eq!(slots, [(Kind::Integer, 0), (Kind::Double, 8)]);
 //! // The next argument is asked of the next call.
 //! assert_eq!((passed.next.integer_left(), passed.next.float_left()), (5, 7));
+//! assert_eq!((passed.outcome.stacked, passed.next.stack()), (None, 0));
 //! # Ok::<(), barkpaddle::Refusal>(())
 //! ```
 //!
@@ -62,7 +64,7 @@ pub use numbers::{
     Architecture, BitInts, Cleanup, Kind, Narrow, Refusal, ReturnPointer, Short, StackArgs, System,
     Travel, Variadic, Way,
 };
-pub use outcome::{Outcome, Room, Slot, Slots, Spent};
+pub use outcome::{Outcome, Room, Slot, Slots, Spent, Stacked};
 pub use records::{flatten, pieces, record};
 pub use targets::{Convention, Target};
 pub use va_list::{Offsets, VaList};

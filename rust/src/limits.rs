@@ -18,6 +18,8 @@ pub const MOST_MEMBERS: usize = 4_096;
 pub const MOST_ELEMENTS: u64 = 1_024;
 /// The levels of a type, a scalar counting as one.
 pub const MOST_LEVELS: usize = 16;
+/// The stack offset of a [`Call`](crate::Call), and where a value on the stack ends: 2^40.
+pub const MOST_STACK: u64 = 1_099_511_627_776;
 /// No result has more slots.
 pub const MOST_SLOTS: usize = 8;
 /// The words of a slot, of which a lent buffer holds a third of its length.

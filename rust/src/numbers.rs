@@ -109,8 +109,8 @@ numbered! {
     Refusal {
         /// There is no description of this number.
         BadAbi = 1,
-        /// The call has more registers left than there are, or the integers-only mark on a
-        /// description that doesn't use it.
+        /// The call has more registers left than there are, the integers-only mark on a description
+        /// that doesn't use it, or a stack offset above its limit.
         BadCall = 2,
         /// The list has too many pieces or members; of types: too many entries or members, or no
         /// entry.
@@ -123,7 +123,8 @@ numbered! {
         /// An alignment is above its limit; in a record: all are 0; in a variable argument list: one
         /// isn't its scalar's size.
         BadAlign = 6,
-        /// The result doesn't fit the buffer, or is more pieces than an aggregate may have.
+        /// The result doesn't fit the buffer, is more pieces than an aggregate may have, or would end
+        /// past the limit on the stack.
         NoRoom = 7,
         /// A save area has another length, an offset into it is no place, or the overflow area ends
         /// before the scalar does.
@@ -149,7 +150,8 @@ impl fmt::Display for Refusal {
         out.write_str(match self {
             Self::BadAbi => "there is no description of this number",
             Self::BadCall => {
-                "the call has more registers left than its description, or a mark that isn't its own"
+                "the call has more registers left than its description, a mark that isn't its own, or \
+                 a stack offset above the limit"
             }
             Self::BadList => "the list has too many records or members, or not whole ones, or none",
             Self::BadKind => "a kind has a number that is none",
@@ -161,7 +163,10 @@ impl fmt::Display for Refusal {
                 "an alignment is above its limit, or all of a record's are 0, or one isn't its \
                  scalar's size in a list"
             }
-            Self::NoRoom => "the result doesn't fit the buffer, or is more pieces than there may be",
+            Self::NoRoom => {
+                "the result doesn't fit the buffer, is more pieces than there may be, or ends past the \
+                 limit on the stack"
+            }
             Self::BadArea => {
                 "a save area of another length, an offset into it that is no place, or an overflow \
                  area that ends before the scalar does"

@@ -16,6 +16,9 @@ pub struct Outcome<'b> {
     pub way: Way,
     /// What this operation spent.
     pub spent: Spent,
+    /// Where on the stack the value stands. None where none of it is there: it is in registers, or
+    /// has no bytes.
+    pub stacked: Option<Stacked>,
     slots: &'b [u64],
 }
 
@@ -38,6 +41,7 @@ impl<'b> Outcome<'b> {
                 floats_passed: numbers.floats_passed,
                 floats_given: numbers.floats_given,
             },
+            stacked: Stacked::of(numbers.stack_at, numbers.stack_bytes),
             slots: &buffer[..SLOT_WORDS * numbers.slots as usize],
         })
     }
@@ -56,6 +60,59 @@ pub struct Spent {
     pub floats_passed: u64,
     /// Float registers given.
     pub floats_given: u64,
+}
+
+/// What a value takes up on the stack: so many bytes from an offset on.
+///
+/// By the way in which it travels, these are
+///
+/// - [`Way::Direct`]: the scalar; of one that was given integer registers, its bytes behind those
+///   that these hold;
+/// - [`Way::Pieces`]: the last slots, as many as were given no register, a word of the description's
+///   integer width each; of a scalar, as with [`Way::Direct`];
+/// - [`Way::Reference`]: the address. Of a result only this can be there;
+/// - [`Way::Memory`]: the aggregate, whole;
+///
+/// and padding behind it, where the length is more than that.
+///
+/// ```
+/// use barkpaddle::{Abi, Aggregate, Call, Kind, Piece, Room, Scalar, Way};
+///
+/// // Five integers leave one register, which a record of two has no room in: it is on the stack.
+/// let mut call = Call::fresh(Abi::SYSV_AMD64)?;
+/// for _ in 0..5 {
+///     call = call.argument(Scalar::integer(8), &mut [])?.next;
+/// }
+/// let pieces = [Piece::new(Kind::Integer, 8, 8, 0), Piece::new(Kind::Integer, 8, 8, 8)];
+/// let mut room = Room::new();
+/// let record = call.argument(Aggregate::new(16, 8, &pieces), &mut room)?;
+/// let stacked = record.outcome.stacked.expect("it is on the stack");
+/// assert_eq!((record.outcome.way, stacked.offset, stacked.length), (Way::Memory, 0, 16));
+///
+/// // The next integer has the register, and the one behind it stands behind the record.
+/// let sixth = record.next.argument(Scalar::integer(8), &mut [])?;
+/// assert_eq!(sixth.outcome.stacked, None);
+/// let seventh = sixth.next.argument(Scalar::integer(8), &mut [])?;
+/// assert_eq!(seventh.outcome.stacked.map(|stacked| stacked.offset), Some(16));
+/// assert_eq!(seventh.next.stack(), 24);
+/// # Ok::<(), barkpaddle::Refusal>(())
+/// ```
+#[derive(Debug, Clone, Copy, PartialEq, Eq, Hash)]
+#[non_exhaustive]
+pub struct Stacked {
+    /// The first of the bytes, counted from the first stack argument. Where that is belongs to the
+    /// bridge; on [`Abi::WINDOWS_X64`](crate::Abi::WINDOWS_X64) it is behind the 32 bytes of home
+    /// space.
+    pub offset: u64,
+    /// How many bytes there are, at least 1.
+    pub length: u64,
+}
+
+impl Stacked {
+    /// What the library says so: no bytes are nowhere.
+    fn of(offset: u64, length: u64) -> Option<Self> {
+        (length != 0).then_some(Self { offset, length })
+    }
 }
 
 /// One register's worth of a value: which of its bytes go there.

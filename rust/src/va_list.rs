@@ -32,7 +32,7 @@ use crate::{entries, ffi};
 /// let overflow = [1; 16];
 ///
 /// let named = Call::fresh(Abi::SYSV_AMD64)?.argument(Scalar::integer(4), &mut [])?.next;
-/// let mut list = VaList::new(&save, &overflow, Offsets::after(named, 0)?);
+/// let mut list = VaList::new(&save, &overflow, Offsets::after(named)?);
 /// assert_eq!(list.next(Scalar::integer(8))?, 7_u64.to_le_bytes());
 /// assert_eq!(list.next(Scalar::new(Kind::Double, 8, 8))?, 2.5_f64.to_le_bytes());
 /// let x87 = Scalar::new(Kind::X87Extended, 16, 16);
@@ -134,24 +134,39 @@ impl Offsets {
     pub const FLOAT_END: u64 = 176;
 
     /// The offsets at which a list starts, behind the named parameters. `call` is what these and the
-    /// result have left: the one that the first argument after the dots is asked of. `overflow` is
-    /// where the named parameters that are on the stack end, rounded up to a multiple of 8.
+    /// result have left: the one that the first argument after the dots is asked of. Its
+    /// [`stack`](Call::stack) is the offset into the overflow area, which is then lent from the first
+    /// stack argument on. Where it is lent from elsewhere on, that offset is changed:
+    ///
+    /// ```
+    /// use barkpaddle::{Abi, Aggregate, Call, Offsets};
+    ///
+    /// // A record of 24 bytes is on the stack.
+    /// let call = Call::fresh(Abi::SYSV_AMD64)?.argument(Aggregate::new(24, 8, &[]), &mut [])?.next;
+    /// let offsets = Offsets::after(call)?;
+    /// assert_eq!(offsets, Offsets { integer: 0, float: 48, overflow: 24 });
+    /// // Lent from 16 on, which is a multiple of 16 as well.
+    /// let from_16 = Offsets { overflow: offsets.overflow - 16, ..offsets };
+    /// assert_eq!(from_16.overflow, 8);
+    /// # Ok::<(), barkpaddle::Refusal>(())
+    /// ```
     ///
     /// # Errors
     ///
     /// [`Refusal::BadAbi`] where the call isn't one of [`Abi::SYSV_AMD64`], the only description
     /// whose lists are read here; then [`Refusal::BadCall`] where it has more registers left than
-    /// there are, or the integers-only mark.
-    pub fn after(call: Call, overflow: u64) -> Result<Self, Refusal> {
+    /// there are, the integers-only mark, or a stack offset above
+    /// [`MOST_STACK`](crate::limits::MOST_STACK).
+    pub fn after(call: Call) -> Result<Self, Refusal> {
         if call.abi() != Abi::SYSV_AMD64 {
             return Err(Refusal::BadAbi);
         }
-        // It is such a call, and that leaves its registers as they are; but it is checked.
+        // It is such a call, and that leaves its numbers as they are; but it is checked.
         let call = call.variadic()?;
         Ok(Self {
             integer: Self::INTEGER_END - 8 * call.integer_left(),
             float: Self::FLOAT_END - 16 * call.float_left(),
-            overflow,
+            overflow: call.stack(),
         })
     }
 }

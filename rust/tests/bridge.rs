@@ -1,7 +1,7 @@
 //! A lent call by itself, and beside the calls that are values.
 
 use barkpaddle::{
-    Abi, Aggregate, Bridge, Call, Kind, Piece, Refusal, Room, Scalar, Value, Way, limits,
+    Abi, Aggregate, Bridge, Call, Kind, Outcome, Piece, Refusal, Room, Scalar, Value, Way, limits,
 };
 
 const SYSV: Abi = Abi::SYSV_AMD64;
@@ -13,15 +13,26 @@ fn the_record_that_goes_to_memory() {
     for left in (1..6).rev() {
         let outcome = bridge.argument(Scalar::integer(8), &mut room).expect("accepted");
         assert_eq!((outcome.way, outcome.spent.integers_given), (Way::Direct, 1));
-        assert_eq!(bridge.call(), Call::from_parts(SYSV, left, 8, false));
+        assert_eq!(outcome.stacked, None);
+        assert_eq!(bridge.call(), Call::from_parts(SYSV, left, 8, false, 0));
     }
     let two = [Piece::new(Kind::Integer, 8, 8, 0), Piece::new(Kind::Integer, 8, 8, 8)];
     let outcome = bridge.argument(Aggregate::new(16, 8, &two), &mut room).expect("accepted");
     assert_eq!((outcome.way, outcome.slots().len()), (Way::Memory, 0));
-    assert_eq!(bridge.call().integer_left(), 1);
-    // A result's address takes the last one.
+    assert_eq!(bytes(&outcome), Some([0, 16]));
+    assert_eq!(bridge.call(), Call::from_parts(SYSV, 1, 8, false, 16));
+    // A result's address takes the last one, and the next such is on the stack.
     let outcome = bridge.returns(Aggregate::new(100, 8, &[]), &mut []).expect("accepted");
-    assert_eq!((outcome.way, bridge.call().integer_left()), (Way::Reference, 0));
+    assert_eq!((outcome.way, outcome.stacked), (Way::Reference, None));
+    assert_eq!(bridge.call(), Call::from_parts(SYSV, 0, 8, false, 16));
+    let outcome = bridge.returns(Aggregate::new(100, 8, &[]), &mut []).expect("accepted");
+    assert_eq!((outcome.way, bytes(&outcome)), (Way::Reference, Some([16, 8])));
+    assert_eq!(bridge.call(), Call::from_parts(SYSV, 0, 8, false, 24));
+}
+
+/// Where on the stack an outcome's value stands, and how many bytes it has there.
+fn bytes(outcome: &Outcome<'_>) -> Option<[u64; 2]> {
+    outcome.stacked.map(|stacked| [stacked.offset, stacked.length])
 }
 
 #[test]
@@ -36,7 +47,7 @@ fn the_mark_is_stored() {
     let outcome = bridge.variadic_argument(double, &mut slots).expect("accepted");
     assert_eq!((outcome.way, outcome.spent.integers_given), (Way::Pieces, 1));
     assert_eq!(slots, [0, 0, 8, 9, 9]);
-    assert_eq!(bridge.call(), Call::from_parts(Abi::WINDOWS_ARM64, 7, 8, true));
+    assert_eq!(bridge.call(), Call::from_parts(Abi::WINDOWS_ARM64, 7, 8, true, 0));
 }
 
 #[test]
@@ -46,9 +57,11 @@ fn a_refusal_leaves_the_call_and_the_buffer() {
     let past = Value::Aggregate(Aggregate::new(15, 8, &two));
     let good = Call::fresh(SYSV).expect("a description");
     let refused = [
-        (Call::from_parts(Abi(Abi::COUNT), 9, 9, true), both, Refusal::BadAbi),
-        (Call::from_parts(SYSV, 7, 8, false), Value::Void, Refusal::BadCall),
-        (Call::from_parts(SYSV, 6, 8, true), both, Refusal::BadCall),
+        (Call::from_parts(Abi(Abi::COUNT), 9, 9, true, u64::MAX), both, Refusal::BadAbi),
+        (Call::from_parts(SYSV, 7, 8, false, 3), Value::Void, Refusal::BadCall),
+        (Call::from_parts(SYSV, 6, 8, true, 3), both, Refusal::BadCall),
+        (Call::from_parts(SYSV, 6, 8, false, limits::MOST_STACK + 1), both, Refusal::BadCall),
+        (Call::from_parts(SYSV, 6, 8, false, u64::MAX), Value::Void, Refusal::BadCall),
         (good, Scalar::new(Kind::Unnamed(5), 65, 1).into(), Refusal::BadKind),
         (good, Scalar::integer(65).into(), Refusal::BadSize),
         (good, past, Refusal::BadExtent),
@@ -135,12 +148,21 @@ impl Random {
     /// A call that can't be, where it isn't the mark of Windows arm64.
     fn spoil(&mut self, call: Call) -> Call {
         let (abi, integer, float) = (call.abi(), call.integer_left(), call.float_left());
-        match self.below(4) {
-            0 => Call::from_parts(Abi(Abi::COUNT + self.below(3)), integer, float, false),
-            1 => Call::from_parts(abi, 9, float, call.integers_only()),
-            2 => Call::from_parts(abi, integer, u64::MAX, call.integers_only()),
-            _ => Call::from_parts(abi, integer, float, true),
+        let (mark, stack) = (call.integers_only(), call.stack());
+        match self.below(5) {
+            0 => Call::from_parts(Abi(Abi::COUNT + self.below(3)), integer, float, false, stack),
+            1 => Call::from_parts(abi, 9, float, mark, stack),
+            2 => Call::from_parts(abi, integer, u64::MAX, mark, stack),
+            3 => Call::from_parts(abi, integer, float, mark, limits::MOST_STACK + 1),
+            _ => Call::from_parts(abi, integer, float, true, stack),
         }
+    }
+
+    /// The same call further on: as far as there is hardly any room left on the stack.
+    fn at_the_end(&mut self, call: Call) -> Call {
+        let (integer, float) = (call.integer_left(), call.float_left());
+        let stack = limits::MOST_STACK - self.below(48);
+        Call::from_parts(call.abi(), integer, float, call.integers_only(), stack)
     }
 }
 
@@ -154,10 +176,15 @@ fn random_histories_are_the_same_by_value() {
     let too_many = [Piece::default(); limits::MOST_PIECES + 1];
     let mut refusals = [0; 10];
     let mut ways = [0; 5];
+    let (mut on_the_stack, mut past_its_end) = (0, 0);
     for history in 0..HISTORIES {
         let abi = Abi(history % Abi::COUNT);
         let mut bridge = Bridge::fresh(abi).expect("a description");
         let mut call = Call::fresh(abi).expect("a description");
+        if random.once_in(4) {
+            call = random.at_the_end(call);
+            bridge = Bridge::from(call);
+        }
         for operation in 0..OPERATIONS {
             let kept = call;
             let spoilt = random.once_in(20);
@@ -205,11 +232,15 @@ fn random_histories_are_the_same_by_value() {
                     (Ok(passed), Ok(outcome)) => {
                         assert_eq!(outcome, passed.outcome, "{place}");
                         ways[outcome.way.number() as usize] += 1;
+                        check_place(&place, call.stack(), &outcome, passed.next.stack());
+                        on_the_stack += u64::from(outcome.stacked.is_some());
                         call = passed.next;
                         None
                     }
                     (passed, outcome) => {
                         assert_eq!(outcome.err(), passed.err(), "{place}");
+                        let no_room = passed.err() == Some(Refusal::NoRoom);
+                        past_its_end += u64::from(no_room && length == lent.len());
                         passed.err()
                     }
                 };
@@ -235,4 +266,17 @@ fn random_histories_are_the_same_by_value() {
         assert!(if of_an_area { count == 0 } else { count >= 100 }, "{number} of {refusals:?}");
     }
     assert!(ways.iter().all(|&count| count >= 1_000), "{ways:?}");
+    assert!(on_the_stack >= 10_000 && past_its_end >= 1_000, "{on_the_stack} {past_its_end}");
+}
+
+/// What an operation has on the stack starts behind what those before it have there, and the next
+/// starts behind it.
+fn check_place(place: &str, before: u64, outcome: &Outcome<'_>, after: u64) {
+    match bytes(outcome) {
+        None => assert_eq!(after, before, "{place}"),
+        Some([offset, length]) => {
+            assert!(offset >= before && length > 0 && after <= limits::MOST_STACK, "{place}");
+            assert_eq!(offset + length, after, "{place}");
+        }
+    }
 }

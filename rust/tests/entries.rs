@@ -7,16 +7,16 @@ use std::mem;
 
 use barkpaddle::{
     Abi, Aggregate, Architecture, Bridge, Call, Convention, Description, Entry, Kind, Offsets,
-    Outcome, Passed, Piece, Refusal, Room, Rule, Scalar, Slot, Spent, System, Target, Test,
-    VERSION, VaList, Value, Way, WrongVersion, check_version, flatten, library_version, limits,
-    pieces, record,
+    Outcome, Passed, Piece, Refusal, Room, Rule, Scalar, Slot, Spent, Stacked, System, Target,
+    Test, VERSION, VaList, Value, Way, WrongVersion, check_version, flatten, library_version,
+    limits, pieces, record,
 };
 
 const SYSV: Abi = Abi::SYSV_AMD64;
 
 #[test]
 fn a_refused_operation_writes_nothing() {
-    let call = Call::from_parts(SYSV, 7, 8, false);
+    let call = Call::from_parts(SYSV, 7, 8, false, 0);
     let mut slots = [9; 5];
     assert_eq!(call.argument(Value::Void, &mut slots), Err(Refusal::BadCall));
     let call = Call::fresh(SYSV).expect("a description");
@@ -34,7 +34,7 @@ fn words_behind_the_slots_stay() {
     let mut slots = [9; 7];
     let passed = call.argument(Aggregate::new(8, 8, &one), &mut slots).expect("accepted");
     assert_eq!((passed.outcome.way, passed.outcome.slots().len()), (Way::Pieces, 1));
-    assert_eq!(passed.next, Call::from_parts(SYSV, 6, 7, false));
+    assert_eq!(passed.next, Call::from_parts(SYSV, 6, 7, false, 0));
     assert_eq!(slots, [2, 0, 0, 9, 9, 9, 9]);
 }
 
@@ -49,7 +49,13 @@ fn the_five_arguments_and_the_record_that_goes_to_memory() {
     let both = Aggregate::new(16, 8, &two);
     let passed = call.argument(both, &mut room).expect("accepted");
     assert_eq!((passed.outcome.way, passed.next.integer_left()), (Way::Memory, 1));
+    assert_eq!((bytes(&passed.outcome), passed.next.stack()), (Some([0, 16]), 16));
     assert_eq!(call.in_memory(both), Ok(8));
+    // The register that is left goes to the next integer, and the one behind it is on the stack.
+    let sixth = passed.next.argument(Scalar::integer(8), &mut []).expect("accepted");
+    assert_eq!((sixth.outcome.stacked, sixth.next.stack()), (None, 16));
+    let seventh = sixth.next.argument(Scalar::integer(8), &mut []).expect("accepted");
+    assert_eq!((bytes(&seventh.outcome), seventh.next.stack()), (Some([16, 8]), 24));
 }
 
 #[test]
@@ -60,8 +66,8 @@ fn the_mark_is_row_3s() {
     let passed = call.argument(Scalar::new(Kind::Double, 8, 8), &mut room).expect("accepted");
     assert_eq!(passed.outcome.slots().next().map(|slot| slot.kind), Some(Kind::Integer));
     assert_eq!(passed.outcome.spent.integers_given, 1);
-    assert_eq!(passed.next, Call::from_parts(Abi::WINDOWS_ARM64, 7, 8, true));
-    let call = Call::from_parts(SYSV, 0, 0, true);
+    assert_eq!(passed.next, Call::from_parts(Abi::WINDOWS_ARM64, 7, 8, true, 0));
+    let call = Call::from_parts(SYSV, 0, 0, true, 0);
     assert_eq!(call.variadic(), Err(Refusal::BadCall));
 }
 
@@ -75,7 +81,7 @@ fn every_refusal_says_what_was_wrong() {
     deep.extend((0..limits::MOST_LEVELS as u64).map(|element| Entry::array(element, 1)));
     let refusals = [
         Call::fresh(Abi(Abi::COUNT)).expect_err("refused"),
-        Call::from_parts(SYSV, 7, 0, false).variadic().expect_err("refused"),
+        Call::from_parts(SYSV, 7, 0, false, 0).variadic().expect_err("refused"),
         refused(Aggregate::new(8, 8, &many).into()),
         refused(Scalar::new(Kind::Unnamed(5), 65, 4_097).into()),
         refused(Scalar::new(Kind::Quad, limits::LARGEST_SCALAR + 1, 4_097).into()),
@@ -148,15 +154,16 @@ fn a_float_has_its_formats_size() {
 fn plain_types_are_keys() {
     fn key<T: Eq + Hash>() {}
     key::<(Abi, Description, Rule, Test)>();
-    key::<(Call, Bridge, Passed<'_>, Outcome<'_>, Spent, Slot)>();
+    key::<(Call, Bridge, Passed<'_>, Outcome<'_>, Spent, Slot, Stacked)>();
     key::<(Scalar, Piece, Entry, Aggregate<'_>, Value<'_>)>();
     key::<(VaList<'_>, Offsets)>();
     key::<(Kind, Way, Refusal, Target, Convention, WrongVersion)>();
 
     let call = Call::fresh(SYSV).expect("a description");
     let next = call.argument(Scalar::integer(8), &mut []).expect("accepted").next;
-    let calls = HashSet::from([call, next, Call::from_parts(SYSV, 6, 8, false)]);
+    let calls = HashSet::from([call, next, Call::from_parts(SYSV, 6, 8, false, 0)]);
     assert_eq!(calls.len(), 2);
+    assert!(!calls.contains(&Call::from_parts(SYSV, 6, 8, false, 8)));
 }
 
 #[test]
@@ -194,6 +201,140 @@ fn lookups_of_unknown_codes_answer_none() {
     assert_eq!(Convention::Ms.attribute(&mut [0; 5]), Err(Refusal::NoRoom));
 }
 
+// ---- the stack
+
+/// Where on the stack an outcome's value stands, and how many bytes it has there.
+fn bytes(outcome: &Outcome<'_>) -> Option<[u64; 2]> {
+    outcome.stacked.map(|stacked| [stacked.offset, stacked.length])
+}
+
+#[derive(Debug, Clone, Copy)]
+enum Operation {
+    Return,
+    Argument,
+    VariadicArgument,
+}
+
+use Operation::{Argument, Return, VariadicArgument};
+
+/// An operation by value and lent, which say the same of the stack: the bytes, and the next offset.
+fn stands(
+    operation: Operation,
+    call: Call,
+    value: Value<'_>,
+) -> Result<(Option<[u64; 2]>, u64), Refusal> {
+    let (mut by_value, mut lent) = ([9; 24], [9; 24]);
+    let mut bridge = Bridge::from(call);
+    let (passed, outcome) = match operation {
+        Return => (call.returns(value, &mut by_value), bridge.returns(value, &mut lent)),
+        Argument => (call.argument(value, &mut by_value), bridge.argument(value, &mut lent)),
+        VariadicArgument => (
+            call.variadic_argument(value, &mut by_value),
+            bridge.variadic_argument(value, &mut lent),
+        ),
+    };
+    let by_value_stands = passed.map(|passed| (bytes(&passed.outcome), passed.next.stack()));
+    let lent_stands = outcome.map(|outcome| bytes(&outcome));
+    assert_eq!(lent_stands, by_value_stands.map(|(bytes, _)| bytes), "{operation:?} on {call:?}");
+    let stack = by_value_stands.map_or(call.stack(), |(_, next)| next);
+    assert_eq!(bridge.call().stack(), stack, "{operation:?} on {call:?}");
+    if by_value_stands.is_err() {
+        assert_eq!((bridge.call(), by_value, lent), (call, [9; 24], [9; 24]));
+    }
+    by_value_stands
+}
+
+#[test]
+fn where_the_rest_of_a_value_stands() {
+    let x87 = |size, align| Value::Scalar(Scalar::new(Kind::X87Extended, size, align));
+    let float = |size, align| Value::Scalar(Scalar::new(Kind::Double, size, align));
+    let integer = |size| Value::Scalar(Scalar::integer(size));
+    let quad = Scalar::float(Kind::Quad).expect("a format").into();
+    let singles: Vec<Piece> = (0..5).map(|at| Piece::new(Kind::Single, 4, 4, 4 * at)).collect();
+    let five = Aggregate::new(20, 4, &singles).into();
+    let three = Aggregate::new(12, 4, &singles[..3]).into();
+    let plain = |size, align| Value::Aggregate(Aggregate::new(size, align, &[]));
+    // The row, the integers and floats left, the mark and the offset; what is asked; the bytes, and
+    // the next offset.
+    let cases = [
+        ((0, 1, 8, false, 8), Argument, x87(16, 16), Some([16, 16]), 32),
+        ((0, 1, 8, false, 8), Argument, x87(12, 4), Some([8, 16]), 24),
+        ((0, 1, 8, false, 0), Argument, five, Some([0, 24]), 24),
+        ((0, 0, 8, false, 0), Return, plain(24, 8), Some([0, 8]), 8),
+        ((0, 6, 8, false, 3), Argument, integer(8), None, 3),
+        ((0, 0, 8, false, 3), Argument, integer(8), Some([8, 8]), 16),
+        ((0, 0, 8, false, 3), Argument, integer(0), None, 3),
+        ((1, 0, 8, false, 0), Return, plain(24, 8), None, 0),
+        ((1, 1, 8, false, 8), Argument, integer(16), Some([16, 16]), 32),
+        ((2, 0, 0, false, 1), Argument, integer(2), Some([2, 2]), 4),
+        ((2, 0, 0, false, 4), Argument, three, Some([4, 12]), 16),
+        ((2, 0, 0, false, 4), VariadicArgument, three, Some([8, 16]), 24),
+        ((2, 8, 8, false, 0), VariadicArgument, plain(24, 8), Some([0, 8]), 8),
+        ((2, 1, 0, false, 8), Argument, float(24, 8), Some([24, 16]), 40),
+        ((3, 1, 8, true, 8), Argument, quad, Some([16, 8]), 24),
+        ((4, 0, 0, false, 0), Argument, plain(8, 8), Some([0, 8]), 8),
+        ((4, 0, 0, false, 0), Argument, plain(12, 4), Some([0, 8]), 8),
+        ((5, 1, 8, false, 8), Argument, integer(16), Some([16, 8]), 24),
+        ((6, 0, 0, false, 0), Return, plain(12, 4), Some([0, 4]), 4),
+        ((9, 2, 0, false, 0), Argument, x87(12, 4), Some([0, 4]), 4),
+        ((22, 2, 0, false, 0), Argument, plain(6, 4), Some([0, 8]), 8),
+    ];
+    for ((row, integer, float, mark, stack), operation, value, bytes, next) in cases {
+        let call = Call::from_parts(Abi(row), integer, float, mark, stack);
+        let stands = stands(operation, call, value);
+        assert_eq!(stands, Ok((bytes, next)), "{operation:?} {value:?} on {call:?}");
+    }
+}
+
+/// An offset at the limit is a call's, and one above it isn't, whatever is asked, void, the mark and
+/// `in_memory` among it.
+#[test]
+fn offsets_at_the_limit_and_past_it() {
+    const LIMIT: u64 = limits::MOST_STACK;
+    let wrong = Scalar::new(Kind::Unnamed(5), 65, 4_097).into();
+    let plain = Aggregate::new(8, 8, &[]);
+    for abi in (0..Abi::COUNT).map(Abi) {
+        let whole = Call::fresh(abi).expect("a description");
+        let (integer, float) = (whole.integer_left(), whole.float_left());
+        let at = |stack| Call::from_parts(abi, integer, float, false, stack);
+        for operation in [Return, Argument, VariadicArgument] {
+            assert_eq!(stands(operation, at(LIMIT), Value::Void), Ok((None, LIMIT)));
+            assert_eq!(stands(operation, at(LIMIT), wrong), Err(Refusal::BadKind));
+            for stack in [LIMIT + 1, u64::MAX] {
+                for value in [Value::Void, Scalar::integer(8).into(), plain.into(), wrong] {
+                    assert_eq!(stands(operation, at(stack), value), Err(Refusal::BadCall));
+                }
+            }
+        }
+        assert_eq!(at(LIMIT).variadic().map(Call::stack), Ok(LIMIT));
+        assert_eq!(at(LIMIT).in_memory(plain), Ok(8));
+        for stack in [LIMIT + 1, u64::MAX] {
+            assert_eq!(at(stack).variadic(), Err(Refusal::BadCall));
+            assert_eq!(Bridge::from(at(stack)).variadic(), Err(Refusal::BadCall));
+            assert_eq!(at(stack).in_memory(plain), Err(Refusal::BadCall));
+        }
+    }
+}
+
+/// What would end past the limit has no room, and nothing is written, though its slots would fit.
+#[test]
+fn the_end_of_the_stack() {
+    const LIMIT: u64 = limits::MOST_STACK;
+    let byte = Value::Scalar(Scalar::integer(1));
+    let darwin = Call::from_parts(Abi::DARWIN_ARM64, 0, 0, false, LIMIT - 1);
+    assert_eq!(stands(Argument, darwin, byte), Ok((Some([LIMIT - 1, 1]), LIMIT)));
+    assert_eq!(stands(VariadicArgument, darwin, byte), Err(Refusal::NoRoom));
+    let sysv = Call::from_parts(SYSV, 0, 0, false, LIMIT - 1);
+    assert_eq!(stands(Argument, sysv, byte), Err(Refusal::NoRoom));
+    let last = Call::from_parts(SYSV, 0, 0, false, LIMIT - 8);
+    assert_eq!(stands(Argument, last, byte), Ok((Some([LIMIT - 8, 8]), LIMIT)));
+    let windows = Call::from_parts(Abi::WINDOWS_X64, 0, 0, false, LIMIT);
+    let plain = Aggregate::new(8, 8, &[]).into();
+    assert_eq!(stands(Argument, windows, plain), Err(Refusal::NoRoom));
+    let windows = Call::from_parts(Abi::WINDOWS_X64, 0, 0, false, LIMIT - 8);
+    assert_eq!(stands(Argument, windows, plain), Ok((Some([LIMIT - 8, 8]), LIMIT)));
+}
+
 // ---- pieces that end past their aggregate
 
 /// Each operation about an aggregate, by value and lent, and `in_memory`: all refuse it so, or none
@@ -221,13 +362,13 @@ fn ask(place: &str, call: Call, shape: Aggregate<'_>, expected: Option<Refusal>)
     assert_eq!(call.in_memory(shape), told, "{place}, in_memory of {call:?}");
 }
 
-/// The same on every row: on a whole call, and on one that has no registers left, and the mark where
-/// the row has it.
+/// The same on every row: on a whole call, and on one that has no registers left, an odd offset, and
+/// the mark where the row has it.
 fn ask_everywhere(place: &str, shape: Aggregate<'_>, expected: Option<Refusal>) {
     for abi in (0..Abi::COUNT).map(Abi) {
         ask(place, Call::fresh(abi).expect("a description"), shape, expected);
         let marked = abi == Abi::WINDOWS_ARM64;
-        ask(place, Call::from_parts(abi, 0, 0, marked), shape, expected);
+        ask(place, Call::from_parts(abi, 0, 0, marked, 3), shape, expected);
     }
 }
 
@@ -308,18 +449,20 @@ fn what_is_wrong_with_the_call_goes_before_a_piece_past() {
         let whole = Call::fresh(abi).expect("a description");
         let (integer, float) = (whole.integer_left(), whole.float_left());
         let mut wrong = vec![
-            Call::from_parts(abi, integer + 1, float, false),
-            Call::from_parts(abi, integer, float + 1, false),
+            Call::from_parts(abi, integer + 1, float, false, 0),
+            Call::from_parts(abi, integer, float + 1, false, 0),
+            Call::from_parts(abi, integer, float, false, limits::MOST_STACK + 1),
+            Call::from_parts(abi, integer, float, false, u64::MAX),
         ];
         if abi != Abi::WINDOWS_ARM64 {
-            wrong.push(Call::from_parts(abi, integer, float, true));
+            wrong.push(Call::from_parts(abi, integer, float, true, 0));
         }
         for call in wrong {
             ask("a call that can't be", call, past, Some(Refusal::BadCall));
         }
     }
     for number in [Abi::COUNT, 256, u64::MAX] {
-        let call = Call::from_parts(Abi(number), 0, 0, false);
+        let call = Call::from_parts(Abi(number), 0, 0, false, u64::MAX);
         ask("no description", call, past, Some(Refusal::BadAbi));
     }
 }

@@ -93,6 +93,7 @@ fn limits_and_the_version() {
     assert_eq!(macros["MOST_MEMBERS"], limits::MOST_MEMBERS as u64);
     assert_eq!(macros["MOST_ELEMENTS"], limits::MOST_ELEMENTS);
     assert_eq!(macros["MOST_LEVELS"], limits::MOST_LEVELS as u64);
+    assert_eq!(macros["MOST_STACK"], limits::MOST_STACK);
     assert_eq!(macros["MOST_SLOTS"], limits::MOST_SLOTS as u64);
     assert_eq!(macros["SLOT_WORDS"], limits::SLOT_WORDS as u64);
     assert_eq!(macros["MOST_NAME_BYTES"], limits::MOST_NAME_BYTES as u64);

@@ -184,7 +184,7 @@ fn lines(sheet: &[u8]) -> String {
         assert_eq!(bridge.call(), passed.map_or(call, |passed| passed.next));
         match passed {
             Ok(passed) => {
-                print_passed(&mut out, &passed);
+                print_passed(&mut out, call, &passed);
                 open = Some(passed.next);
             }
             Err(refusal) => print_left(&mut out, "", open, Some(refusal)),
@@ -193,7 +193,8 @@ fn lines(sheet: &[u8]) -> String {
     out
 }
 
-/// A line without slots: what is left, and the refusal where there is one.
+/// A line without slots: what is left, the refusal where there is one, and the stack offset, which
+/// stays.
 fn print_left(out: &mut String, word: &str, call: Option<Call>, refusal: Option<Refusal>) {
     let word = if refusal.is_some() { "refused" } else { word };
     let (integer, float) = call.map_or((0, 0), |call| (call.integer_left(), call.float_left()));
@@ -201,11 +202,19 @@ fn print_left(out: &mut String, word: &str, call: Option<Call>, refusal: Option<
     if let Some(refusal) = refusal {
         write!(out, " {}", refusal.number()).expect("a string takes it");
     }
-    out.push('\n');
+    let stack = call.map_or(0, Call::stack);
+    writeln!(out, " {stack} {stack}").expect("a string takes it");
 }
 
-fn print_passed(out: &mut String, passed: &Passed<'_>) {
+fn print_passed(out: &mut String, call: Call, passed: &Passed<'_>) {
     let Passed { next, outcome, .. } = passed;
+    let (before, after) = (call.stack(), next.stack());
+    // A line has no place: it is between the two.
+    let place = outcome.stacked.map(|stacked| (stacked.offset, stacked.offset + stacked.length));
+    match place {
+        None => assert_eq!(before, after),
+        Some((start, end)) => assert!(before <= start && start < end && end == after),
+    }
     let spent = outcome.spent;
     write!(out, "{} {} {}", outcome.way, next.integer_left(), next.float_left())
         .and_then(|()| write!(out, " {} {}", spent.integers_passed, spent.integers_given))
@@ -215,7 +224,7 @@ fn print_passed(out: &mut String, passed: &Passed<'_>) {
         let kind = slot.kind.number();
         write!(out, " {kind}:{}:{}", slot.offset, slot.size).expect("a string takes it");
     }
-    out.push('\n');
+    writeln!(out, " {before} {after}").expect("a string takes it");
 }
 
 #[test]
@@ -292,7 +301,7 @@ struct Reader<'a> {
 
 impl<'a> Reader<'a> {
     fn new(areas: &'a Areas) -> Self {
-        let call = Call::from_parts(Abi::SYSV_AMD64, 0, 0, false);
+        let call = Call::from_parts(Abi::SYSV_AMD64, 0, 0, false, 0);
         let list = VaList::new(&[], &[], Offsets { integer: 0, float: 0, overflow: 0 });
         Self { areas, call, list, room: Room::new(), lists: 0, reads: 0 }
     }
@@ -341,10 +350,12 @@ impl<'a> Reader<'a> {
         self.call = passed.map_or(self.call, |passed| passed.next);
     }
 
+    /// The oracle draws where the named parameters end on the stack.
     fn print_left(&self, overflow: u64, out: &mut String) {
         let (integers, floats) = (self.call.integer_left(), self.call.float_left());
-        let offsets = Offsets::after(self.call, overflow).expect("a call of the description");
-        let Offsets { integer, float, overflow } = offsets;
+        let offsets = Offsets::after(self.call).expect("a call of the description");
+        assert_eq!(offsets.overflow, self.call.stack());
+        let Offsets { integer, float, .. } = offsets;
         write!(out, "left {overflow} {integers} {floats} {integer} {float}")
             .expect("a string takes it");
     }

@@ -473,10 +473,10 @@ fn a_list_goes_on_behind_a_refusal() {
 fn offsets_of_every_call() {
     for integer in 0..=6 {
         for float in 0..=8 {
-            for overflow in [0, 8, 24, u64::MAX] {
-                let call = Call::from_parts(SYSV, integer, float, false);
+            for overflow in [0, 3, 8, 24, limits::MOST_STACK] {
+                let call = Call::from_parts(SYSV, integer, float, false, overflow);
                 let expected = at(8 * (6 - integer), 48 + 16 * (8 - float), overflow);
-                assert_eq!(Offsets::after(call, overflow), Ok(expected));
+                assert_eq!(Offsets::after(call), Ok(expected));
             }
         }
     }
@@ -486,15 +486,21 @@ fn offsets_of_every_call() {
 fn calls_that_have_no_offsets() {
     for number in (1..Abi::COUNT + 2).chain([1 << 32, u64::MAX]) {
         for integer in [0, 6, 9] {
-            let call = Call::from_parts(Abi(number), integer, 0, false);
-            assert_eq!(Offsets::after(call, 0), Err(Refusal::BadAbi), "{number}");
+            let call = Call::from_parts(Abi(number), integer, 0, false, 0);
+            assert_eq!(Offsets::after(call), Err(Refusal::BadAbi), "{number}");
         }
     }
-    for (integer, float, mark) in
-        [(7, 8, false), (6, 9, false), (6, 8, true), (u64::MAX, 0, false), (0, u64::MAX, false)]
-    {
-        let call = Call::from_parts(SYSV, integer, float, mark);
-        assert_eq!(Offsets::after(call, 0), Err(Refusal::BadCall), "{call:?}");
+    for (integer, float, mark, stack) in [
+        (7, 8, false, 0),
+        (6, 9, false, 0),
+        (6, 8, true, 0),
+        (u64::MAX, 0, false, 0),
+        (0, u64::MAX, false, 0),
+        (6, 8, false, limits::MOST_STACK + 1),
+        (6, 8, false, u64::MAX),
+    ] {
+        let call = Call::from_parts(SYSV, integer, float, mark, stack);
+        assert_eq!(Offsets::after(call), Err(Refusal::BadCall), "{call:?}");
     }
 }
 
@@ -504,7 +510,7 @@ fn offsets_after_named_parameters() {
     let mut call = Call::fresh(SYSV).expect("a description");
     let mut after = |step: &dyn Fn(Call, &mut Room) -> Call| {
         call = step(call, &mut room);
-        Offsets::after(call, 0)
+        Offsets::after(call)
     };
     // A large result: its address takes a register.
     let result = |call: Call, room: &mut Room| {
@@ -516,14 +522,20 @@ fn offsets_after_named_parameters() {
         call.argument(Aggregate::new(16, 8, &pieces), room).expect("accepted").next
     };
     assert_eq!(after(&both), Ok(at(16, 64, 0)));
-    // Neither a value in memory nor a refused one takes any.
+    // Neither a value in memory nor a refused one takes any. The first is on the stack.
     let x87 = |call: Call, room: &mut Room| call.argument(X87, room).expect("accepted").next;
-    assert_eq!(after(&x87), Ok(at(16, 64, 0)));
+    assert_eq!(after(&x87), Ok(at(16, 64, 16)));
     let wrong = |call: Call, room: &mut Room| {
         assert_eq!(call.argument(Scalar::integer(65), room), Err(Refusal::BadSize));
         call
     };
-    assert_eq!(after(&wrong), Ok(at(16, 64, 0)));
+    assert_eq!(after(&wrong), Ok(at(16, 64, 16)));
+    // A record of three words is there, too, and an x87 value behind it at a multiple of 16.
+    let triple = |call: Call, room: &mut Room| {
+        call.argument(Aggregate::new(24, 8, &[]), room).expect("accepted").next
+    };
+    assert_eq!(after(&triple), Ok(at(16, 64, 40)));
+    assert_eq!(after(&x87), Ok(at(16, 64, 64)));
 }
 
 /// The registers and the stack of a caller, which places values where the classifier says.
@@ -537,7 +549,7 @@ struct Machine {
 impl Machine {
     /// So many registers left, and so many bytes of the stack in use; each holds something.
     fn new(integer: u64, float: u64, stack: usize) -> Self {
-        let call = Call::from_parts(SYSV, integer, float, false);
+        let call = Call::from_parts(SYSV, integer, float, false, stack as u64);
         Self { call, integer: [[0xaa; 8]; 6], float: [[0xbb; 16]; 8], stack: vec![0xcc; stack] }
     }
 
@@ -553,12 +565,13 @@ impl Machine {
             let register = &mut self.float[8 - self.call.float_left() as usize];
             register[..value.len()].copy_from_slice(value);
         } else {
-            let start = self.stack.len().next_multiple_of((scalar.align() as usize).max(8));
-            self.stack.resize(start, 0xdd);
+            let stacked = passed.outcome.stacked.expect("it is in no register");
+            self.stack.resize(stacked.offset as usize, 0xdd);
             self.stack.extend(value);
-            self.stack.resize((start + value.len()).next_multiple_of(8), 0xee);
+            self.stack.resize((stacked.offset + stacked.length) as usize, 0xee);
         }
         self.call = passed.next;
+        assert_eq!(self.call.stack(), self.stack.len() as u64);
     }
 
     /// What the called function's first instructions store.
@@ -567,7 +580,7 @@ impl Machine {
     }
 
     fn offsets(&self) -> Offsets {
-        Offsets::after(self.call, self.stack.len() as u64).expect("a call of this description")
+        Offsets::after(self.call).expect("a call of this description")
     }
 }
 

@@ -24,13 +24,14 @@
 #define WORD(type, field, at) \
     HOLDS(type##_##field, offsetof(barkpaddle_##type, field) == 8 * (at) && sizeof(((barkpaddle_##type *)0)->field) == 8)
 
-WORDS(call, 4);
+WORDS(call, 5);
 WORD(call, abi, 0);
 WORD(call, integer, 1);
 WORD(call, float_, 2);
 WORD(call, integers_only, 3);
+WORD(call, stack, 4);
 
-WORDS(outcome, 7);
+WORDS(outcome, 9);
 WORD(outcome, refusal, 0);
 WORD(outcome, way, 1);
 WORD(outcome, integers_passed, 2);
@@ -38,12 +39,14 @@ WORD(outcome, integers_given, 3);
 WORD(outcome, floats_passed, 4);
 WORD(outcome, floats_given, 5);
 WORD(outcome, slots, 6);
+WORD(outcome, stack_at, 7);
+WORD(outcome, stack_bytes, 8);
 
 /* an answer's two fields are structs themselves */
-WORDS(answer, 11);
+WORDS(answer, 14);
 HOLDS(answer_next, offsetof(barkpaddle_answer, next) == 0);
 HOLDS(answer_next_is_a_call, sizeof(((barkpaddle_answer *)0)->next) == sizeof(barkpaddle_call));
-HOLDS(answer_outcome, offsetof(barkpaddle_answer, outcome) == 8 * 4);
+HOLDS(answer_outcome, offsetof(barkpaddle_answer, outcome) == 8 * 5);
 HOLDS(answer_outcome_is_one, sizeof(((barkpaddle_answer *)0)->outcome) == sizeof(barkpaddle_outcome));
 
 WORDS(told, 2);
@@ -112,6 +115,10 @@ WORD(part, overflow_offset, 6);
 
 /* ---- calls and outcomes ---- */
 
+/* A call as an entry takes it. */
+#define HANDED(c) (c).abi, (c).integer, (c).float_, (c).integers_only, (c).stack
+
+/* It has nothing on the stack. */
 static barkpaddle_call call_of(uint64_t abi, uint64_t integer, uint64_t float_, uint64_t integers_only)
 {
     barkpaddle_call c;
@@ -120,6 +127,14 @@ static barkpaddle_call call_of(uint64_t abi, uint64_t integer, uint64_t float_, 
     c.integer = integer;
     c.float_ = float_;
     c.integers_only = integers_only;
+    c.stack = 0;
+    return c;
+}
+
+/* The same call with this stack offset. */
+static barkpaddle_call further_on(barkpaddle_call c, uint64_t stack)
+{
+    c.stack = stack;
     return c;
 }
 
@@ -129,9 +144,10 @@ static void check_call(const char *place, barkpaddle_call expected, barkpaddle_c
     check_number(place, "integer", expected.integer, got.integer);
     check_number(place, "float_", expected.float_, got.float_);
     check_number(place, "integers_only", expected.integers_only, got.integers_only);
+    check_number(place, "stack", expected.stack, got.stack);
 }
 
-/* `spent` is integers passed over and given, floats passed over and given. */
+/* `spent` is integers passed over and given, floats passed over and given. Nothing is on the stack. */
 static barkpaddle_outcome outcome_of(uint64_t refusal, uint64_t way, const uint64_t spent[4], uint64_t slots)
 {
     barkpaddle_outcome outcome;
@@ -143,6 +159,8 @@ static barkpaddle_outcome outcome_of(uint64_t refusal, uint64_t way, const uint6
     outcome.floats_passed = spent[2];
     outcome.floats_given = spent[3];
     outcome.slots = slots;
+    outcome.stack_at = 0;
+    outcome.stack_bytes = 0;
     return outcome;
 }
 
@@ -155,6 +173,8 @@ static void check_outcome(const char *place, barkpaddle_outcome expected, barkpa
     check_number(place, "floats_passed", expected.floats_passed, got.floats_passed);
     check_number(place, "floats_given", expected.floats_given, got.floats_given);
     check_number(place, "slots", expected.slots, got.slots);
+    check_number(place, "stack_at", expected.stack_at, got.stack_at);
+    check_number(place, "stack_bytes", expected.stack_bytes, got.stack_bytes);
 }
 
 /* ---- lent buffers ---- */
@@ -217,28 +237,25 @@ static barkpaddle_answer by_value(enum operation operation, barkpaddle_call c, v
     switch (operation) {
     case RETURN:
         if (v.what == VOID)
-            return barkpaddle_return_void(c.abi, c.integer, c.float_, c.integers_only, slots, length);
+            return barkpaddle_return_void(HANDED(c), slots, length);
         if (v.what == SCALAR)
-            return barkpaddle_return_scalar(
-                c.abi, c.integer, c.float_, c.integers_only, v.kind, v.size, v.align, slots, length);
+            return barkpaddle_return_scalar(HANDED(c), v.kind, v.size, v.align, slots, length);
         return barkpaddle_return_aggregate(
-            c.abi, c.integer, c.float_, c.integers_only, v.size, v.align, v.complex_, v.floating, v.words, v.words_length, slots, length);
+            HANDED(c), v.size, v.align, v.complex_, v.floating, v.words, v.words_length, slots, length);
     case ARGUMENT:
         if (v.what == VOID)
-            return barkpaddle_argument_void(c.abi, c.integer, c.float_, c.integers_only, slots, length);
+            return barkpaddle_argument_void(HANDED(c), slots, length);
         if (v.what == SCALAR)
-            return barkpaddle_argument_scalar(
-                c.abi, c.integer, c.float_, c.integers_only, v.kind, v.size, v.align, slots, length);
+            return barkpaddle_argument_scalar(HANDED(c), v.kind, v.size, v.align, slots, length);
         return barkpaddle_argument_aggregate(
-            c.abi, c.integer, c.float_, c.integers_only, v.size, v.align, v.complex_, v.floating, v.words, v.words_length, slots, length);
+            HANDED(c), v.size, v.align, v.complex_, v.floating, v.words, v.words_length, slots, length);
     default:
         if (v.what == VOID)
-            return barkpaddle_variadic_argument_void(c.abi, c.integer, c.float_, c.integers_only, slots, length);
+            return barkpaddle_variadic_argument_void(HANDED(c), slots, length);
         if (v.what == SCALAR)
-            return barkpaddle_variadic_argument_scalar(
-                c.abi, c.integer, c.float_, c.integers_only, v.kind, v.size, v.align, slots, length);
+            return barkpaddle_variadic_argument_scalar(HANDED(c), v.kind, v.size, v.align, slots, length);
         return barkpaddle_variadic_argument_aggregate(
-            c.abi, c.integer, c.float_, c.integers_only, v.size, v.align, v.complex_, v.floating, v.words, v.words_length, slots, length);
+            HANDED(c), v.size, v.align, v.complex_, v.floating, v.words, v.words_length, slots, length);
     }
 }
 
@@ -283,6 +300,16 @@ static void check_stored(
         check_number(place, "a difference in a refused call", 0, memcmp(before, kept, sizeof *kept) != 0);
 }
 
+/* What an operation has on the stack begins behind what those before it have there, and the next call goes on behind it. */
+static void check_offsets(const char *place, uint64_t before, barkpaddle_answer a)
+{
+    uint64_t at = a.outcome.stack_bytes == 0 ? before : a.outcome.stack_at;
+
+    check_number(place, "a place of no bytes", 0, a.outcome.stack_bytes == 0 && a.outcome.stack_at != 0);
+    check_number(place, "a place before the offset", 0, at < before);
+    check_number(place, "the offset behind it", at + a.outcome.stack_bytes, a.next.stack);
+}
+
 /* The lent call's own buffer, with the same words in it as the other. */
 static uint64_t lent_again[ROOM];
 
@@ -303,6 +330,7 @@ static barkpaddle_answer both_ways(
     outcome = by_lending(operation, kept, what_of(v), words, words_length, slots == NULL ? NULL : lent_again, length);
     check_stored(place, a, outcome, &before, kept);
     check_number(place, "the mark that is handed on", before.integers_only, a.next.integers_only);
+    check_offsets(place, before.stack, a);
     check_number(place, "a difference in the lent call's buffer", 0, memcmp(lent, lent_again, sizeof lent) != 0);
     return a;
 }
@@ -337,7 +365,7 @@ static const value nothing = {VOID, 0, 0, 0, 0, 0, NULL, 0};
 
 /* ---- accepted operations ---- */
 
-/* Checks all eleven numbers of an answer. */
+/* Checks all fourteen numbers of an answer that has nothing for the stack. */
 static void check_answer(
     const char *place, barkpaddle_answer a, uint64_t refusal, uint64_t way, barkpaddle_call next, const uint64_t spent[4], uint64_t slots)
 {
@@ -358,20 +386,28 @@ static void check_refused(const char *place, enum operation operation, barkpaddl
     check_lent(place, NULL, 0);
 }
 
+/* The numbers of an accepted operation: integers and floats left, integers passed over and given, floats passed over and given, all as in a
+ * sheet's line; then where on the stack the value stands, how many bytes it has there, and the next offset. An operation from offset 0 on
+ * that puts nothing there has 0 in the last three. */
+#define NUMBERS 9
+
 /*
- * An accepted operation, as a sheet's line has it: the way, integers and floats left, integers passed over and given, floats passed over
- * and given, the slots. In every buffer that has room the answer is the same and the words behind it stay; in every smaller one it is
- * NO_ROOM.
+ * An accepted operation: its way, its numbers and its slots. In every buffer that has room the answer is the same and the words behind it
+ * stay; in every smaller one it is NO_ROOM.
  */
 static void check_line(
-    const char *place, enum operation operation, barkpaddle_call c, value v, uint64_t way, const uint64_t numbers[6], const uint64_t *slots,
-    uint64_t slots_count)
+    const char *place, enum operation operation, barkpaddle_call c, value v, uint64_t way, const uint64_t numbers[NUMBERS],
+    const uint64_t *slots, uint64_t slots_count)
 {
     uint64_t length;
     barkpaddle_call next = c;
+    barkpaddle_outcome outcome = outcome_of(BARKPADDLE_ACCEPTED, way, numbers + 2, slots_count);
 
     next.integer = numbers[0];
     next.float_ = numbers[1];
+    outcome.stack_at = numbers[6];
+    outcome.stack_bytes = numbers[7];
+    next.stack = numbers[8];
     for (length = 0; length <= ROOM; length++) {
         barkpaddle_answer a;
 
@@ -381,7 +417,8 @@ static void check_line(
         }
         fill();
         a = perform(operation, c, v, length == 0 ? NULL : lent, length);
-        check_answer(place, a, BARKPADDLE_ACCEPTED, way, next, numbers + 2, slots_count);
+        check_call(place, next, a.next);
+        check_outcome(place, outcome, a.outcome);
         check_lent(place, slots, slots_count * BARKPADDLE_SLOT_WORDS);
     }
 }
@@ -399,27 +436,26 @@ static const uint64_t int4_single[] = {0, 4, 4, 0, 1, 4, 4, 4};
     check_line(place, operation, c, v, way, numbers, slots, COUNT(slots) / BARKPADDLE_SLOT_WORDS)
 #define BARE(place, operation, c, v, way, numbers) check_line(place, operation, c, v, way, numbers, NULL, 0)
 
-/* The table of twelve calls (REFERENCE 9.8). Left, passed over and given are in the order of a sheet's line; the aggregates of calls 10 and
- * 12 have other pieces than there. */
+/* The table of twelve calls (REFERENCE 9.8). The aggregates of calls 10 and 12 have other pieces than there. */
 static void twelve(void)
 {
-    static const uint64_t n1[] = {5, 7, 0, 1, 0, 1}, s1[] = {0, 0, 8, 2, 8, 0};
-    static const uint64_t n2[] = {1, 8, 0, 0, 0, 0};
-    static const uint64_t n4[] = {6, 8, 0, 0, 0, 0}, s4[] = {3, 0, 0};
-    static const uint64_t n5[] = {6, 6, 0, 0, 0, 2}, s5[] = {2, 0, 0, 1, 8, 0};
-    static const uint64_t n6[] = {4, 8, 1, 2, 0, 0}, n6b[] = {5, 8, 0, 2, 0, 0};
-    static const uint64_t n7[] = {7, 8, 0, 1, 0, 0};
-    static const uint64_t n8[] = {8, 0, 0, 0, 2, 0};
-    static const uint64_t n9[] = {3, 0, 0, 1, 0, 0};
-    static const uint64_t n10[] = {0, 0, 0, 0, 0, 0}, s10[] = {0, 0, 8};
-    static const uint64_t n11[] = {1, 0, 0, 1, 0, 0}, s11[] = {0, 0, 8};
-    static const uint64_t n12[] = {1, 0, 0, 0, 0, 0}, n12b[] = {0, 0, 1, 0, 0, 0};
+    static const uint64_t n1[NUMBERS] = {5, 7, 0, 1, 0, 1}, s1[] = {0, 0, 8, 2, 8, 0};
+    static const uint64_t n2[NUMBERS] = {1, 8, 0, 0, 0, 0, 0, 16, 16};
+    static const uint64_t n4[NUMBERS] = {6, 8, 0, 0, 0, 0, 0, 16, 16}, n4b[NUMBERS] = {6, 8, 0, 0, 0, 0}, s4[] = {3, 0, 0};
+    static const uint64_t n5[NUMBERS] = {6, 6, 0, 0, 0, 2}, s5[] = {2, 0, 0, 1, 8, 0};
+    static const uint64_t n6[NUMBERS] = {4, 8, 1, 2, 0, 0}, n6b[NUMBERS] = {5, 8, 0, 2, 0, 0};
+    static const uint64_t n7[NUMBERS] = {7, 8, 0, 1, 0, 0};
+    static const uint64_t n8[NUMBERS] = {8, 0, 0, 0, 2, 0, 0, 24, 24};
+    static const uint64_t n9[NUMBERS] = {3, 0, 0, 1, 0, 0};
+    static const uint64_t n10[NUMBERS] = {0, 0, 0, 0, 0, 0, 0, 8, 8}, s10[] = {0, 0, 8};
+    static const uint64_t n11[NUMBERS] = {1, 0, 0, 1, 0, 0}, s11[] = {0, 0, 8};
+    static const uint64_t n12[NUMBERS] = {1, 0, 0, 0, 0, 0, 0, 8, 8}, n12b[NUMBERS] = {0, 0, 1, 0, 0, 0, 0, 8, 8};
 
     LINE("call 1", ARGUMENT, call_of(0, 6, 8, 0), aggregate(16, 8, int8_double, 8), BARKPADDLE_WAY_PIECES, n1, s1);
     BARE("call 2", ARGUMENT, call_of(0, 1, 8, 0), aggregate(16, 8, two_int8, 8), BARKPADDLE_WAY_MEMORY, n2);
     BARE("call 3", ARGUMENT, call_of(0, 1, 8, 0), scalar(0, 16, 16), BARKPADDLE_WAY_DIRECT, n2);
     BARE("call 4, argument", ARGUMENT, call_of(0, 6, 8, 0), aggregate(16, 16, one_x87, 4), BARKPADDLE_WAY_MEMORY, n4);
-    LINE("call 4, return", RETURN, call_of(0, 6, 8, 0), aggregate(16, 16, one_x87, 4), BARKPADDLE_WAY_PIECES, n4, s4);
+    LINE("call 4, return", RETURN, call_of(0, 6, 8, 0), aggregate(16, 16, one_x87, 4), BARKPADDLE_WAY_PIECES, n4b, s4);
     LINE("call 5", ARGUMENT, call_of(0, 6, 8, 0), aggregate(12, 4, singles, 12), BARKPADDLE_WAY_PIECES, n5, s5);
     BARE("call 6, row 1", ARGUMENT, call_of(1, 7, 8, 0), scalar(0, 16, 16), BARKPADDLE_WAY_DIRECT, n6);
     BARE("call 6, row 2", ARGUMENT, call_of(2, 7, 8, 0), scalar(0, 16, 16), BARKPADDLE_WAY_DIRECT, n6b);
@@ -435,17 +471,19 @@ static void twelve(void)
 /* Cases beside the table, by the lines that the original prints for them. */
 static void beside_the_twelve(void)
 {
-    static const uint64_t seven_passed[] = {0, 8, 7, 0, 0, 0}, seven_given[] = {0, 8, 0, 7, 0, 0};
-    static const uint64_t fastcall_passed[] = {0, 0, 2, 0, 0, 0};
-    static const uint64_t marked[] = {7, 8, 0, 1, 0, 0}, one_int[] = {0, 0, 8};
-    static const uint64_t float_given[] = {8, 7, 0, 0, 0, 1};
-    static const uint64_t all_given[] = {0, 8, 0, 8, 0, 0};
+    static const uint64_t seven_passed[NUMBERS] = {0, 8, 7, 0, 0, 0, 0, 56, 56}, seven_given[NUMBERS] = {0, 8, 0, 7, 0, 0};
+    static const uint64_t fastcall_passed[NUMBERS] = {0, 0, 2, 0, 0, 0, 0, 8, 8};
+    static const uint64_t marked[NUMBERS] = {7, 8, 0, 1, 0, 0}, one_int[] = {0, 0, 8};
+    static const uint64_t float_given[NUMBERS] = {8, 7, 0, 0, 0, 1};
+    static const uint64_t all_given[NUMBERS] = {0, 8, 0, 8, 0, 0};
     static const uint64_t eight_ints[] = {0, 0, 8, 0, 8, 8, 0, 16, 8, 0, 24, 8, 0, 32, 8, 0, 40, 8, 0, 48, 8, 0, 56, 8};
-    static const uint64_t pointer[] = {5, 8, 0, 1, 0, 0}, no_pointer[] = {8, 8, 0, 0, 0, 0};
-    static const uint64_t wide_return[] = {4, 0, 0, 0, 0, 0}, quad_slot[] = {4, 0, 0}, quad_pointer[] = {3, 0, 0, 1, 0, 0};
-    static const uint64_t nothing_spent[] = {5, 8, 0, 0, 0, 0};
-    static const uint64_t fresh_0[] = {6, 8, 0, 0, 0, 0};
-    static const uint64_t complex_drain[] = {2, 0, 0, 0, 0, 0}, complex_slots[] = {0, 0, 4, 0, 4, 4};
+    static const uint64_t pointer[NUMBERS] = {5, 8, 0, 1, 0, 0}, no_pointer[NUMBERS] = {8, 8, 0, 0, 0, 0};
+    static const uint64_t wide_return[NUMBERS] = {4, 0, 0, 0, 0, 0}, quad_slot[] = {4, 0, 0}, quad_pointer[NUMBERS] = {3, 0, 0, 1, 0, 0};
+    static const uint64_t nothing_spent[NUMBERS] = {5, 8, 0, 0, 0, 0}, two_words[NUMBERS] = {5, 8, 0, 0, 0, 0, 0, 16, 16};
+    static const uint64_t address_there[NUMBERS] = {5, 8, 0, 0, 0, 0, 0, 8, 8};
+    static const uint64_t fresh_0[NUMBERS] = {6, 8, 0, 0, 0, 0};
+    static const uint64_t complex_there[NUMBERS] = {2, 0, 0, 0, 0, 0, 0, 8, 8};
+    static const uint64_t complex_back[NUMBERS] = {2, 0, 0, 0, 0, 0}, complex_slots[] = {0, 0, 4, 0, 4, 4};
     uint64_t mark;
     value v;
 
@@ -470,9 +508,9 @@ static void beside_the_twelve(void)
     BARE("a Quad's return", RETURN, call_of(4, 4, 0, 0), scalar(4, 16, 16), BARKPADDLE_WAY_REFERENCE, quad_pointer);
     BARE("a scalar's return", RETURN, call_of(0, 6, 8, 0), scalar(0, 8, 8), BARKPADDLE_WAY_DIRECT, fresh_0);
 
-    BARE("row 2, scalar after the dots", VARIADIC_ARGUMENT, call_of(2, 5, 8, 0), scalar(0, 16, 16), BARKPADDLE_WAY_DIRECT, nothing_spent);
-    BARE("row 2, record after the dots", VARIADIC_ARGUMENT, call_of(2, 5, 8, 0), aggregate(16, 8, NULL, 0), BARKPADDLE_WAY_MEMORY, nothing_spent);
-    BARE("row 2, large after the dots", VARIADIC_ARGUMENT, call_of(2, 5, 8, 0), aggregate(17, 8, NULL, 0), BARKPADDLE_WAY_REFERENCE, nothing_spent);
+    BARE("row 2, scalar after the dots", VARIADIC_ARGUMENT, call_of(2, 5, 8, 0), scalar(0, 16, 16), BARKPADDLE_WAY_DIRECT, two_words);
+    BARE("row 2, a record there", VARIADIC_ARGUMENT, call_of(2, 5, 8, 0), aggregate(16, 8, NULL, 0), BARKPADDLE_WAY_MEMORY, two_words);
+    BARE("row 2, a large one", VARIADIC_ARGUMENT, call_of(2, 5, 8, 0), aggregate(17, 8, NULL, 0), BARKPADDLE_WAY_REFERENCE, address_there);
     BARE("row 2, void after the dots", VARIADIC_ARGUMENT, call_of(2, 5, 8, 0), nothing, BARKPADDLE_WAY_IGNORE, nothing_spent);
     LINE("row 5 after the dots", VARIADIC_ARGUMENT, call_of(5, 8, 8, 0), scalar(2, 8, 8), BARKPADDLE_WAY_PIECES, marked, one_int);
 
@@ -484,11 +522,11 @@ static void beside_the_twelve(void)
     for (mark = 1; mark != 0; mark <<= 1) {
         v = aggregate(8, 4, singles, 8);
         v.complex_ = mark;
-        BARE("a complex on fastcall", ARGUMENT, call_of(22, 2, 0, 0), v, BARKPADDLE_WAY_MEMORY, complex_drain);
-        LINE("a complex back", RETURN, call_of(22, 2, 0, 0), v, BARKPADDLE_WAY_PIECES, complex_drain, complex_slots);
+        BARE("a complex on fastcall", ARGUMENT, call_of(22, 2, 0, 0), v, BARKPADDLE_WAY_MEMORY, complex_there);
+        LINE("a complex back", RETURN, call_of(22, 2, 0, 0), v, BARKPADDLE_WAY_PIECES, complex_back, complex_slots);
         v = aggregate(8, 4, NULL, 0);
         v.floating = mark;
-        BARE("a floating mode on fastcall", ARGUMENT, call_of(22, 2, 0, 0), v, BARKPADDLE_WAY_MEMORY, complex_drain);
+        BARE("a floating mode on fastcall", ARGUMENT, call_of(22, 2, 0, 0), v, BARKPADDLE_WAY_MEMORY, complex_there);
     }
 }
 
@@ -505,7 +543,9 @@ static const struct sized {
 static void fastcall_argument(enum operation operation, barkpaddle_call c, const struct sized *record)
 {
     uint64_t passed_over = record->words < c.integer ? record->words : c.integer;
-    const uint64_t passes[6] = {c.integer - passed_over, 0, passed_over, 0, 0, 0}, spends_nothing[6] = {c.integer, 0, 0, 0, 0, 0};
+    uint64_t bytes = 4 * record->words;
+    const uint64_t passes[NUMBERS] = {c.integer - passed_over, 0, passed_over, 0, 0, 0, 0, bytes, bytes};
+    const uint64_t spends_nothing[NUMBERS] = {c.integer, 0, 0, 0, 0, 0, 0, bytes, bytes};
     value v = aggregate(record->size, 4, NULL, 0);
 
     BARE("fastcall, a record", operation, c, v, BARKPADDLE_WAY_MEMORY, passes);
@@ -521,7 +561,9 @@ static void fastcall_argument(enum operation operation, barkpaddle_call c, const
 static void fastcall_return(barkpaddle_call c, const struct sized *record)
 {
     uint64_t given = c.integer == 0 ? 0 : 1;
-    const uint64_t address[6] = {c.integer - given, 0, 0, given, 0, 0}, spends_nothing[6] = {c.integer, 0, 0, 0, 0, 0};
+    uint64_t bytes = given ? 0 : 4;
+    const uint64_t address[NUMBERS] = {c.integer - given, 0, 0, given, 0, 0, 0, bytes, bytes};
+    const uint64_t spends_nothing[NUMBERS] = {c.integer, 0, 0, 0, 0, 0};
     value v = aggregate(record->size, 4, NULL, 0);
 
     if (c.abi == 22 || record->slots_count == 0)
@@ -544,7 +586,6 @@ static void fastcall_refusals(enum operation operation, uint64_t row)
 static void carries_nothing(void)
 {
     static const uint64_t fastcall_rows[] = {22, 23, 27, 29}, rows_beside[] = {24, 25, 26, 28};
-    static const uint64_t no_registers[] = {0, 0, 0, 0, 0, 0};
     static const enum operation operations[] = {RETURN, ARGUMENT, VARIADIC_ARGUMENT};
     size_t row, operation, i;
     uint64_t left;
@@ -554,7 +595,7 @@ static void carries_nothing(void)
             fastcall_refusals(operations[operation], fastcall_rows[row]);
         for (left = 0; left <= 2; left++) {
             barkpaddle_call c = call_of(fastcall_rows[row], left, 0, 0);
-            const uint64_t as_it_was[6] = {left, 0, 0, 0, 0, 0};
+            const uint64_t as_it_was[NUMBERS] = {left, 0, 0, 0, 0, 0};
 
             for (operation = 0; operation < COUNT(operations); operation++)
                 BARE("fastcall, an empty record", operations[operation], c, aggregate(0, 1, NULL, 0), BARKPADDLE_WAY_IGNORE, as_it_was);
@@ -566,10 +607,14 @@ static void carries_nothing(void)
         }
     }
     for (row = 0; row < COUNT(rows_beside); row++)
-        for (i = 0; i < COUNT(sized); i++)
+        for (i = 0; i < COUNT(sized); i++) {
+            uint64_t bytes = 4 * sized[i].words;
+            const uint64_t no_registers[NUMBERS] = {0, 0, 0, 0, 0, 0, 0, bytes, bytes};
+
             BARE(
                 "no registers", ARGUMENT, call_of(rows_beside[row], 0, 0, 0), aggregate(sized[i].size, 4, NULL, 0), BARKPADDLE_WAY_MEMORY,
                 no_registers);
+        }
 }
 
 /* ---- refused operations ---- */
@@ -668,7 +713,7 @@ static void refusals_of(enum operation operation)
 static barkpaddle_answer mark_both_ways(const char *place, barkpaddle_call *kept)
 {
     barkpaddle_call before = *kept;
-    barkpaddle_answer a = barkpaddle_variadic(before.abi, before.integer, before.float_, before.integers_only);
+    barkpaddle_answer a = barkpaddle_variadic(HANDED(before));
     int sets = a.outcome.refusal == BARKPADDLE_ACCEPTED && before.abi == BARKPADDLE_ABI_WINDOWS_ARM64;
 
     check_stored(place, a, barkpaddle_bridge_variadic(kept), &before, kept);
@@ -732,6 +777,7 @@ static void check_form_refused(enum operation operation, barkpaddle_call c, uint
         check_number("form", "integers spent", 0, outcome.integers_passed | outcome.integers_given);
         check_number("form", "floats spent", 0, outcome.floats_passed | outcome.floats_given);
         check_number("form", "slots", 0, outcome.slots);
+        check_number("form", "the stack", 0, outcome.stack_at | outcome.stack_bytes);
         check_number("form", "a difference in the call", 0, memcmp(&c, &kept, sizeof kept) != 0);
         check_lent("form", NULL, 0);
     }
@@ -746,10 +792,12 @@ static void forms_of(enum operation operation)
 
     for (i = 0; i < COUNT(unknown); i++) {
         check_form_refused(operation, call_of(0, 6, 8, 0), unknown[i], BARKPADDLE_BAD_KIND);
+        check_form_refused(operation, further_on(call_of(0, 6, 8, 0), BARKPADDLE_MOST_STACK), unknown[i], BARKPADDLE_BAD_KIND);
         check_form_refused(operation, call_of(3, 0, 0, 1), unknown[i], BARKPADDLE_BAD_KIND);
         check_form_refused(operation, call_of(BARKPADDLE_ABI_COUNT, 9, 9, 1), unknown[i], BARKPADDLE_BAD_ABI);
         check_form_refused(operation, call_of(0, 7, 8, 0), unknown[i], BARKPADDLE_BAD_CALL);
         check_form_refused(operation, call_of(0, 6, 8, 1), unknown[i], BARKPADDLE_BAD_CALL);
+        check_form_refused(operation, further_on(call_of(0, 6, 8, 0), BARKPADDLE_MOST_STACK + 1), unknown[i], BARKPADDLE_BAD_CALL);
     }
     /* void is refused for its call alone */
     check_form_refused(operation, call_of(BARKPADDLE_ABI_COUNT, 0, 0, 0), BARKPADDLE_FORM_VOID, BARKPADDLE_BAD_ABI);
@@ -774,6 +822,7 @@ static void lent_calls(void)
     check_number("lent record", "floats_passed", 0, outcome.floats_passed);
     check_number("lent record", "floats_given", 1, outcome.floats_given);
     check_number("lent record", "slots", 2, outcome.slots);
+    check_number("lent record", "the stack", 0, outcome.stack_at | outcome.stack_bytes | kept.stack);
     check_lent("lent record", slots, COUNT(slots));
     for (i = 0; i < 4; i++) {
         check_number("lent record", "integers left", 5 - i, kept.integer);
@@ -786,10 +835,18 @@ static void lent_calls(void)
     check_number("the call that broke", "way", BARKPADDLE_WAY_MEMORY, outcome.way);
     check_number("the call that broke", "integers left", 1, kept.integer);
     check_number("the call that broke", "floats left", 7, kept.float_);
+    check_number("the call that broke", "stack_at", 0, outcome.stack_at);
+    check_number("the call that broke", "stack_bytes", 16, outcome.stack_bytes);
+    check_number("the call that broke", "the next offset", 16, kept.stack);
     what.size = 100;
     outcome = barkpaddle_bridge_returns(&kept, what, NULL, 0, NULL, 0);
     check_number("a pointer for a result", "way", BARKPADDLE_WAY_REFERENCE, outcome.way);
     check_number("a pointer for a result", "integers left", 0, kept.integer);
+    check_number("a pointer for a result", "the next offset", 16, kept.stack);
+    outcome = barkpaddle_bridge_argument(&kept, word, NULL, 0, NULL, 0);
+    check_number("a word behind the record", "stack_at", 16, outcome.stack_at);
+    check_number("a word behind the record", "stack_bytes", 8, outcome.stack_bytes);
+    check_number("a word behind the record", "the next offset", 24, kept.stack);
 
     kept = call_of(BARKPADDLE_ABI_WINDOWS_ARM64, 8, 8, 0);
     outcome = barkpaddle_bridge_variadic(&kept);
@@ -817,7 +874,7 @@ static void one_call_in_both_forms(void)
 
         check_outcome("lent an answer's call", expected, barkpaddle_bridge_argument(kept, word, NULL, 0, NULL, 0));
         check_call("lent an answer's call", call_of(BARKPADDLE_ABI_SYSV_AMD64, left - 1, 8, 0), *kept);
-        a = barkpaddle_argument_scalar(kept->abi, kept->integer, kept->float_, kept->integers_only, BARKPADDLE_KIND_INTEGER, 8, 8, NULL, 0);
+        a = barkpaddle_argument_scalar(HANDED(*kept), BARKPADDLE_KIND_INTEGER, 8, 8, NULL, 0);
         check_outcome("a lent call's numbers", expected, a.outcome);
         check_call("a lent call's numbers", call_of(BARKPADDLE_ABI_SYSV_AMD64, left - 2, 8, 0), a.next);
     }
@@ -840,14 +897,14 @@ static void mark_of_two(void)
     barkpaddle_answer a;
 
     fill();
-    a = barkpaddle_argument_scalar(BARKPADDLE_ABI_WINDOWS_ARM64, 8, 8, 2, BARKPADDLE_KIND_DOUBLE, 8, 8, lent, ROOM);
+    a = barkpaddle_argument_scalar(BARKPADDLE_ABI_WINDOWS_ARM64, 8, 8, 2, 0, BARKPADDLE_KIND_DOUBLE, 8, 8, lent, ROOM);
     check_outcome("a mark of 2", in_an_integer, a.outcome);
     check_call("a mark of 2", next, a.next);
     check_lent("a mark of 2", slot, COUNT(slot));
-    a = barkpaddle_argument_scalar(BARKPADDLE_ABI_WINDOWS_ARM64, 8, 8, 2, BARKPADDLE_KIND_DOUBLE, 65, 8, NULL, 0);
+    a = barkpaddle_argument_scalar(BARKPADDLE_ABI_WINDOWS_ARM64, 8, 8, 2, 0, BARKPADDLE_KIND_DOUBLE, 65, 8, NULL, 0);
     check_outcome("a mark of 2, a refused value", bad_size, a.outcome);
     check_call("a mark of 2, a refused value", marked, a.next);
-    a = barkpaddle_argument_scalar(BARKPADDLE_ABI_SYSV_AMD64, 6, 8, 2, BARKPADDLE_KIND_DOUBLE, 8, 8, NULL, 0);
+    a = barkpaddle_argument_scalar(BARKPADDLE_ABI_SYSV_AMD64, 6, 8, 2, 0, BARKPADDLE_KIND_DOUBLE, 8, 8, NULL, 0);
     check_outcome("a mark of 2, a refused call", bad_call, a.outcome);
     check_call("a mark of 2, a refused call", bad, a.next);
 
@@ -968,10 +1025,10 @@ static value random_value(void)
     return v;
 }
 
-/* A call that can't be: another description, more registers than it has, or a mark that isn't its own. */
+/* A call that can't be: another description, more registers than it has, an offset past the limit, or a mark that isn't its own. */
 static barkpaddle_call spoilt(barkpaddle_call c)
 {
-    switch (below(4)) {
+    switch (below(5)) {
     case 0:
         c.abi = below(2) ? BARKPADDLE_ABI_COUNT + below(3) : c.abi + (UINT64_C(1) << 32);
         break;
@@ -980,6 +1037,9 @@ static barkpaddle_call spoilt(barkpaddle_call c)
         break;
     case 2:
         c.float_ = UINT64_MAX - below(3);
+        break;
+    case 3:
+        c.stack = below(2) ? BARKPADDLE_MOST_STACK + 1 + below(3) : UINT64_MAX - below(3);
         break;
     default:
         c.integers_only = UINT64_C(1) << below(64);
@@ -1006,6 +1066,70 @@ static void check_extent(const char *place, value v, uint64_t refusal)
     check_number(place, "BAD_EXTENT", v.what == AGGREGATE && none_before && has_a_piece_past(v), refusal == BARKPADDLE_BAD_EXTENT);
 }
 
+/* Where a value stands on the stack, how many bytes it has there, and the offset behind it. */
+typedef struct stacked {
+    uint64_t at, bytes, next;
+} stacked;
+
+static uint64_t round_up(uint64_t number, uint64_t to)
+{
+    return (number + to - 1) / to * to;
+}
+
+/* A second reading of the table of REFERENCE 9.9: where a value stands that travels so, from this call's offset on. A return has an address
+ * there or nothing, an argument what isn't in the registers that it was given. */
+static stacked stacks_up(enum operation operation, barkpaddle_call c, value v, barkpaddle_outcome o)
+{
+    barkpaddle_description_fields d = barkpaddle_description(c.abi);
+    uint64_t w = d.integer_width;
+    int packed = d.stack_args == BARKPADDLE_STACK_ARGS_PACKED;
+    int dots = operation == VARIADIC_ARGUMENT && d.variadic == BARKPADDLE_VARIADIC_ALWAYS_MEMORY;
+    uint64_t bytes = 0;
+    uint64_t rounding = w;
+    stacked there = {0, 0, 0};
+
+    if (o.way == BARKPADDLE_WAY_REFERENCE) {
+        int elsewhere = operation == RETURN && d.return_pointer == BARKPADDLE_RETURN_POINTER_DEDICATED;
+
+        bytes = elsewhere || o.integers_given > 0 ? 0 : w;
+    } else if (operation != RETURN && v.what == SCALAR) {
+        bytes = o.floats_given > 0 || v.size <= w * o.integers_given ? 0 : v.size - w * o.integers_given;
+        rounding = v.align == 16 ? 16 : packed ? v.size : w;
+    } else if (operation != RETURN && v.what == AGGREGATE && o.way != BARKPADDLE_WAY_IGNORE) {
+        uint64_t in_memory =
+            barkpaddle_in_memory(HANDED(c), v.size, v.align, v.complex_, v.floating, v.words, v.words_length).value;
+
+        bytes = o.way == BARKPADDLE_WAY_MEMORY ? v.size : w * (o.slots - o.integers_given - o.floats_given);
+        rounding = packed || in_memory > w ? in_memory : w;
+    }
+    if (dots && rounding < 8)
+        rounding = 8;
+    if (rounding == 0)
+        rounding = 1;
+    there.bytes = packed && !dots ? bytes : round_up(bytes, w);
+    there.at = there.bytes == 0 ? 0 : round_up(c.stack, rounding);
+    there.next = there.bytes == 0 ? c.stack : there.at + there.bytes;
+    return there;
+}
+
+/* An operation that its call and its value aren't refused for: at offset 0 all has room on the stack, and from there it is known how the
+ * value travels, whatever the offset. NO_ROOM is given where the slots don't fit or the stack ends, and nowhere else. */
+static void check_stacked(const char *place, enum operation operation, barkpaddle_call c, value v, uint64_t length, barkpaddle_answer a)
+{
+    static uint64_t slots[BARKPADDLE_MOST_SLOT_WORDS];
+    barkpaddle_outcome o = by_value(operation, further_on(c, 0), v, slots, COUNT(slots)).outcome;
+    stacked there = stacks_up(operation, c, v, o);
+    int has_room = length / BARKPADDLE_SLOT_WORDS >= o.slots && there.next <= BARKPADDLE_MOST_STACK;
+
+    check_number(place, "NO_ROOM", !has_room, a.outcome.refusal == BARKPADDLE_NO_ROOM);
+    if (a.outcome.refusal != BARKPADDLE_ACCEPTED)
+        return;
+    o.stack_at = there.at;
+    o.stack_bytes = there.bytes;
+    check_outcome(place, o, a.outcome);
+    check_number(place, "the next offset", there.next, a.next.stack);
+}
+
 /*
  * Calls that are kept and lent, operation after operation, on all rows in turn. What the library keeps in them is held against the answers
  * by value, and no answer by value is ever put into them.
@@ -1013,6 +1137,7 @@ static void check_extent(const char *place, value v, uint64_t refusal)
 static void history(void)
 {
     static unsigned long of_refusal[10], of_way[5], of_row[BARKPADDLE_ABI_COUNT], of_operation[4], marked, oddly_marked;
+    static unsigned long on_the_stack, past_the_stack;
     barkpaddle_call kept = call_of(0, 6, 8, 0);
     uint64_t n;
     uint64_t i;
@@ -1030,6 +1155,8 @@ static void history(void)
             if (below(3) == 0)
                 mark_both_ways("history, marked", &kept);
             kept.integers_only <<= below(64); /* another yes, where it is marked */
+            if (below(4) == 0)
+                kept.stack = BARKPADDLE_MOST_STACK - below(64);
         }
         aside = kept;
         if (below(24) == 0)
@@ -1041,10 +1168,15 @@ static void history(void)
             enum operation operation = which == 1 ? RETURN : which < 7 ? ARGUMENT : VARIADIC_ARGUMENT;
             uint64_t length = below(4) == 0 ? below(3 * BARKPADDLE_SLOT_WORDS) : BARKPADDLE_MOST_SLOT_WORDS;
             value v = random_value();
+            barkpaddle_call before = kept;
 
             fill();
             a = both_ways("history", operation, &kept, v, length == 0 ? NULL : lent, length);
             check_extent("history", v, a.outcome.refusal);
+            if (a.outcome.refusal == BARKPADDLE_ACCEPTED || a.outcome.refusal == BARKPADDLE_NO_ROOM)
+                check_stacked("history", operation, before, v, length, a);
+            on_the_stack += a.outcome.stack_bytes > 0;
+            past_the_stack += a.outcome.refusal == BARKPADDLE_NO_ROOM && length == BARKPADDLE_MOST_SLOT_WORDS;
             of_operation[operation]++;
             for (i = a.outcome.slots * BARKPADDLE_SLOT_WORDS; i < ROOM; i++)
                 if (lent_again[i] != untouched(i))
@@ -1080,6 +1212,8 @@ static void history(void)
         check_number("history", "an operation that was seen often", 1, of_operation[i] >= 5000);
     check_number("history", "marked calls that were seen often", 1, marked >= 500);
     check_number("history", "marks other than 1 that were seen often", 1, oddly_marked >= 300);
+    check_number("history", "values on the stack that were seen often", 1, on_the_stack >= 10000);
+    check_number("history", "values past its end that were seen often", 1, past_the_stack >= 1000);
     printf("history: %d operations, by value and lent, of which %lu refused\n", OPERATIONS, OPERATIONS - of_refusal[0]);
 }
 
@@ -1096,21 +1230,263 @@ static void in_memory(void)
     static const uint64_t all_wrong[] = {5, 65, 4097, 16777217};
 
     /* its own alignment; on row 2 at least the integer width, unless it is homogeneous */
-    check_told("in_memory, row 0", barkpaddle_in_memory(0, 6, 8, 0, 100, 4, 0, 0, NULL, 0), 0, 4);
-    check_told("in_memory, row 2", barkpaddle_in_memory(2, 8, 8, 0, 100, 4, 0, 0, NULL, 0), 0, 8);
-    check_told("in_memory, row 2, wide", barkpaddle_in_memory(2, 8, 8, 0, 100, 16, 0, 0, NULL, 0), 0, 16);
-    check_told("in_memory, row 2, floats", barkpaddle_in_memory(2, 8, 8, 0, 12, 4, 0, 0, singles, 12), 0, 4);
-    check_told("in_memory, row 2, five floats", barkpaddle_in_memory(2, 8, 8, 0, 20, 4, 0, 0, singles, 20), 0, 8);
-    check_told("in_memory, no alignment", barkpaddle_in_memory(0, 0, 0, 0, 0, 0, 0, 0, NULL, 0), 0, 0);
+    check_told("in_memory, row 0", barkpaddle_in_memory(0, 6, 8, 0, 0, 100, 4, 0, 0, NULL, 0), 0, 4);
+    check_told("in_memory, row 2", barkpaddle_in_memory(2, 8, 8, 0, 0, 100, 4, 0, 0, NULL, 0), 0, 8);
+    check_told("in_memory, row 2, wide", barkpaddle_in_memory(2, 8, 8, 0, 0, 100, 16, 0, 0, NULL, 0), 0, 16);
+    check_told("in_memory, row 2, floats", barkpaddle_in_memory(2, 8, 8, 0, 0, 12, 4, 0, 0, singles, 12), 0, 4);
+    check_told("in_memory, row 2, five floats", barkpaddle_in_memory(2, 8, 8, 0, 0, 20, 4, 0, 0, singles, 20), 0, 8);
+    check_told("in_memory, no alignment", barkpaddle_in_memory(0, 0, 0, 0, 0, 0, 0, 0, 0, NULL, 0), 0, 0);
 
-    check_told("in_memory", barkpaddle_in_memory(BARKPADDLE_ABI_COUNT, 9, 9, 1, 16777217, 4097, 0, 0, all_wrong, 3), BARKPADDLE_BAD_ABI, 0);
-    check_told("in_memory", barkpaddle_in_memory(2, 9, 8, 0, 16777217, 4097, 0, 0, all_wrong, 3), BARKPADDLE_BAD_CALL, 0);
-    check_told("in_memory", barkpaddle_in_memory(2, 8, 8, 1, 16777217, 4097, 0, 0, all_wrong, 3), BARKPADDLE_BAD_CALL, 0);
-    check_told("in_memory", barkpaddle_in_memory(2, 8, 8, 0, 16777217, 4097, 0, 0, all_wrong, 3), BARKPADDLE_BAD_LIST, 0);
-    check_told("in_memory", barkpaddle_in_memory(2, 8, 8, 0, 16777217, 4097, 0, 0, all_wrong, 4), BARKPADDLE_BAD_SIZE, 0);
-    check_told("in_memory", barkpaddle_in_memory(2, 8, 8, 0, 16777216, 4097, 0, 0, all_wrong, 4), BARKPADDLE_BAD_ALIGN, 0);
-    check_told("in_memory", barkpaddle_in_memory(2, 8, 8, 0, 16777216, 4096, 0, 0, all_wrong, 4), BARKPADDLE_BAD_KIND, 0);
+    check_told(
+        "in_memory", barkpaddle_in_memory(BARKPADDLE_ABI_COUNT, 9, 9, 1, 0, 16777217, 4097, 0, 0, all_wrong, 3), BARKPADDLE_BAD_ABI, 0);
+    check_told("in_memory", barkpaddle_in_memory(2, 9, 8, 0, 0, 16777217, 4097, 0, 0, all_wrong, 3), BARKPADDLE_BAD_CALL, 0);
+    check_told("in_memory", barkpaddle_in_memory(2, 8, 8, 1, 0, 16777217, 4097, 0, 0, all_wrong, 3), BARKPADDLE_BAD_CALL, 0);
+    check_told("in_memory", barkpaddle_in_memory(2, 8, 8, 0, 0, 16777217, 4097, 0, 0, all_wrong, 3), BARKPADDLE_BAD_LIST, 0);
+    check_told("in_memory", barkpaddle_in_memory(2, 8, 8, 0, 0, 16777217, 4097, 0, 0, all_wrong, 4), BARKPADDLE_BAD_SIZE, 0);
+    check_told("in_memory", barkpaddle_in_memory(2, 8, 8, 0, 0, 16777216, 4097, 0, 0, all_wrong, 4), BARKPADDLE_BAD_ALIGN, 0);
+    check_told("in_memory", barkpaddle_in_memory(2, 8, 8, 0, 0, 16777216, 4096, 0, 0, all_wrong, 4), BARKPADDLE_BAD_KIND, 0);
 }
+
+/* ---- the stack ---- */
+
+/* An operation on a call, the way, and the numbers of its answer. */
+typedef struct placed {
+    const char *place;
+    enum operation operation;
+    barkpaddle_call c;
+    value v;
+    uint64_t way;
+    uint64_t numbers[NUMBERS];
+} placed;
+
+#define A_SCALAR(kind, size, align) {SCALAR, kind, size, align, 0, 0, NULL, 0}
+#define AN_INTEGER(size) A_SCALAR(BARKPADDLE_KIND_INTEGER, size, size)
+#define A_RECORD(size, align) {AGGREGATE, 0, size, align, 0, 0, NULL, 0}
+#define A_RECORD_OF(size, align, words) {AGGREGATE, 0, size, align, 0, 0, words, COUNT(words)}
+
+static const uint64_t three_singles[] = {1, 4, 4, 0, 1, 4, 4, 4, 1, 4, 4, 8};
+
+/* A call here is its row, I, F, the mark and the offset before; the last three numbers are the place, the length and the offset after. */
+static const placed on_the_stack[] = {
+    {"the call that broke", ARGUMENT, {0, 1, 8, 0, 0}, A_RECORD_OF(16, 8, two_int8), BARKPADDLE_WAY_MEMORY, {1, 8, 0, 0, 0, 0, 0, 16, 16}},
+    {"r9 behind it", ARGUMENT, {0, 1, 8, 0, 16}, AN_INTEGER(8), BARKPADDLE_WAY_DIRECT, {0, 8, 0, 1, 0, 0, 0, 0, 16}},
+    {"a word behind it", ARGUMENT, {0, 0, 8, 0, 16}, AN_INTEGER(8), BARKPADDLE_WAY_DIRECT, {0, 8, 0, 0, 0, 0, 16, 8, 24}},
+    {"row 0, X87 of 16", ARGUMENT, {0, 6, 8, 0, 8}, A_SCALAR(3, 16, 16), BARKPADDLE_WAY_DIRECT, {6, 8, 0, 0, 0, 0, 16, 16, 32}},
+    {"row 0, X87 of 12", ARGUMENT, {0, 6, 8, 0, 8}, A_SCALAR(3, 12, 4), BARKPADDLE_WAY_DIRECT, {6, 8, 0, 0, 0, 0, 8, 16, 24}},
+    {"row 0, five Singles", ARGUMENT, {0, 6, 8, 0, 0}, A_RECORD_OF(20, 4, singles), BARKPADDLE_WAY_MEMORY, {6, 8, 0, 0, 0, 0, 0, 24, 24}},
+    {"row 0, a Single", ARGUMENT, {0, 6, 0, 0, 0}, A_SCALAR(1, 4, 4), BARKPADDLE_WAY_DIRECT, {6, 0, 0, 0, 0, 0, 0, 8, 8}},
+    {"row 0, a late return", RETURN, {0, 0, 8, 0, 0}, A_RECORD(24, 8), BARKPADDLE_WAY_REFERENCE, {0, 8, 0, 0, 0, 0, 0, 8, 8}},
+    {"row 1, a late return", RETURN, {1, 0, 8, 0, 0}, A_RECORD(24, 8), BARKPADDLE_WAY_REFERENCE, {0, 8, 0, 0, 0, 0, 0, 0, 0}},
+    {"row 1, 16 bytes", ARGUMENT, {1, 1, 8, 0, 8}, AN_INTEGER(16), BARKPADDLE_WAY_DIRECT, {0, 8, 1, 0, 0, 0, 16, 16, 32}},
+    {"row 2, a byte", ARGUMENT, {2, 0, 8, 0, 0}, AN_INTEGER(1), BARKPADDLE_WAY_DIRECT, {0, 8, 0, 0, 0, 0, 0, 1, 1}},
+    {"row 2, two bytes", ARGUMENT, {2, 0, 8, 0, 1}, AN_INTEGER(2), BARKPADDLE_WAY_DIRECT, {0, 8, 0, 0, 0, 0, 2, 2, 4}},
+    {"row 2, four bytes", ARGUMENT, {2, 0, 8, 0, 4}, AN_INTEGER(4), BARKPADDLE_WAY_DIRECT, {0, 8, 0, 0, 0, 0, 4, 4, 8}},
+    {"row 2, Singles", ARGUMENT, {2, 8, 0, 0, 4}, A_RECORD_OF(12, 4, three_singles), BARKPADDLE_WAY_MEMORY, {8, 0, 0, 0, 0, 0, 4, 12, 16}},
+    {"row 2, Singles after the dots", VARIADIC_ARGUMENT, {2, 8, 0, 0, 4}, A_RECORD_OF(12, 4, three_singles), BARKPADDLE_WAY_MEMORY,
+     {8, 0, 0, 0, 0, 0, 8, 16, 24}},
+    {"row 2, a byte after the dots", VARIADIC_ARGUMENT, {2, 8, 8, 0, 0}, AN_INTEGER(1), BARKPADDLE_WAY_DIRECT, {8, 8, 0, 0, 0, 0, 0, 8, 8}},
+    {"row 2, an address after them", VARIADIC_ARGUMENT, {2, 8, 8, 0, 0}, A_RECORD(24, 8), BARKPADDLE_WAY_REFERENCE,
+     {8, 8, 0, 0, 0, 0, 0, 8, 8}},
+    {"row 2, a float of 24", ARGUMENT, {2, 1, 8, 0, 8}, A_SCALAR(2, 24, 8), BARKPADDLE_WAY_DIRECT, {0, 8, 0, 1, 0, 0, 24, 16, 40}},
+    {"row 2, three bytes", ARGUMENT, {2, 0, 8, 0, 0}, A_RECORD(3, 1), BARKPADDLE_WAY_MEMORY, {0, 8, 0, 0, 0, 0, 0, 3, 3}},
+    {"row 4, size 12", ARGUMENT, {4, 0, 0, 0, 0}, A_RECORD(12, 4), BARKPADDLE_WAY_REFERENCE, {0, 0, 0, 0, 0, 0, 0, 8, 8}},
+    {"row 4, a Quad", ARGUMENT, {4, 0, 0, 0, 0}, A_SCALAR(4, 16, 16), BARKPADDLE_WAY_REFERENCE, {0, 0, 0, 0, 0, 0, 0, 8, 8}},
+    {"row 4, a byte", ARGUMENT, {4, 0, 0, 0, 0}, AN_INTEGER(1), BARKPADDLE_WAY_DIRECT, {0, 0, 0, 0, 0, 0, 0, 8, 8}},
+    {"row 5, the second half", ARGUMENT, {5, 1, 8, 0, 8}, AN_INTEGER(16), BARKPADDLE_WAY_DIRECT, {0, 8, 0, 1, 0, 0, 16, 8, 24}},
+    {"row 6, a return", RETURN, {6, 0, 0, 0, 0}, A_RECORD(12, 4), BARKPADDLE_WAY_REFERENCE, {0, 0, 0, 0, 0, 0, 0, 4, 4}},
+    {"row 6, a byte", ARGUMENT, {6, 0, 0, 0, 4}, AN_INTEGER(1), BARKPADDLE_WAY_DIRECT, {0, 0, 0, 0, 0, 0, 4, 4, 8}},
+    {"row 6, a Double", ARGUMENT, {6, 0, 0, 0, 8}, A_SCALAR(2, 8, 8), BARKPADDLE_WAY_DIRECT, {0, 0, 0, 0, 0, 0, 8, 8, 16}},
+    {"row 9, X87 of 12", ARGUMENT, {9, 2, 0, 0, 0}, A_SCALAR(3, 12, 4), BARKPADDLE_WAY_DIRECT, {0, 0, 0, 2, 0, 0, 0, 4, 4}},
+    {"row 9, 8 bytes", ARGUMENT, {9, 1, 0, 0, 0}, AN_INTEGER(8), BARKPADDLE_WAY_DIRECT, {1, 0, 0, 0, 0, 0, 0, 8, 8}},
+    {"row 9, a record of 8", ARGUMENT, {9, 1, 0, 0, 0}, A_RECORD(8, 4), BARKPADDLE_WAY_MEMORY, {0, 0, 1, 0, 0, 0, 0, 8, 8}},
+    {"row 22, 8 bytes", ARGUMENT, {22, 2, 0, 0, 0}, AN_INTEGER(8), BARKPADDLE_WAY_DIRECT, {0, 0, 2, 0, 0, 0, 0, 8, 8}},
+    {"row 22, a record of 6", ARGUMENT, {22, 2, 0, 0, 0}, A_RECORD(6, 4), BARKPADDLE_WAY_MEMORY, {0, 0, 2, 0, 0, 0, 0, 8, 8}},
+    /* a scalar without bytes, with a register and without */
+    {"no bytes, no register", ARGUMENT, {0, 0, 8, 0, 3}, AN_INTEGER(0), BARKPADDLE_WAY_DIRECT, {0, 8, 0, 0, 0, 0, 0, 0, 3}},
+    {"no bytes in a register", ARGUMENT, {0, 1, 8, 0, 3}, AN_INTEGER(0), BARKPADDLE_WAY_DIRECT, {0, 8, 0, 1, 0, 0, 0, 0, 3}},
+    /* an odd offset: it stays where all is in registers */
+    {"odd, in a register", ARGUMENT, {0, 6, 8, 0, 3}, AN_INTEGER(8), BARKPADDLE_WAY_DIRECT, {5, 8, 0, 1, 0, 0, 0, 0, 3}},
+    {"odd, a Double in one", ARGUMENT, {0, 6, 8, 0, 3}, A_SCALAR(2, 8, 8), BARKPADDLE_WAY_DIRECT, {6, 7, 0, 0, 0, 1, 0, 0, 3}},
+    {"odd, on the stack", ARGUMENT, {0, 0, 8, 0, 3}, AN_INTEGER(8), BARKPADDLE_WAY_DIRECT, {0, 8, 0, 0, 0, 0, 8, 8, 16}},
+    {"odd, a byte on row 2", ARGUMENT, {2, 0, 8, 0, 3}, AN_INTEGER(1), BARKPADDLE_WAY_DIRECT, {0, 8, 0, 0, 0, 0, 3, 1, 4}},
+    {"odd, an empty record", ARGUMENT, {0, 6, 8, 0, 3}, A_RECORD(0, 1), BARKPADDLE_WAY_IGNORE, {6, 8, 0, 0, 0, 0, 0, 0, 3}},
+    {"odd, void", ARGUMENT, {0, 6, 8, 0, 3}, {VOID, 0, 0, 0, 0, 0, NULL, 0}, BARKPADDLE_WAY_IGNORE, {6, 8, 0, 0, 0, 0, 0, 0, 3}},
+    {"odd, a return", RETURN, {0, 0, 8, 0, 3}, AN_INTEGER(8), BARKPADDLE_WAY_DIRECT, {0, 8, 0, 0, 0, 0, 0, 0, 3}},
+    /* alignments of records: less than a word counts as one where arguments aren't packed, and what is no power of two as it is */
+    {"aligned to 0", ARGUMENT, {0, 6, 8, 0, 3}, A_RECORD(24, 0), BARKPADDLE_WAY_MEMORY, {6, 8, 0, 0, 0, 0, 8, 24, 32}},
+    {"aligned to 12", ARGUMENT, {0, 6, 8, 0, 8}, A_RECORD(24, 12), BARKPADDLE_WAY_MEMORY, {6, 8, 0, 0, 0, 0, 12, 24, 36}},
+    {"aligned to 16", ARGUMENT, {0, 6, 8, 0, 8}, A_RECORD(24, 16), BARKPADDLE_WAY_MEMORY, {6, 8, 0, 0, 0, 0, 16, 24, 40}},
+    {"aligned to 32", ARGUMENT, {0, 6, 8, 0, 8}, A_RECORD(24, 32), BARKPADDLE_WAY_MEMORY, {6, 8, 0, 0, 0, 0, 32, 24, 56}},
+    {"aligned to 4,096", ARGUMENT, {0, 6, 8, 0, 8}, A_RECORD(24, 4096), BARKPADDLE_WAY_MEMORY, {6, 8, 0, 0, 0, 0, 4096, 24, 4120}},
+    {"packed, aligned to 0", ARGUMENT, {2, 8, 0, 0, 3}, A_RECORD_OF(12, 0, three_singles), BARKPADDLE_WAY_MEMORY,
+     {8, 0, 0, 0, 0, 0, 3, 12, 15}},
+    {"packed, aligned to 32", ARGUMENT, {2, 0, 8, 0, 3}, A_RECORD(3, 32), BARKPADDLE_WAY_MEMORY, {0, 8, 0, 0, 0, 0, 32, 3, 35}},
+    /* of scalars only 16 counts, on packed rows too */
+    {"scalar aligned to 0", ARGUMENT, {0, 0, 8, 0, 3}, A_SCALAR(0, 8, 0), BARKPADDLE_WAY_DIRECT, {0, 8, 0, 0, 0, 0, 8, 8, 16}},
+    {"scalar aligned to 16", ARGUMENT, {0, 0, 8, 0, 8}, A_SCALAR(0, 8, 16), BARKPADDLE_WAY_DIRECT, {0, 8, 0, 0, 0, 0, 16, 8, 24}},
+    {"scalar aligned to 32", ARGUMENT, {0, 0, 8, 0, 8}, A_SCALAR(0, 8, 32), BARKPADDLE_WAY_DIRECT, {0, 8, 0, 0, 0, 0, 8, 8, 16}},
+    {"scalar aligned to 4,096", ARGUMENT, {0, 0, 8, 0, 8}, A_SCALAR(0, 8, 4096), BARKPADDLE_WAY_DIRECT, {0, 8, 0, 0, 0, 0, 8, 8, 16}},
+    {"packed scalar aligned to 0", ARGUMENT, {2, 0, 8, 0, 3}, A_SCALAR(0, 4, 0), BARKPADDLE_WAY_DIRECT, {0, 8, 0, 0, 0, 0, 4, 4, 8}},
+    {"packed scalar aligned to 16", ARGUMENT, {2, 0, 8, 0, 4}, A_SCALAR(0, 4, 16), BARKPADDLE_WAY_DIRECT, {0, 8, 0, 0, 0, 0, 16, 4, 20}},
+    {"packed scalar aligned to 32", ARGUMENT, {2, 0, 8, 0, 4}, A_SCALAR(0, 4, 32), BARKPADDLE_WAY_DIRECT, {0, 8, 0, 0, 0, 0, 4, 4, 8}},
+    /* a size that is no power of two */
+    {"packed, size 12, after the dots", VARIADIC_ARGUMENT, {2, 8, 8, 0, 8}, A_SCALAR(0, 12, 4), BARKPADDLE_WAY_DIRECT,
+     {8, 8, 0, 0, 0, 0, 12, 16, 28}}};
+
+/* Where what isn't in registers stands (REFERENCE 9.9), case by case; last the two that have slots. */
+static void stacked_values(void)
+{
+    static const uint64_t half[NUMBERS] = {0, 8, 0, 1, 0, 0, 16, 8, 24}, halves[] = {0, 0, 8, 0, 8, 8};
+    static const uint64_t word[NUMBERS] = {0, 0, 0, 0, 0, 0, 0, 8, 8}, slot[] = {0, 0, 8};
+    size_t i;
+
+    for (i = 0; i < COUNT(on_the_stack); i++) {
+        const placed *p = &on_the_stack[i];
+
+        BARE(p->place, p->operation, p->c, p->v, p->way, p->numbers);
+    }
+    LINE("row 3, marked", ARGUMENT, further_on(call_of(3, 1, 8, 1), 8), scalar(4, 16, 16), BARKPADDLE_WAY_PIECES, half, halves);
+    LINE("row 4, size 8", ARGUMENT, call_of(4, 0, 0, 0), aggregate(8, 8, NULL, 0), BARKPADDLE_WAY_PIECES, word, slot);
+}
+
+static const uint64_t past_offsets[] = {BARKPADDLE_MOST_STACK + 1, UINT64_MAX};
+
+/* A call whose offset is past the limit is refused so, whatever else is asked of it; one at the limit isn't, as long as nothing goes to the
+ * stack. */
+static void offsets_of(enum operation operation)
+{
+    static const uint64_t all_wrong[] = {5, 65, 4097, 16777217};
+    const value bad = aggregate(16777217, 4097, all_wrong, 3);
+    uint64_t row;
+    size_t i;
+
+    for (row = 0; row < BARKPADDLE_ABI_COUNT; row++) {
+        barkpaddle_call whole = barkpaddle_fresh(row).next;
+        barkpaddle_call last = further_on(whole, BARKPADDLE_MOST_STACK);
+        barkpaddle_call spent = further_on(call_of(row, 0, 0, 0), BARKPADDLE_MOST_STACK);
+        const uint64_t as_it_was[NUMBERS] = {whole.integer, whole.float_, 0, 0, 0, 0, 0, 0, BARKPADDLE_MOST_STACK};
+
+        for (i = 0; i < COUNT(past_offsets); i++) {
+            barkpaddle_call past = further_on(whole, past_offsets[i]);
+
+            check_refused("past the limit, void", operation, past, nothing, ROOM, BARKPADDLE_BAD_CALL);
+            check_refused("past the limit, scalar", operation, past, scalar(0, 8, 8), ROOM, BARKPADDLE_BAD_CALL);
+            check_refused("past the limit, bad scalar", operation, past, scalar(5, 65, 4097), ROOM, BARKPADDLE_BAD_CALL);
+            check_refused("past the limit, aggregate", operation, past, aggregate(8, 8, NULL, 0), ROOM, BARKPADDLE_BAD_CALL);
+            check_refused("past the limit, bad aggregate", operation, past, bad, 0, BARKPADDLE_BAD_CALL);
+            check_refused(
+                "past all limits", operation, further_on(call_of(row, 99, 99, 0), past_offsets[i]), bad, ROOM, BARKPADDLE_BAD_CALL);
+            check_form_refused(operation, past, BARKPADDLE_FORM_VOID, BARKPADDLE_BAD_CALL);
+        }
+        BARE("at the limit, void", operation, last, nothing, BARKPADDLE_WAY_IGNORE, as_it_was);
+        check_refused("at the limit, bad scalar", operation, spent, scalar(5, 65, 4097), 0, BARKPADDLE_BAD_KIND);
+        check_refused("at the limit, bad aggregate", operation, spent, bad, 0, BARKPADDLE_BAD_LIST);
+        if (operation == RETURN)
+            continue;
+        check_refused("at the limit, a word", operation, spent, scalar(0, 4, 4), ROOM, BARKPADDLE_NO_ROOM);
+        check_refused("at the limit, a record", operation, spent, aggregate(100, 4, NULL, 0), ROOM, BARKPADDLE_NO_ROOM);
+        check_refused("at the limit, a small one", operation, spent, aggregate(8, 8, NULL, 0), ROOM, BARKPADDLE_NO_ROOM);
+    }
+    for (i = 0; i < COUNT(no_row); i++)
+        check_refused(
+            "no row, past the limit", operation, further_on(call_of(no_row[i], 0, 0, 0), UINT64_MAX), bad, ROOM, BARKPADDLE_BAD_ABI);
+}
+
+/* The mark and in_memory, which put nothing there, check the offset all the same. */
+static void offsets_beside_operations(void)
+{
+    uint64_t row;
+    size_t i;
+
+    for (row = 0; row < BARKPADDLE_ABI_COUNT; row++) {
+        barkpaddle_call last = further_on(barkpaddle_fresh(row).next, BARKPADDLE_MOST_STACK);
+        barkpaddle_call marked = last;
+
+        marked.integers_only = row == BARKPADDLE_ABI_WINDOWS_ARM64;
+        check_answer("at the limit, the mark", mark(last), BARKPADDLE_ACCEPTED, 0, marked, no_spending, 0);
+        check_told("at the limit, in_memory", barkpaddle_in_memory(HANDED(last), 100, 16, 0, 0, NULL, 0), BARKPADDLE_ACCEPTED, 16);
+        for (i = 0; i < COUNT(past_offsets); i++) {
+            barkpaddle_call past = further_on(last, past_offsets[i]);
+
+            check_answer("past the limit, the mark", mark(past), BARKPADDLE_BAD_CALL, 0, past, no_spending, 0);
+            check_told("past the limit, in_memory", barkpaddle_in_memory(HANDED(past), 100, 16, 0, 0, NULL, 0), BARKPADDLE_BAD_CALL, 0);
+            check_told(
+                "past the limit, a bad shape", barkpaddle_in_memory(HANDED(past), 16777217, 4097, 0, 0, NULL, 3), BARKPADDLE_BAD_CALL, 0);
+        }
+    }
+    for (i = 0; i < COUNT(no_row); i++) {
+        barkpaddle_call none = further_on(call_of(no_row[i], 0, 0, 0), UINT64_MAX);
+
+        check_answer("no row, past the limit, the mark", mark(none), BARKPADDLE_BAD_ABI, 0, none, no_spending, 0);
+        check_told("no row, past the limit", barkpaddle_in_memory(HANDED(none), 100, 16, 0, 0, NULL, 0), BARKPADDLE_BAD_ABI, 0);
+    }
+}
+
+/* What would end past the limit has no room there, and nothing is written, though there may be room for its slots. */
+static void end_of_the_stack(void)
+{
+    const uint64_t last = BARKPADDLE_MOST_STACK - 1, last_word = BARKPADDLE_MOST_STACK - 8;
+    const uint64_t byte_there[NUMBERS] = {0, 8, 0, 0, 0, 0, last, 1, BARKPADDLE_MOST_STACK};
+    const uint64_t word_there[NUMBERS] = {0, 8, 0, 0, 0, 0, last_word, 8, BARKPADDLE_MOST_STACK};
+    const uint64_t slot_there[NUMBERS] = {0, 0, 0, 0, 0, 0, last_word, 8, BARKPADDLE_MOST_STACK}, slot[] = {0, 0, 8};
+    const barkpaddle_call row_0 = call_of(0, 0, 8, 0), row_2 = call_of(2, 0, 8, 0), row_4 = call_of(4, 0, 0, 0);
+    const value eight = aggregate(8, 8, NULL, 0);
+
+    BARE("the last byte, row 2", ARGUMENT, further_on(row_2, last), scalar(0, 1, 1), BARKPADDLE_WAY_DIRECT, byte_there);
+    check_refused("two bytes, row 2", ARGUMENT, further_on(row_2, last), scalar(0, 2, 2), ROOM, BARKPADDLE_NO_ROOM);
+    check_refused("after the dots, row 2", VARIADIC_ARGUMENT, further_on(row_2, last), scalar(0, 1, 1), ROOM, BARKPADDLE_NO_ROOM);
+    check_refused("the last byte, row 0", ARGUMENT, further_on(row_0, last), scalar(0, 1, 1), ROOM, BARKPADDLE_NO_ROOM);
+    BARE("the last word, row 0", ARGUMENT, further_on(row_0, last_word), scalar(0, 1, 1), BARKPADDLE_WAY_DIRECT, word_there);
+    BARE("the last address, row 0", RETURN, further_on(row_0, last_word), aggregate(24, 8, NULL, 0), BARKPADDLE_WAY_REFERENCE, word_there);
+    check_refused("an address, row 0", RETURN, further_on(row_0, last), aggregate(24, 8, NULL, 0), ROOM, BARKPADDLE_NO_ROOM);
+    /* rounded up it would start past the limit */
+    check_refused("aligned to 4,096", ARGUMENT, further_on(row_0, last_word), aggregate(24, 4096, NULL, 0), ROOM, BARKPADDLE_NO_ROOM);
+    check_refused(
+        "the largest", ARGUMENT, further_on(row_0, BARKPADDLE_MOST_STACK - 16777215), aggregate(16777216, 1, NULL, 0), ROOM,
+        BARKPADDLE_NO_ROOM);
+
+    /* there is room for the slot, and none on the stack; and the other way round */
+    check_refused("a slot, row 4", ARGUMENT, further_on(row_4, BARKPADDLE_MOST_STACK), eight, ROOM, BARKPADDLE_NO_ROOM);
+    check_refused("a slot, row 4", ARGUMENT, further_on(row_4, BARKPADDLE_MOST_STACK), eight, BARKPADDLE_SLOT_WORDS, BARKPADDLE_NO_ROOM);
+    check_refused("no slot, row 4", ARGUMENT, further_on(row_4, BARKPADDLE_MOST_STACK), eight, 2, BARKPADDLE_NO_ROOM);
+    LINE("the last slot, row 4", ARGUMENT, further_on(row_4, last_word), eight, BARKPADDLE_WAY_PIECES, slot_there, slot);
+}
+
+/* As many of the largest records as the stack has room for, on a lent call: one behind the other, to the limit. */
+static void the_whole_stack(void)
+{
+    const barkpaddle_what most = what_of(aggregate(BARKPADDLE_LARGEST_SHAPE, 8, NULL, 0)), one = what_of(aggregate(1, 1, NULL, 0));
+    const uint64_t records = BARKPADDLE_MOST_STACK / BARKPADDLE_LARGEST_SHAPE;
+    barkpaddle_call kept = barkpaddle_fresh(BARKPADDLE_ABI_SYSV_AMD64).next;
+    uint64_t n;
+
+    check_number("the whole stack", "records", 65536, records);
+    for (n = 0; n < records; n++) {
+        barkpaddle_outcome outcome = barkpaddle_bridge_argument(&kept, most, NULL, 0, NULL, 0);
+
+        check_number("the whole stack", "refusal", BARKPADDLE_ACCEPTED, outcome.refusal);
+        check_number("the whole stack", "stack_at", BARKPADDLE_LARGEST_SHAPE * n, outcome.stack_at);
+        check_number("the whole stack", "stack_bytes", BARKPADDLE_LARGEST_SHAPE, outcome.stack_bytes);
+    }
+    check_call("the whole stack", further_on(call_of(0, 6, 8, 0), BARKPADDLE_MOST_STACK), kept);
+    check_refused("a record more", ARGUMENT, kept, aggregate(17, 1, NULL, 0), ROOM, BARKPADDLE_NO_ROOM);
+    check_number("void behind it", "refusal", 0, barkpaddle_bridge_argument(&kept, what_of(nothing), NULL, 0, NULL, 0).refusal);
+    check_number("in a register", "refusal", 0, barkpaddle_bridge_argument(&kept, one, NULL, 0, lent, ROOM).refusal);
+    check_call("behind it all", further_on(call_of(0, 5, 8, 0), BARKPADDLE_MOST_STACK), kept);
+}
+
+static void the_stack(void)
+{
+    stacked_values();
+    offsets_of(RETURN);
+    offsets_of(ARGUMENT);
+    offsets_of(VARIADIC_ARGUMENT);
+    offsets_beside_operations();
+    end_of_the_stack();
+    the_whole_stack();
+}
+
+/* ---- records ---- */
 
 static void check_record(const char *place, barkpaddle_record_shape r, uint64_t refusal, uint64_t size, uint64_t align, uint64_t floating)
 {
@@ -1184,7 +1560,7 @@ static void records(void)
 
 static void show_asked(barkpaddle_call c, value v)
 {
-    const uint64_t numbers[] = {c.abi, c.integer, c.float_, c.integers_only, v.size, v.align};
+    const uint64_t numbers[] = {HANDED(c), v.size, v.align};
     uint64_t i;
 
     printf("    call, size, alignment, then words of pieces:");
@@ -1220,21 +1596,21 @@ static void check_asked(const char *place, barkpaddle_call c, value v, uint64_t 
             check_refused(place, operations[i], c, v, ROOM, refusal);
     check_told(
         place,
-        barkpaddle_in_memory(
-            c.abi, c.integer, c.float_, c.integers_only, v.size, v.align, v.complex_, v.floating, v.words, v.words_length),
+        barkpaddle_in_memory(HANDED(c), v.size, v.align, v.complex_, v.floating, v.words, v.words_length),
         refusal, refusal == BARKPADDLE_ACCEPTED ? v.align : 0);
     if (failed > failed_before && failed <= 40)
         show_asked(c, v);
 }
 
-/* The same on every row: on a whole call, and on one that has no registers left, and a mark, which isn't 1, where the row has it. */
+/* The same on every row: on a whole call, and on one that has no registers left, an odd offset, and a mark, which isn't 1, where the row
+ * has it. */
 static void check_everywhere(const char *place, value v, uint64_t refusal)
 {
     uint64_t row;
 
     for (row = 0; row < BARKPADDLE_ABI_COUNT; row++) {
         check_asked(place, barkpaddle_fresh(row).next, v, refusal);
-        check_asked(place, call_of(row, 0, 0, row == BARKPADDLE_ABI_WINDOWS_ARM64 ? 2 : 0), v, refusal);
+        check_asked(place, further_on(call_of(row, 0, 0, row == BARKPADDLE_ABI_WINDOWS_ARM64 ? 2 : 0), 3), v, refusal);
     }
 }
 
@@ -1365,12 +1741,13 @@ static void calls_before_extents(void)
     uint64_t i;
 
     for (i = 0; i < COUNT(no_row); i++)
-        check_asked("no row, a piece past", call_of(no_row[i], 0, 0, 0), v, BARKPADDLE_BAD_ABI);
+        check_asked("no row, a piece past", further_on(call_of(no_row[i], 0, 0, 0), UINT64_MAX), v, BARKPADDLE_BAD_ABI);
     for (i = 0; i < BARKPADDLE_ABI_COUNT; i++) {
         barkpaddle_call start = barkpaddle_fresh(i).next;
 
         check_asked("integers, a piece past", call_of(i, start.integer + 1, start.float_, 0), v, BARKPADDLE_BAD_CALL);
         check_asked("floats, a piece past", call_of(i, start.integer, start.float_ + 1, 0), v, BARKPADDLE_BAD_CALL);
+        check_asked("an offset, a piece past", further_on(start, BARKPADDLE_MOST_STACK + 1), v, BARKPADDLE_BAD_CALL);
         if (i != BARKPADDLE_ABI_WINDOWS_ARM64)
             check_asked("a mark, a piece past", call_of(i, start.integer, start.float_, 1), v, BARKPADDLE_BAD_CALL);
     }
@@ -1417,8 +1794,8 @@ static void extents_before_room(void)
 {
     static const uint64_t past[] = {0, 8, 8, 0, 2, 8, 8, 9};
     static const uint64_t two_slots[] = {0, 0, 8, 2, 8, 0}, two_words[] = {0, 0, 8, 0, 8, 8};
-    static const uint64_t whole_0[] = {6, 8, 0, 0, 0, 0}, given_0[] = {5, 7, 0, 1, 0, 1};
-    static const uint64_t whole_1[] = {8, 8, 0, 0, 0, 0}, given_1[] = {6, 8, 0, 2, 0, 0};
+    static const uint64_t whole_0[NUMBERS] = {6, 8, 0, 0, 0, 0}, given_0[NUMBERS] = {5, 7, 0, 1, 0, 1};
+    static const uint64_t whole_1[NUMBERS] = {8, 8, 0, 0, 0, 0}, given_1[NUMBERS] = {6, 8, 0, 2, 0, 0};
     const value inside = aggregate(16, 8, int8_double, COUNT(int8_double)), outside = aggregate(16, 8, past, COUNT(past));
     uint64_t row, length;
 
@@ -1442,16 +1819,17 @@ static void extents_before_room(void)
 static void nothing_at_the_end(void)
 {
     static const uint64_t at_8[] = {0, 0, 1, 8}, at_0[] = {0, 0, 1, 0}, at_limit[] = {0, 0, 1, 16777216};
-    static const uint64_t whole[] = {6, 8, 0, 0, 0, 0}, pointer[] = {5, 8, 0, 1, 0, 0};
+    static const uint64_t whole[NUMBERS] = {6, 8, 0, 0, 0, 0}, pointer[NUMBERS] = {5, 8, 0, 1, 0, 0};
+    static const uint64_t eight[NUMBERS] = {6, 8, 0, 0, 0, 0, 0, 8, 8}, most[NUMBERS] = {6, 8, 0, 0, 0, 0, 0, 16777216, 16777216};
     const barkpaddle_call c = call_of(0, 6, 8, 0);
 
-    BARE("nothing at 8 of 8", ARGUMENT, c, aggregate(8, 8, at_8, 4), BARKPADDLE_WAY_MEMORY, whole);
-    BARE("nothing at 8 of 8", VARIADIC_ARGUMENT, c, aggregate(8, 8, at_8, 4), BARKPADDLE_WAY_MEMORY, whole);
+    BARE("nothing at 8 of 8", ARGUMENT, c, aggregate(8, 8, at_8, 4), BARKPADDLE_WAY_MEMORY, eight);
+    BARE("nothing at 8 of 8", VARIADIC_ARGUMENT, c, aggregate(8, 8, at_8, 4), BARKPADDLE_WAY_MEMORY, eight);
     BARE("nothing at 8 of 8, back", RETURN, c, aggregate(8, 8, at_8, 4), BARKPADDLE_WAY_REFERENCE, pointer);
     BARE("nothing at 0 of 0", ARGUMENT, c, aggregate(0, 8, at_0, 4), BARKPADDLE_WAY_IGNORE, whole);
     BARE("nothing at 0 of 0", VARIADIC_ARGUMENT, c, aggregate(0, 8, at_0, 4), BARKPADDLE_WAY_IGNORE, whole);
     BARE("nothing at 0 of 0, back", RETURN, c, aggregate(0, 8, at_0, 4), BARKPADDLE_WAY_IGNORE, whole);
-    BARE("nothing at the limit", ARGUMENT, c, aggregate(16777216, 8, at_limit, 4), BARKPADDLE_WAY_MEMORY, whole);
+    BARE("nothing at the limit", ARGUMENT, c, aggregate(16777216, 8, at_limit, 4), BARKPADDLE_WAY_MEMORY, most);
     BARE("nothing at the limit, back", RETURN, c, aggregate(16777216, 8, at_limit, 4), BARKPADDLE_WAY_REFERENCE, pointer);
 }
 
@@ -2170,6 +2548,7 @@ int main(void)
     mark_of_two();
     history();
     in_memory();
+    the_stack();
     records();
     ends_past();
     descriptions();

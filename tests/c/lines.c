@@ -163,7 +163,7 @@ static barkpaddle_answer perform(const uint64_t r[6], barkpaddle_call c, uint64_
     uint64_t complex_ = r[4] % 2;
     uint64_t floating = r[4] / 2;
 
-#define CALL c.abi, c.integer, c.float_, c.integers_only
+#define CALL c.abi, c.integer, c.float_, c.integers_only, c.stack
 #define LENT slots, length
 #define SHAPE r[2], r[3], complex_, floating, words, 4 * r[5]
     switch (3 * r[0] + r[1]) {
@@ -196,7 +196,8 @@ static int print_sheet(void)
     static const char *const ways[] = {"ignore", "direct", "pieces", "reference", "memory"};
     uint64_t slots[BARKPADDLE_MOST_SLOT_WORDS];
     uint64_t r[6];
-    barkpaddle_answer a = {{0, 0, 0, 0}, {0, 0, 0, 0, 0, 0, 0}};
+    barkpaddle_answer a = {{0, 0, 0, 0, 0}, {0, 0, 0, 0, 0, 0, 0, 0, 0}};
+    uint64_t before;
     uint64_t i;
 
     while (read_record(r)) {
@@ -212,10 +213,11 @@ static int print_sheet(void)
                     return 2;
                 memcpy(words + 4 * i, piece + 1, 4 * sizeof(uint64_t));
             }
+        before = r[0] == FRESH ? 0 : a.next.stack;
         if (r[0] == FRESH)
             a = barkpaddle_fresh(r[1]), word = "fresh";
         else if (r[0] == MARK)
-            a = barkpaddle_variadic(a.next.abi, a.next.integer, a.next.float_, a.next.integers_only), word = "marked";
+            a = barkpaddle_variadic(a.next.abi, a.next.integer, a.next.float_, a.next.integers_only, a.next.stack), word = "marked";
         else
             a = perform(r, a.next, slots, COUNT(slots)), word = a.outcome.way < COUNT(ways) ? ways[a.outcome.way] : "unknown";
         if (a.outcome.refusal != BARKPADDLE_ACCEPTED)
@@ -232,7 +234,7 @@ static int print_sheet(void)
             printf("%llu:", (shown)slot[BARKPADDLE_SLOT_OFFSET]);
             printf("%llu", (shown)slot[BARKPADDLE_SLOT_SIZE]);
         }
-        printf("\n");
+        printf(" %llu %llu\n", (shown)before, (shown)a.next.stack);
     }
     return 0;
 }

@@ -233,7 +233,7 @@ static void check_shape(const char *place, type t)
     for (row = 0; row < BARKPADDLE_ABI_COUNT; row++) {
         barkpaddle_call c = barkpaddle_fresh(row).next;
         barkpaddle_answer a = barkpaddle_argument_aggregate(
-            c.abi, c.integer, c.float_, c.integers_only, t.size, t.align, 0, 0, lent, BARKPADDLE_PIECE_WORDS * t.count, slots,
+            c.abi, c.integer, c.float_, c.integers_only, c.stack, t.size, t.align, 0, 0, lent, BARKPADDLE_PIECE_WORDS * t.count, slots,
             BARKPADDLE_MOST_SLOT_WORDS);
 
         check_number(place, "an operation's refusal", BARKPADDLE_ACCEPTED, a.outcome.refusal);

@@ -5,8 +5,8 @@
  * and what the va_list is behind it are noted here. Then the two areas that the va_list points to are lent to the library, which reads the
  * same list. After each scalar its bytes are compared with those that va_arg read and with those that were passed, and all three offsets
  * with the va_list's own. The argument area is lent to the last byte of the last scalar that stands in it; lent a byte less, that scalar
- * has to be refused. The register offsets at the start are also held against what the library's entries for a call leave for the named
- * parameters.
+ * has to be refused. The offsets at the start are also held against what the library's entries for a call leave for the named parameters:
+ * registers, and the next stack offset.
  *
  * Some versions of clang read another place by va_arg than their own callers fill (docs/COMPILERS.md). Which this one does is tried first;
  * what isn't compared because of it is counted and named. With gcc all is compared.
@@ -372,12 +372,13 @@ static barkpaddle_answer after_result(barkpaddle_call c, char letter)
     const type *t;
 
     if (letter == 'v')
-        return barkpaddle_return_void(c.abi, c.integer, c.float_, c.integers_only, slots, COUNT(slots));
+        return barkpaddle_return_void(c.abi, c.integer, c.float_, c.integers_only, c.stack, slots, COUNT(slots));
     if (r != NULL)
         return barkpaddle_return_aggregate(
-            c.abi, c.integer, c.float_, c.integers_only, r->size, r->align, 0, 0, r->words, r->words_length, slots, COUNT(slots));
+            c.abi, c.integer, c.float_, c.integers_only, c.stack, r->size, r->align, 0, 0, r->words, r->words_length, slots, COUNT(slots));
     t = type_of(letter);
-    return barkpaddle_return_scalar(c.abi, c.integer, c.float_, c.integers_only, t->kind, t->size, t->size, slots, COUNT(slots));
+    return barkpaddle_return_scalar(
+        c.abi, c.integer, c.float_, c.integers_only, c.stack, t->kind, t->size, t->size, slots, COUNT(slots));
 }
 
 static barkpaddle_answer after_parameter(barkpaddle_call c, char letter)
@@ -388,39 +389,28 @@ static barkpaddle_answer after_parameter(barkpaddle_call c, char letter)
 
     if (r != NULL)
         return barkpaddle_argument_aggregate(
-            c.abi, c.integer, c.float_, c.integers_only, r->size, r->align, 0, 0, r->words, r->words_length, slots, COUNT(slots));
+            c.abi, c.integer, c.float_, c.integers_only, c.stack, r->size, r->align, 0, 0, r->words, r->words_length, slots, COUNT(slots));
     t = type_of(letter);
-    return barkpaddle_argument_scalar(c.abi, c.integer, c.float_, c.integers_only, t->kind, t->size, t->size, slots, COUNT(slots));
-}
-
-/* How far the argument area is taken behind a parameter: the psABI's rule, for a call counts registers alone. */
-static uint64_t stack_behind(uint64_t stack, barkpaddle_outcome outcome, char letter)
-{
-    const record *r = record_of(letter);
-    uint64_t size = r != NULL ? r->size : type_of(letter)->size;
-    uint64_t align = r != NULL ? r->align : size;
-
-    if (outcome.integers_given + outcome.floats_given > 0)
-        return stack;
-    return round_up(stack, align > 8 ? align : 8) + round_up(size, 8);
+    return barkpaddle_argument_scalar(
+        c.abi, c.integer, c.float_, c.integers_only, c.stack, t->kind, t->size, t->size, slots, COUNT(slots));
 }
 
 /* The offsets that the library's own entries leave for the dots. */
 static offsets behind_named(void)
 {
     barkpaddle_call c = barkpaddle_fresh(BARKPADDLE_ABI_SYSV_AMD64).next;
-    barkpaddle_answer a = barkpaddle_variadic(c.abi, c.integer, c.float_, c.integers_only);
+    barkpaddle_answer a = barkpaddle_variadic(c.abi, c.integer, c.float_, c.integers_only, c.stack);
     const char *letter = call.named;
-    offsets at = {0, 0, 0};
+    offsets at;
 
     for (a = after_result(a.next, *letter++); *letter != 0; letter++) {
         same_number(-1, "the refusal of the parameter before", BARKPADDLE_ACCEPTED, a.outcome.refusal);
         a = after_parameter(a.next, *letter);
-        at.overflow = stack_behind(at.overflow, a.outcome, *letter);
     }
     same_number(-1, "the refusal of the last parameter", BARKPADDLE_ACCEPTED, a.outcome.refusal);
     at.gp = 8 * (6 - a.next.integer);
     at.fp = 48 + 16 * (8 - a.next.float_);
+    at.overflow = a.next.stack;
     return at;
 }
 

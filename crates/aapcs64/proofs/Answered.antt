@@ -13,15 +13,13 @@ use Rattle.slots.specs.declared.Slot.{Slot}
 use Rattle.slots.specs.Words.{written}
 use Rattle.abis.specs.Abis.{described, descriptions}
 use Rattle.spend.specs.declared.Left.{Left}
-use Rattle.spend.specs.declared.Spent.{Spent}
 use Rattle.spend.specs.declared.Way.{Way}
 use Rattle.spend.specs.Ways.{no-mark, wayFrom}
 use Rattle.spend.proofs.Ways.{back}
 use Rattle.classify.specs.declared.Call.{Call}
 use Rattle.classify.specs.declared.Answer.{Answer}
-use Rattle.classify.specs.Pass.{wayOf, passSlots}
-use Rattle.classify.specs.Classify.{Passed, argument, returns}
-use Rattle.classify.specs.Answers.{rowRefusal, refusalOf, answerTo, writtenTo, argumentAnswerBy, argumentWrittenBy, returnsAnswerBy, returnsWrittenBy, argumentAnswer, argumentWritten, returnsAnswer, returnsWritten}
+use Rattle.classify.specs.Pass.{wayOf}
+use Rattle.classify.specs.Answers.{rowRefusal, refusalOf, Account, slotsOf, argumentAccount, returnsAccount, answerTo, writtenTo, argumentAnswerBy, argumentWrittenBy, returnsAnswerBy, returnsWrittenBy, argumentAnswer, argumentWritten, returnsAnswer, returnsWritten}
 use Rattle.classify.proofs.Accepted.{Sound, sound, call-checked, unmarked, accepted-so}
 use Rattle.aapcs64.specs.Aapcs64.{parameter, result}
 use Rattle.aapcs64.specs.Reading.{composite, mostNatural, stateOf, reads, readsResult}
@@ -52,21 +50,22 @@ pub record Answers (a : Answer) (out buffer : List ℕ) (says : List Slot → Ty
 
 module _ (c : Call) (abi : c .abi ≡ 1) (shape : Shape) (ws out : List ℕ) where
   -- what is said of the Rust's pass is said of an accepted answer
-  answered : (p : Passed) (spent : Spent) (says : Way → List Slot → Left → Type 0)
-      → answerTo (refusalOf c (Aggregate shape) ws) c p spent out .outcome .refusal ≡ accepted → (Good c → says (wayOf (p .pass)) (passSlots (p .pass)) (p .left))
-      → Answers (answerTo (refusalOf c (Aggregate shape) ws) c p spent out) out (writtenTo (refusalOf c (Aggregate shape) ws) p out)
-      (λ (slots : List Slot). says (wayFrom (answerTo (refusalOf c (Aggregate shape) ws) c p spent out .outcome .way)) slots (answerTo (refusalOf c (Aggregate shape) ws) c p spent out .next .left))
+  answered : (account : Account) (says : Way → List Slot → Left → Type 0)
+      → answerTo (refusalOf c (Aggregate shape) ws) c account out .outcome .refusal ≡ accepted
+      → (Good c → says (wayOf (account .passed .pass)) (slotsOf account) (account .passed .left))
+      → Answers (answerTo (refusalOf c (Aggregate shape) ws) c account out) out (writtenTo (refusalOf c (Aggregate shape) ws) account out)
+      (λ (slots : List Slot). says (wayFrom (answerTo (refusalOf c (Aggregate shape) ws) c account out .outcome .way)) slots (answerTo (refusalOf c (Aggregate shape) ws) c account out .next .left))
   unfolding refusalOf
-  answered p spent says ok standard =
-      let a = accepted-so (refusalOf c (Aggregate shape) ws) c p spent out ok in
+  answered account says ok standard =
+      let a = accepted-so (refusalOf c (Aggregate shape) ws) c account out ok in
       let s = sound (rowRefusal (c .abi)) (described (c .abi)) c (call-checked (rowRefusal (c .abi)) (described (c .abi)) c (Aggregate shape) ws (a .checks-pass)) .1 in
       rw (a .answer, a .words-are)
       (record {
-        slots = passSlots (p .pass);
+        slots = slotsOf account;
         count = refl;
         in-buffer = refl;
         description = abi;
-        standard = rw (back (wayOf (p .pass))) (standard (good c abi s));
+        standard = rw (back (wayOf (account .passed .pass))) (standard (good c abi s));
       })
 
 module _ (c : Call) (abi : c .abi ≡ 1) (shape : Shape) (ws out : List ℕ) (d : Domain shape (piecesOf ws)) (natural : ℕ) (n : natural ≤ mostNatural shape (piecesOf ws)) where
@@ -75,9 +74,9 @@ module _ (c : Call) (abi : c .abi ≡ 1) (shape : Shape) (ws out : List ℕ) (d 
       (λ (slots : List Slot).
       reads (c .left) (wayFrom (argumentAnswer c (Aggregate shape) ws out .outcome .way)) slots (argumentAnswer c (Aggregate shape) ws out .next .left)
       ≡ some (parameter (stateOf (c .left)) (composite natural shape (piecesOf ws))))
-  unfolding argumentAnswer argumentWritten argumentAnswerBy argumentWrittenBy refusalOf
+  unfolding argumentAnswer argumentWritten argumentAnswerBy argumentWrittenBy argumentAccount refusalOf
   argument-answered ok =
-      answered c abi shape ws out (argument (described (c .abi)) (c .left) (Aggregate shape) (piecesOf ws)) _
+      answered c abi shape ws out (argumentAccount (described (c .abi)) c (Aggregate shape) (piecesOf ws))
       (λ (way : Way) (slots : List Slot) (after : Left). reads (c .left) way slots after ≡ some (parameter (stateOf (c .left)) (composite natural shape (piecesOf ws)))) ok
       (λ k. rw (abi, k .no-mark-is) (argument-is-aapcs64 shape (piecesOf ws) natural (c .left .integer) (c .left .float) d n (k .integers) (k .floats)))
 
@@ -86,8 +85,8 @@ module _ (c : Call) (abi : c .abi ≡ 1) (shape : Shape) (ws out : List ℕ) (d 
       (λ (slots : List Slot).
       readsResult (described 1 .«return_pointer») (wayFrom (returnsAnswer c (Aggregate shape) ws out .outcome .way)) slots (returnsAnswer c (Aggregate shape) ws out .next .left)
       ≡ some (result (stateOf (c .left)) (composite natural shape (piecesOf ws))))
-  unfolding returnsAnswer returnsWritten returnsAnswerBy returnsWrittenBy refusalOf
+  unfolding returnsAnswer returnsWritten returnsAnswerBy returnsWrittenBy returnsAccount refusalOf
   returns-answered ok =
-      answered c abi shape ws out (returns (described (c .abi)) (c .left) (Aggregate shape) (piecesOf ws)) _
+      answered c abi shape ws out (returnsAccount (described (c .abi)) c (Aggregate shape) (piecesOf ws))
       (λ (way : Way) (slots : List Slot) (after : Left). readsResult (described 1 .«return_pointer») way slots after ≡ some (result (stateOf (c .left)) (composite natural shape (piecesOf ws)))) ok
       (λ k. rw (abi, k .no-mark-is) (returns-is-aapcs64 shape (piecesOf ws) natural (c .left .integer) (c .left .float) d n))

@@ -1,6 +1,6 @@
 // Performs one long history of operations twice, on a call by value and on a call that is lent, and compares call, outcome and slot buffer after
-// each operation. The history is drawn from a fixed seed: all thirty descriptions, late and repeated marks, and every
-// refusal, which the line that is printed counts.
+// each operation. The history is drawn from a fixed seed: all thirty descriptions, late and repeated marks, stack offsets up to the limit and
+// above it, and every refusal, which the line that is printed counts.
 use bridge::What;
 use classify::Answer;
 use classify::Call;
@@ -10,6 +10,7 @@ use shape::Arg;
 use shape::Scalar;
 use shape::Shape;
 use spend::Left;
+use stack_place::Stacked;
 ghost use mathlib.Core.Path.{_≡_};
 ghost use Rattle.io.specs.Counts.{Counts};
 ghost use Rattle.classify.specs.Answers.{variadicAnswer};
@@ -149,7 +150,8 @@ fn after(seed: u64) -> u64 {
     b ^ (b << 17)
 }
 
-// The call that an operation is performed on: the one before left it, or a fresh one, or now and then one of any numbers.
+// The call that an operation is performed on: the one before left it, or a fresh one, or now and then one of any numbers, or what the one before
+// left, but at another stack offset.
 fn renewed(call: Call, drawn: Drawn) -> Call {
     let a = drawn.a;
     let b = drawn.b;
@@ -166,9 +168,26 @@ fn renewed(call: Call, drawn: Drawn) -> Call {
                 float: (b >> 16) % 12,
                 integers_only: (b >> 24) % 2,
             },
+            stack: stack_of(b >> 42),
+        };
+    }
+    if (a >> 27) % 64 == 0 {
+        let left = call.left;
+        return Call {
+            abi: call.abi,
+            left,
+            stack: stack_of(b >> 42),
         };
     }
     call
+}
+
+// Mostly a small offset; else one near the limit, below it or above it.
+fn stack_of(k: u64) -> u64 {
+    if k % 4 == 0 {
+        return stack_place::MOST_STACK - 48 + (k >> 2) % 64;
+    }
+    (k >> 2) % 64
 }
 
 fn what_of(drawn: Drawn) -> What {
@@ -433,6 +452,7 @@ fn same_calls(a: Call, b: Call) -> bool {
         & (left.integer == other.integer)
         & (left.float == other.float)
         & (left.integers_only == other.integers_only)
+        & (a.stack == b.stack)
 }
 
 fn same_outcomes(a: Outcome, b: Outcome) -> bool {
@@ -445,6 +465,11 @@ fn same_outcomes(a: Outcome, b: Outcome) -> bool {
         & (spent.floats_passed == other.floats_passed)
         & (spent.floats_given == other.floats_given)
         & (a.slots == b.slots)
+        & same_places(a.stacked, b.stacked)
+}
+
+fn same_places(a: Stacked, b: Stacked) -> bool {
+    (a.at == b.at) & (a.bytes == b.bytes)
 }
 
 fn same_words(first: &[u64], second: &[u64]) -> bool {

@@ -48,7 +48,7 @@ use Rattle.find.specs.Matches.{isOneOf, matches}
 use Rattle.classify.specs.declared.Call.{Call}
 use Rattle.classify.specs.Pass.{pieces, passSlots}
 use Rattle.classify.specs.Classify.{Passed, passed, leaves, lessBoth, isIntegersOnly, registers, scalar, integerCostOf, floatCostOf, shortOf, slotsInRegisters, travelIn, travel, orRest, tried, apply, returnedScalar, returns, argument, inMemoryAlways, variadicBy, variadicArgument}
-use Rattle.classify.specs.Answers.{leftRefusal, argRefusal, checked, rowRefusal, refusalBy, refusalOf}
+use Rattle.classify.specs.Answers.{stateRefusal, argRefusal, checked, rowRefusal, refusalBy, refusalOf}
 use Rattle.classify.proofs.Accepted.{sound, call-checked}
 use Rattle.classify.proofs.Sources.{none-found, floats-cut}
 
@@ -389,7 +389,7 @@ unfolding refusalOf refusalBy checked
 eight c arg ws e =
     let D : Description = described (c .abi) in
     let s = sound (rowRefusal (c .abi)) D c (call-checked (rowRefusal (c .abi)) D c arg ws e) .1 in
-    let h = small-arg arg ws (else-none (leftRefusal (termsOf D) (c .left)) (argRefusal arg ws) (else-none (rowRefusal (c .abi)) _ e .1) .1) in
+    let h = small-arg arg ws (else-none (stateRefusal (termsOf D) c) (argRefusal arg ws) (else-none (rowRefusal (c .abi)) _ e .1) .1) in
     record {
       returned = returns-eight (c .abi) (c .left) arg (piecesOf ws);
       passed-on = argument-eight (c .abi) (c .left) (s .integers) (s .mark-used) arg (piecesOf ws) h;

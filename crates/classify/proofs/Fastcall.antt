@@ -1,6 +1,6 @@
 -- What the rules of fastcall decide about an aggregate argument, fixed or after the dots: nothing travels, or it is in memory, and then what has no
 -- floating mode is counted against the integer registers, which it passes over (REFERENCE 9.3).
-use Prim.Native.Nat.{ℕ}
+use Prim.Native.Nat.{ℕ, max}
 use mathlib.Core.Path.{_≡_, refl, ap, _∙_}
 use mathlib.Core.List.{List, [], _∷_}
 use mathlib.Core.Bool.{Bool, true, false, _&&_, _||_, cond}
@@ -9,7 +9,10 @@ use Rattle.shape.proofs.Bools.{second-fails}
 use Rattle.shape.specs.declared.Arg.the-variants.{Aggregate}
 use Rattle.shape.specs.declared.Piece.{Piece}
 use Rattle.shape.specs.declared.Shape.{Shape}
+use Rattle.shape.specs.Arithmetic.{roundUp}
 use Rattle.slots.specs.Search.{floatsIn}
+use Rattle.describe.specs.declared.Dots.{Dots}
+use Rattle.describe.specs.declared.StackArgs.the-variants.{RegisterSized}
 use Rattle.describe.specs.declared.Test.{Test}
 use Rattle.describe.specs.declared.Test.the-variants.{Anything, Empty, FloatingMode}
 use Rattle.describe.specs.declared.Travel.{Travel}
@@ -27,8 +30,13 @@ use Rattle.find.specs.Matches.{matches}
 use Rattle.spend.specs.declared.Left.{Left}
 use Rattle.spend.specs.declared.Way as ways
 use Rattle.spend.specs.declared.Decision.{Decision}
+use Rattle.spend.specs.declared.Spent.{Spent}
 use Rattle.spend.specs.Ways.{marked, plain, nothing}
 use Rattle.spend.specs.Spending.{takes, wantOf, memory, travelOf}
+use Rattle.stack_align.specs.InMemory.{inMemoryBy}
+use Rattle.stack_place.specs.Stacked.{nowhere, behind}
+use Rattle.stack_place.proofs.Placing.{no-length}
+use Rattle.classify.specs.Stacking.{areaOf, stackedOf}
 use Rattle.classify.specs.Spending.{Chosen, decideBy, byRules, aggregateBy, choice, argumentChoice, variadicArgumentChoice}
 
 -- what a description of fastcall has
@@ -36,17 +44,18 @@ record Fastcall (D : Description) : Type 0 where
   rules : D .arguments ≡ rule Empty Ignore ∷ rule FloatingMode InMemory ∷ rule Anything InMemoryAndSpend ∷ []
   words : D .banks .«integer_width» ≡ 4
   dots : D .variadic ≡ SameAsFixed
+  area : D .«stack_args» ≡ RegisterSized
 
 fastcall-row : (d : ℕ) → T (isFastcall d) → Fastcall (described d)
 unfolding described descriptions
 fastcall-row =
     each-among (λ (d : ℕ). Fastcall (described d)) fastcallRows (
-      record { rules = refl; words = refl; dots = refl },
+      record { rules = refl; words = refl; dots = refl; area = refl },
       (
-        record { rules = refl; words = refl; dots = refl },
+        record { rules = refl; words = refl; dots = refl; area = refl },
         (
-          record { rules = refl; words = refl; dots = refl },
-          (record { rules = refl; words = refl; dots = refl }, tt),
+          record { rules = refl; words = refl; dots = refl; area = refl },
+          (record { rules = refl; words = refl; dots = refl; area = refl }, tt),
         ),
       ),
     )
@@ -93,3 +102,17 @@ module _ (d : ℕ) (row : isFastcall d ≡ true) (left : Left) (shape : Shape) (
   pub variadic-decision : variadicArgumentChoice D left (Aggregate shape) ps .decision ≡ fastcallDecision shape 4 (left .integer)
   unfolding argumentChoice variadicArgumentChoice
   variadic-decision = ap (λ (v : Variadic). choice (termsOf D) (D .arguments) false (dotsOf v) left (Aggregate shape) ps .decision) (fastcall .dots) ∙ fixed-decision
+
+  -- where it stands: its words, at its alignment or at a word's, if it is in memory
+  module _ (values : Dots) (fixed : values .emptied ≡ false) (stack : ℕ) (spent : Spent) (slots : ℕ) where
+    pub memory-stands : stackedOf (termsOf D) (D .arguments) false values stack (Aggregate shape) ps ways.the-variants.Memory spent slots
+        ≡ behind stack (roundUp (shape .size) 4) (max (max (shape .align) 4) 1)
+    unfolding stackedOf inMemoryBy
+    memory-stands = rw (fixed, fastcall .area, fastcall .words)
+
+    pub nothing-stands : stackedOf (termsOf D) (D .arguments) false values stack (Aggregate shape) ps ways.the-variants.Ignore spent slots ≡ nowhere stack
+    unfolding stackedOf behind
+    nothing-stands = rw (no-length (areaOf (termsOf D) values))
+
+  pub variadic-fixed : dotsOf (D .variadic) .emptied ≡ false
+  variadic-fixed = rw (fastcall .dots)

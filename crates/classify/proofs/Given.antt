@@ -26,12 +26,13 @@ use Rattle.spend.specs.Spending.{travelOf}
 use Rattle.spend.proofs.Given.{Ungiven, UngivenIf, another-way, either, travel-ungiven}
 use Rattle.spend_scalar.proofs.Given as lone
 use Rattle.find.specs.Matches.{matches}
+use Rattle.stack_place.specs.declared.Placed.{Placed}
 use Rattle.classify.specs.declared.Call.{Call}
 use Rattle.classify.specs.declared.Answer.{Answer}
 use Rattle.classify.specs.Pass.{wayOf}
 use Rattle.classify.specs.Classify.{Passed}
 use Rattle.classify.specs.Spending.{Chosen, chosen, wantedBy, orNext, decideBy, byRules, leftFor, scalarBy, freely, aggregateBy, choice, returnChoice, argumentChoice, variadicArgumentChoice}
-use Rattle.classify.specs.Answers.{answerTo, returnsAnswerBy, argumentAnswerBy, variadicArgumentAnswerBy}
+use Rattle.classify.specs.Answers.{returnsAccount, argumentAccount, variadicArgumentAccount, answerTo, returnsAnswerBy, argumentAnswerBy, variadicArgumentAnswerBy}
 use Rattle.classify.proofs.Accepted.{by-cases}
 use Rattle.classify.proofs.Agree.{argument-agrees, returns-agrees}
 use Rattle.classify.proofs.Operations.{agreed}
@@ -85,30 +86,30 @@ choice-ungiven T rules returning dots left (args.the-variants.Aggregate shape) p
 -- ---- the answers
 
 -- an answer whose way, where nothing refuses it, is that of a decision of which it holds
-answer-ungiven : (checks : ℕ) (c : Call) (p : Passed) (k : Chosen) (out : List ℕ) → (checks ≡ accepted → wayOf (p .pass) ≡ k .decision .way) → ChosenUngiven k
-    → AnswerUngiven (answerTo checks c p (k .decision .spent) out)
-answer-ungiven checks c p k out same ungiven =
-    by-cases checks c p (k .decision .spent) out (λ (a : Answer) (words : List ℕ). AnswerUngiven a) (λ n e w. (refl, refl))
-    (λ z h w. ungiven (ap wayNumber (sym (same z)) ∙ w))
+answer-ungiven : (checks : ℕ) (c : Call) (p : Passed) (k : Chosen) (placed : Placed) (out : List ℕ) → (checks ≡ accepted → wayOf (p .pass) ≡ k .decision .way) → ChosenUngiven k
+    → AnswerUngiven (answerTo checks c (record { passed = p; spent = k .decision .spent; placed = placed }) out)
+answer-ungiven checks c p k placed out same ungiven =
+    by-cases checks c (record { passed = p; spent = k .decision .spent; placed = placed }) out (λ (a : Answer) (words : List ℕ). AnswerUngiven a) (λ n e w. (refl, refl))
+    (λ z h s w. ungiven (ap wayNumber (sym (same z)) ∙ w))
 
 module _ (source : ℕ) (D : Description) (c : Call) (arg : args.Arg) (ws out : List ℕ) where
   abbrev ps : List Piece
   ps = piecesOf ws
 
   pub returns-ungiven : AnswerUngiven (returnsAnswerBy source D c arg ws out)
-  unfolding returnsAnswerBy returnChoice
+  unfolding returnsAnswerBy returnsAccount returnChoice
   returns-ungiven =
-      answer-ungiven _ c _ (returnChoice D (c .left) arg ps) out (λ z. returns-agrees D (c .left) arg ps .way)
+      answer-ungiven _ c _ (returnChoice D (c .left) arg ps) _ out (λ z. returns-agrees D (c .left) arg ps .way)
       (choice-ungiven (termsOf D) (D .returns) true asFixed (c .left) arg ps)
 
   pub argument-ungiven : AnswerUngiven (argumentAnswerBy source D c arg ws out)
-  unfolding argumentAnswerBy argumentChoice
+  unfolding argumentAnswerBy argumentAccount argumentChoice
   argument-ungiven =
-      answer-ungiven _ c _ (argumentChoice D (c .left) arg ps) out (λ z. argument-agrees D (c .left) arg ps .way)
+      answer-ungiven _ c _ (argumentChoice D (c .left) arg ps) _ out (λ z. argument-agrees D (c .left) arg ps .way)
       (choice-ungiven (termsOf D) (D .arguments) false asFixed (c .left) arg ps)
 
   pub variadic-argument-ungiven : AnswerUngiven (variadicArgumentAnswerBy source D c arg ws out)
-  unfolding variadicArgumentAnswerBy variadicArgumentChoice
+  unfolding variadicArgumentAnswerBy variadicArgumentAccount variadicArgumentChoice
   variadic-argument-ungiven =
-      answer-ungiven _ c _ (variadicArgumentChoice D (c .left) arg ps) out (λ z. agreed source D c arg ws z .way)
+      answer-ungiven _ c _ (variadicArgumentChoice D (c .left) arg ps) _ out (λ z. agreed source D c arg ws z .way)
       (choice-ungiven (termsOf D) (D .arguments) false (dotsOf (D .variadic)) (c .left) arg ps)

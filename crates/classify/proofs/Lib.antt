@@ -3,6 +3,7 @@ pub mod Sources
 pub mod Registers
 pub mod Agree
 pub mod Accepted
+pub mod Stacking
 pub mod Ends
 pub mod Walking
 pub mod Operations

@@ -11,7 +11,7 @@ use Rattle.shape.specs.declared.Arg as args
 use Rattle.shape.specs.declared.Scalar.{Scalar}
 use Rattle.shape.specs.declared.Shape.{Shape}
 use Rattle.shape.specs.declared.Piece.{Piece}
-use Rattle.shape.specs.Numbers.{accepted, bad-abi, integer}
+use Rattle.shape.specs.Numbers.{accepted, bad-abi, no-room, integer}
 use Rattle.shape.specs.Questions.{isFloat}
 use Rattle.shape.specs.Words.{piecesOf}
 use Rattle.checks.specs.Check.{orElse, unlessRefused}
@@ -47,16 +47,20 @@ use Rattle.spend_scalar.specs.Spending.{skipOf, integerArgument, scalarInRegist
 use Rattle.find.specs.Matches.{noClasses}
 use Rattle.slot_writing.specs.Sources.{sourceSlots, scalarSlots}
 use Rattle.slot_writing.proofs.Writing.{nothing-written}
+use Rattle.stack_place.specs.declared.Placed.{Placed}
+use Rattle.stack_place.specs.Stacked.{behind}
+use Rattle.stack_place.proofs.Placing.{no-length}
 use Rattle.classify.specs.declared.Call.{Call}
 use Rattle.classify.specs.declared.Answer.{Answer}
 use Rattle.classify.specs.declared.Decided.{Decided}
 use Rattle.classify.specs.Classify as rust
 use Rattle.classify.specs.Classify.{Passed}
 use Rattle.classify.specs.Spending as rules
-use Rattle.classify.specs.Answers.{leftRefusal, argRefusal, checked, callRefusalBy, refusalBy, rowRefusal, refused, done, orAnswer, answerTo, writtenTo, Leaves, voidAnswerBy, voidAnswer, returnsAnswerBy, returnsWrittenBy, argumentAnswerBy, argumentWrittenBy, variadicArgumentAnswerBy, variadicArgumentWrittenBy, returnsAnswer, returnsWritten, argumentAnswer, argumentWritten, variadicArgumentAnswer, variadicArgumentWritten, Returns, Passes, PassesVariadic}
+use Rattle.classify.specs.Answers.{stateRefusal, argRefusal, checked, callRefusalBy, refusalBy, rowRefusal, refused, done, Account, accountOf, returnsAccount, argumentAccount, variadicArgumentAccount, orAnswer, answerTo, writtenTo, Leaves, voidAnswerBy, voidAnswer, returnsAnswerBy, returnsWrittenBy, argumentAnswerBy, argumentWrittenBy, variadicArgumentAnswerBy, variadicArgumentWrittenBy, returnsAnswer, returnsWritten, argumentAnswer, argumentWritten, variadicArgumentAnswer, variadicArgumentWritten, Returns, Passes, PassesVariadic}
+use Rattle.classify.specs.Stacking.{stackedOf}
 use Rattle.classify.specs.Parts as parts
 use Rattle.classify.proofs.Accepted.{sound, call-checked, unmarked}
-use Rattle.classify.proofs.Steps.{row-there, row-missing, or-refused}
+use Rattle.classify.proofs.Steps.{row-there, row-missing, or-refused, slots-short, slots-fit}
 use Rattle.classify.proofs.Agree.{Agrees, slotsFor, argument-agrees, returns-agrees, variadic-argument-agrees}
 
 -- ---- what decides a value
@@ -120,11 +124,16 @@ module _ (abi : ℕ) (b : Brief) (eb : b ≡ briefOf (described abi)) where
 
 -- ---- an operation by terms, where nothing refuses it
 
-pub aggregate-done : (T : Terms) (list : List Rule) (returning : Bool) (dots : Dots) (c : Call) (shape : Shape) (ws out : List ℕ) (r : Answer) (after : List ℕ) (d : Decided)
-    → d ≡ parts.aggregateDecided T list returning dots (c .left) shape (piecesOf ws) → parts.Finishes c d (piecesOf ws) out r after
-    → parts.By T list returning dots c (parts.aggregateArg shape) ws out r after
-unfolding parts.aggregateDecided
-aggregate-done T list returning dots c shape ws out r after d ed e = rw ed at e
+module _ (T : Terms) (list : List Rule) (returning : Bool) (dots : Dots) (c : Call) (shape : Shape) (ws out : List ℕ) (r : Answer) (d : Decided)
+    (ed : d ≡ parts.aggregateDecided T list returning dots (c .left) shape (piecesOf ws)) (room : ℕ) (er : room ≡ length out / slotSize) where
+  pub aggregate-short : room < d .decision .count → r ≡ refused c no-room → parts.By T list returning dots c (parts.aggregateArg shape) ws out r out
+  unfolding parts.aggregateDecided
+  aggregate-short h e = rw ed at (slots-short out room er c (d .decision) (parts.stackedBy T list returning dots c (parts.aggregateArg shape) (piecesOf ws) (d .decision)) (parts.decidedSlots d (piecesOf ws)) r h e)
+
+  pub aggregate-done : d .decision .count ≤ room → (placed : Placed) → placed ≡ parts.stackedBy T list returning dots c (parts.aggregateArg shape) (piecesOf ws) (d .decision)
+      → (after : List ℕ) → parts.Settles c (d .decision) placed (parts.decidedSlots d (piecesOf ws)) out r after → parts.By T list returning dots c (parts.aggregateArg shape) ws out r after
+  unfolding parts.aggregateDecided
+  aggregate-done h placed ep after e = rw (ep, ed) at (slots-fit out room er c (d .decision) placed (parts.decidedSlots d (piecesOf ws)) r h after e)
 
 -- the slots of a scalar stand in no pieces and no classes
 module _ (cs : List ℕ) (ps : List Piece) where
@@ -181,41 +190,55 @@ module _ (cs : List ℕ) (ps : List Piece) where
       either returning _ _ (return-alone (T .scalars) (T .«return_pointer») left s)
       (either (dots .emptied) _ _ (empty _ _) (argument-alone (T .banks) (T .scalars) (rules.leftFor dots left) s))
 
-pub scalar-done : (T : Terms) (returning : Bool) (dots : Dots) (c : Call) (s : Scalar) (out : List ℕ) (r : Answer) (after : List ℕ) (d : Decision)
-    → d ≡ rules.scalarBy T returning dots (c .left) s → parts.FinishesScalar c d out r after
-    → parts.By T [] returning dots c (parts.scalarArg s) [] out r after
-unfolding piecesOf
-scalar-done T returning dots c s out r after d ed e = rw (ed, scalar-alone noClasses [] T returning dots (c .left) s .same) at e
+module _ (T : Terms) (returning : Bool) (dots : Dots) (c : Call) (s : Scalar) (out : List ℕ) (r : Answer) (d : Decision)
+    (ed : d ≡ rules.scalarBy T returning dots (c .left) s) (room : ℕ) (er : room ≡ length out / slotSize) where
+  alone : scalarSlots (d .source) ≡ sourceSlots (d .source) noClasses []
+  alone = rw ed (scalar-alone noClasses [] T returning dots (c .left) s .same)
+
+  pub scalar-short : room < d .count → r ≡ refused c no-room → parts.By T [] returning dots c (parts.scalarArg s) [] out r out
+  unfolding piecesOf
+  scalar-short h e = rw ed at (slots-short out room er c d (parts.stackedBy T [] returning dots c (parts.scalarArg s) [] d) (sourceSlots (d .source) noClasses []) r h e)
+
+  pub scalar-done : d .count ≤ room → (placed : Placed) → placed ≡ stackedOf T [] returning dots (c .stack) (parts.scalarArg s) [] (d .way) (d .spent) (d .count)
+      → (after : List ℕ) → parts.Settles c d placed (scalarSlots (d .source)) out r after → parts.By T [] returning dots c (parts.scalarArg s) [] out r after
+  unfolding piecesOf
+  scalar-done h placed ep after e = rw (ep, alone, ed) at (slots-fit out room er c d placed (scalarSlots (d .source)) r h after e)
 
 -- ---- what decides a value comes to what is promised, where the rules agree with the Rust
 
-module _ (source : ℕ) (D : Description) (c : Call) (arg : args.Arg) (ws out : List ℕ) (p : Passed) (k : rules.Chosen)
+module _ (source : ℕ) (D : Description) (rules′ : List Rule) (returning : Bool) (dots : Dots) (c : Call) (arg : args.Arg) (ws out : List ℕ) (p : Passed) (k : rules.Chosen)
     (agrees : refusalBy source D c arg ws ≡ accepted → Agrees (c .left) p (k .decision) (slotsFor k arg (piecesOf ws))) where
   abbrev refusal : ℕ
-  refusal = orElse source (checked (termsOf D) (c .left) arg ws)
+  refusal = orElse source (checked (termsOf D) c arg ws)
 
   abbrev slots : List Slot
   slots = parts.decidedSlots (parts.decidedBy k arg (piecesOf ws)) (piecesOf ws)
 
-  answer-is : orAnswer refusal c (parts.finished c (k .decision) out) ≡ answerTo refusal c p (k .decision .spent) out
+  abbrev placed : Placed
+  placed = parts.stackedBy (termsOf D) rules′ returning dots c arg (piecesOf ws) (k .decision)
+
+  abbrev account : Account
+  account = accountOf (termsOf D) rules′ returning dots c arg (piecesOf ws) p (k .decision .spent)
+
+  answer-is : orAnswer refusal c (parts.finished c (k .decision) placed out) ≡ answerTo refusal c account out
   unfolding refusalBy parts.finished answerTo
   answer-is = go refusal refl
     where
-      go : (n : ℕ) → refusal ≡ n → orAnswer n c (parts.finished c (k .decision) out) ≡ answerTo n c p (k .decision .spent) out
+      go : (n : ℕ) → refusal ≡ n → orAnswer n c (parts.finished c (k .decision) placed out) ≡ answerTo n c account out
       go zero e = let a = agrees e in rw (a .count, a .way, a .left-is)
       go (suc n) e = refl
 
-  words-are : unlessRefused refusal (parts.finishedIn (k .decision) slots out) out ≡ writtenTo refusal p out
+  words-are : unlessRefused refusal (parts.finishedIn (k .decision) placed slots out) out ≡ writtenTo refusal account out
   unfolding refusalBy parts.finishedIn writtenTo
   words-are = go refusal refl
     where
-      go : (n : ℕ) → refusal ≡ n → unlessRefused n (parts.finishedIn (k .decision) slots out) out ≡ writtenTo n p out
-      go zero e = let a = agrees e in rw (a .count, a .slots)
+      go : (n : ℕ) → refusal ≡ n → unlessRefused n (parts.finishedIn (k .decision) placed slots out) out ≡ writtenTo n account out
+      go zero e = let a = agrees e in rw (a .count, a .way, a .slots)
       go (suc n) e = refl
 
   meets : (r : Answer) (after : List ℕ)
-      → Leaves (orAnswer refusal c (parts.finished c (k .decision) out)) (unlessRefused refusal (parts.finishedIn (k .decision) slots out) out) r after
-      → Leaves (answerTo refusal c p (k .decision .spent) out) (writtenTo refusal p out) r after
+      → Leaves (orAnswer refusal c (parts.finished c (k .decision) placed out)) (unlessRefused refusal (parts.finishedIn (k .decision) placed slots out) out) r after
+      → Leaves (answerTo refusal c account out) (writtenTo refusal account out) r after
   meets r after e = record { answers = e .answers ∙ answer-is; writes = e .writes ∙ words-are }
 
 -- after the dots they agree where the checks pass
@@ -227,17 +250,17 @@ agreed source D c arg ws z =
 
 module _ (source : ℕ) (D : Description) (c : Call) (arg : args.Arg) (ws out : List ℕ) (r : Answer) (after : List ℕ) where
   pub returns-by : parts.From source D true false c arg ws out r after → Leaves (returnsAnswerBy source D c arg ws out) (returnsWrittenBy source D c arg ws out) r after
-  unfolding returnsAnswerBy returnsWrittenBy refusalBy rules.returnChoice parts.performedBy parts.performedByIn
-  returns-by = meets source D c arg ws out _ _ (λ _. returns-agrees D (c .left) arg (piecesOf ws)) r after
+  unfolding returnsAnswerBy returnsWrittenBy returnsAccount refusalBy rules.returnChoice parts.performedBy parts.performedByIn
+  returns-by = meets source D _ true _ c arg ws out _ _ (λ _. returns-agrees D (c .left) arg (piecesOf ws)) r after
 
   pub argument-by : parts.From source D false false c arg ws out r after → Leaves (argumentAnswerBy source D c arg ws out) (argumentWrittenBy source D c arg ws out) r after
-  unfolding argumentAnswerBy argumentWrittenBy refusalBy rules.argumentChoice parts.performedBy parts.performedByIn
-  argument-by = meets source D c arg ws out _ _ (λ _. argument-agrees D (c .left) arg (piecesOf ws)) r after
+  unfolding argumentAnswerBy argumentWrittenBy argumentAccount refusalBy rules.argumentChoice parts.performedBy parts.performedByIn
+  argument-by = meets source D _ false _ c arg ws out _ _ (λ _. argument-agrees D (c .left) arg (piecesOf ws)) r after
 
   pub variadic-argument-by : parts.From source D false true c arg ws out r after
       → Leaves (variadicArgumentAnswerBy source D c arg ws out) (variadicArgumentWrittenBy source D c arg ws out) r after
-  unfolding variadicArgumentAnswerBy variadicArgumentWrittenBy refusalBy rules.variadicArgumentChoice parts.performedBy parts.performedByIn
-  variadic-argument-by = meets source D c arg ws out _ _ (agreed source D c arg ws) r after
+  unfolding variadicArgumentAnswerBy variadicArgumentWrittenBy variadicArgumentAccount refusalBy rules.variadicArgumentChoice parts.performedBy parts.performedByIn
+  variadic-argument-by = meets source D _ false _ c arg ws out _ _ (agreed source D c arg ws) r after
 
 -- ---- the operations of a call on a row
 
@@ -266,8 +289,8 @@ module _ (returning variadic-argument : Bool) (c : Call) (arg : args.Arg) (ws ou
   unfolding parts.performedBy parts.performedByIn
   row-missing-refused h er = performs c arg ws out r out returning variadic-argument (record { answers = rw (er, row-missing (c .abi) h); writes = rw (row-missing (c .abi) h) })
 
-  module _ (h : c .abi < description-count) (b : Brief) (eb : b ≡ briefOf (described (c .abi))) (n : ℕ) (en : n ≡ checked (b .terms) (c .left) arg ws) where
-    checks : n ≡ checked (termsOf (described (c .abi))) (c .left) arg ws
+  module _ (h : c .abi < description-count) (b : Brief) (eb : b ≡ briefOf (described (c .abi))) (n : ℕ) (en : n ≡ checked (b .terms) c arg ws) where
+    checks : n ≡ checked (termsOf (described (c .abi))) c arg ws
     checks = rw eb at en
 
     pub row-refused : (n ≡ accepted → ⊥) → r ≡ refused c n → parts.Performs returning variadic-argument c arg ws out r out
@@ -292,10 +315,11 @@ module _ (returning variadic-argument : Bool) (c : Call) (arg : args.Arg) (ws ou
 
 -- a scalar's rules are no list's, and its terms are those that the checks looked at
 pub row-scalar : (returning variadic-argument : Bool) (c : Call) (s : Scalar) (out : List ℕ) (r : Answer) → c .abi < description-count
-    → (b : Brief) → b ≡ briefOf (described (c .abi)) → (n : ℕ) → n ≡ checked (b .terms) (c .left) (parts.scalarArg s) [] → n ≡ accepted
+    → (b : Brief) → b ≡ briefOf (described (c .abi)) → (n : ℕ) → n ≡ checked (b .terms) c (parts.scalarArg s) [] → n ≡ accepted
     → (dots : Dots) → dots ≡ parts.dotsFor variadic-argument (b .terms .variadic) → (after : List ℕ)
     → parts.By (b .terms) [] returning dots c (parts.scalarArg s) [] out r after
     → parts.Performs returning variadic-argument c (parts.scalarArg s) [] out r after
+unfolding stackedOf
 row-scalar returning variadic-argument c s out r h b eb n en z dots ed after e =
     by-row returning variadic-argument c (parts.scalarArg s) [] out r h b eb n en z b eb dots ed after (parts.rulesFor returning (described (c .abi))) refl e
 
@@ -310,16 +334,16 @@ module _ (source : ℕ) (T : Terms) (list : List Rule) (returning : Bool) (dots 
   no-slots : ltb (length out / slotSize) 0 ≡ false
   no-slots = le-ltb (length out / slotSize) 0 (omega arith)
 
-  void-performed : orAnswer (orElse source (leftRefusal T (c .left))) c (done c) ≡ parts.performedBy source T list returning dots c args.the-variants.Void ws out
-  unfolding parts.performedBy parts.finished checked argRefusal
+  void-performed : orAnswer (orElse source (stateRefusal T c)) c (done c) ≡ parts.performedBy source T list returning dots c args.the-variants.Void ws out
+  unfolding parts.performedBy parts.finished stackedOf behind checked argRefusal
   void-performed =
       let i : c .left .integer - 0 - 0 ≡ c .left .integer = omega arith in
       let f : c .left .float - 0 - 0 ≡ c .left .float = omega arith in
-      rw (or-accepted, no-slots, i, f)
+      rw (or-accepted, no-slots, no-length, i, f)
 
   void-kept : out ≡ parts.performedByIn source T list returning dots c args.the-variants.Void ws out
-  unfolding parts.performedByIn parts.finishedIn sourceSlots checked argRefusal
-  void-kept = rw (or-accepted, no-slots) (same (orElse source (leftRefusal T (c .left))))
+  unfolding parts.performedByIn parts.finishedIn stackedOf behind sourceSlots checked argRefusal
+  void-kept = rw (or-accepted, no-slots, no-length) (same (orElse source (stateRefusal T c)))
     where
       same : (n : ℕ) → out ≡ unlessRefused n (written [] out) out
       same zero = nothing-written out
@@ -340,15 +364,15 @@ module _ (returning variadic-argument : Bool) (c : Call) (arg : args.Arg) (ws ou
 -- a scalar has no pieces
 module _ (c : Call) (arg : args.Arg) (ws out : List ℕ) (r : Answer) (s : Scalar) (e : arg ≡ args.the-variants.Scalar s) (after : List ℕ) where
   pub returns-scalar : Returns c (parts.scalarArg s) [] out r after → Returns c arg ws out r after
-  unfolding returnsAnswer returnsWritten returnsAnswerBy returnsWrittenBy refusalBy checked argRefusal rust.returns rules.returnChoice
+  unfolding returnsAnswer returnsWritten returnsAnswerBy returnsWrittenBy returnsAccount stackedOf refusalBy checked argRefusal rust.returns rules.returnChoice
   returns-scalar k = rw e k
 
   pub argument-scalar : Passes c (parts.scalarArg s) [] out r after → Passes c arg ws out r after
-  unfolding argumentAnswer argumentWritten argumentAnswerBy argumentWrittenBy refusalBy checked argRefusal rust.argument rules.argumentChoice
+  unfolding argumentAnswer argumentWritten argumentAnswerBy argumentWrittenBy argumentAccount stackedOf refusalBy checked argRefusal rust.argument rules.argumentChoice
   argument-scalar k = rw e k
 
   pub variadic-argument-scalar : PassesVariadic c (parts.scalarArg s) [] out r after → PassesVariadic c arg ws out r after
-  unfolding variadicArgumentAnswer variadicArgumentWritten variadicArgumentAnswerBy variadicArgumentWrittenBy refusalBy checked argRefusal rust.argument rust.variadicArgument rules.variadicArgumentChoice
+  unfolding variadicArgumentAnswer variadicArgumentWritten variadicArgumentAnswerBy variadicArgumentWrittenBy variadicArgumentAccount stackedOf refusalBy checked argRefusal rust.argument rust.variadicArgument rules.variadicArgumentChoice
   variadic-argument-scalar k = rw (e, wordless (described (c .abi) .variadic) (described (c .abi)) (c .left)) k
     where
       wordless : (v : Variadic) (D : Description) (left : Left)

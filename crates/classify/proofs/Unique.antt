@@ -19,6 +19,7 @@ use Rattle.classify.proofs.Call.in_memory.Reads as in-memory
 use Rattle.classify.proofs.Call.abi.Reads as abi
 use Rattle.classify.proofs.Call.integer_left.Reads as integer-left
 use Rattle.classify.proofs.Call.float_left.Reads as float-left
+use Rattle.classify.proofs.Call.stack.Reads as stack
 
 fresh-decides : (κs : Lfts 0) → OneAnswer (fresh.Post κs)
 fresh-decides κs a r q s t p p′ = p ∙ sym p′
@@ -94,3 +95,6 @@ integer-left-decides κs a r q s t p p′ = p ∙ sym p′
 
 float-left-decides : (κs : Lfts 0) → OneAnswer (float-left.Post κs)
 float-left-decides κs a r q s t p p′ = p ∙ sym p′
+
+stack-decides : (κs : Lfts 0) → OneAnswer (stack.Post κs)
+stack-decides κs a r q s t p p′ = p ∙ sym p′

@@ -1,5 +1,6 @@
 pub mod Pass
 pub mod Classify
 pub mod Spending
+pub mod Stacking
 pub mod Answers
 pub mod Parts

@@ -26,11 +26,13 @@ use Rattle.spend.specs.declared.Left.{Left}
 use Rattle.spend.specs.declared.Decision.{Decision}
 use Rattle.spend.specs.Ways.{withMark, leftAfter}
 use Rattle.find.specs.Matches.{noClasses, classesBy}
-use Rattle.slot_writing.specs.Sources.{sourceSlots, scalarSlots}
+use Rattle.slot_writing.specs.Sources.{sourceSlots}
+use Rattle.stack_place.specs.declared.Placed.{Placed}
 use Rattle.classify.specs.declared.Call.{Call}
 use Rattle.classify.specs.declared.Answer.{Answer}
 use Rattle.classify.specs.declared.Decided.{Decided}
 use Rattle.classify.specs.Spending.{Chosen, byRules, freely, aggregateBy, choice}
+use Rattle.classify.specs.Stacking.{stackedOf}
 use Rattle.classify.specs.Answers.{callWith, checked, rowRefusal, roomRefusal, answered, orAnswer, Leaves, Returns, Passes, PassesVariadic}
 
 abbrev pub scalarArg : Scalar → args.Arg
@@ -61,42 +63,58 @@ freelyDecided d = decided (freely (d .decision)) (d .classes)
 unfoldable pub aggregateDecided : Terms → List Rule → Bool → Dots → Left → Shape → List Piece → Decided
 aggregateDecided T rules returning dots left shape ps = decidedBy (aggregateBy T rules returning dots left shape ps) (aggregateArg shape) ps
 
+-- ---- where it stands
+
+abbrev pub stackedBy : Terms → List Rule → Bool → Dots → Call → args.Arg → List Piece → Decision → Placed
+stackedBy T rules returning dots c arg ps d = stackedOf T rules returning dots (c .stack) arg ps (d .way) (d .spent) (d .count)
+
 -- ---- the writing and the answer
 
-abbrev pub acceptedBy : Call → Decision → Answer
-acceptedBy c d = answered (callWith (c .abi) (leftAfter (c .left) (d .spent))) numbers.accepted (d .way) (d .spent) (d .count)
+abbrev pub acceptedBy : Call → Decision → Placed → Answer
+acceptedBy c d placed =
+    answered (callWith (c .abi) (leftAfter (c .left) (d .spent)) (placed .next)) numbers.accepted (d .way) (d .spent) (d .count) (placed .stacked)
 
-unfoldable pub finished : Call → Decision → List ℕ → Answer
-finished c d out = orAnswer (roomRefusal (d .count) out) c (acceptedBy c d)
+abbrev pub finishRefusal : Decision → Placed → List ℕ → ℕ
+finishRefusal d placed out = orElse (roomRefusal (d .count) out) (placed .refusal)
 
-unfoldable pub finishedIn : Decision → List Slot → List ℕ → List ℕ
-finishedIn d slots out = unlessRefused (roomRefusal (d .count) out) (written slots out) out
+unfoldable pub finished : Call → Decision → Placed → List ℕ → Answer
+finished c d placed out = orAnswer (finishRefusal d placed out) c (acceptedBy c d placed)
+
+unfoldable pub finishedIn : Decision → Placed → List Slot → List ℕ → List ℕ
+finishedIn d placed slots out = unlessRefused (finishRefusal d placed out) (written slots out) out
 
 abbrev pub decidedSlots : Decided → List Piece → List Slot
 decidedSlots d ps = sourceSlots (d .decision .source) (d .classes) ps
 
-abbrev pub Finishes : Call → Decided → List Piece → List ℕ → Answer → List ℕ → Type 0
-Finishes c d ps out r after = Leaves (finished c (d .decision) out) (finishedIn (d .decision) (decidedSlots d ps) out) r after
+abbrev pub Finishes : Call → Decided → Placed → List Piece → List ℕ → Answer → List ℕ → Type 0
+Finishes c d placed ps out r after = Leaves (finished c (d .decision) placed out) (finishedIn (d .decision) placed (decidedSlots d ps) out) r after
 
-abbrev pub FinishesScalar : Call → Decision → List ℕ → Answer → List ℕ → Type 0
-FinishesScalar c d out r after = Leaves (finished c d out) (finishedIn d (scalarSlots (d .source)) out) r after
+-- where its slots have room
+abbrev pub Settles : Call → Decision → Placed → List Slot → List ℕ → Answer → List ℕ → Type 0
+Settles c d placed slots out r after = Leaves (orAnswer (placed .refusal) c (acceptedBy c d placed)) (unlessRefused (placed .refusal) (written slots out) out) r after
 
 -- ---- an operation by terms and a list: where nothing refuses it, and whole
 
 abbrev pub decidedFor : Terms → List Rule → Bool → Dots → Call → args.Arg → List Piece → Decided
 decidedFor T rules returning dots c arg ps = decidedBy (choice T rules returning dots (c .left) arg ps) arg ps
 
+abbrev pub placedFor : Terms → List Rule → Bool → Dots → Call → args.Arg → List Piece → Placed
+placedFor T rules returning dots c arg ps = stackedBy T rules returning dots c arg ps (choice T rules returning dots (c .left) arg ps .decision)
+
 abbrev pub By : Terms → List Rule → Bool → Dots → Call → args.Arg → List ℕ → List ℕ → Answer → List ℕ → Type 0
-By T rules returning dots c arg ws out r after = Finishes c (decidedFor T rules returning dots c arg (piecesOf ws)) (piecesOf ws) out r after
+By T rules returning dots c arg ws out r after =
+    Finishes c (decidedFor T rules returning dots c arg (piecesOf ws)) (placedFor T rules returning dots c arg (piecesOf ws)) (piecesOf ws) out r after
 
 unfoldable pub performedBy : ℕ → Terms → List Rule → Bool → Dots → Call → args.Arg → List ℕ → List ℕ → Answer
 performedBy source T rules returning dots c arg ws out =
-    orAnswer (orElse source (checked T (c .left) arg ws)) c (finished c (decidedFor T rules returning dots c arg (piecesOf ws) .decision) out)
+    orAnswer (orElse source (checked T c arg ws)) c
+    (finished c (decidedFor T rules returning dots c arg (piecesOf ws) .decision) (placedFor T rules returning dots c arg (piecesOf ws)) out)
 
 unfoldable pub performedByIn : ℕ → Terms → List Rule → Bool → Dots → Call → args.Arg → List ℕ → List ℕ → List ℕ
 performedByIn source T rules returning dots c arg ws out =
     let d = decidedFor T rules returning dots c arg (piecesOf ws) in
-    unlessRefused (orElse source (checked T (c .left) arg ws)) (finishedIn (d .decision) (decidedSlots d (piecesOf ws)) out) out
+    unlessRefused (orElse source (checked T c arg ws))
+    (finishedIn (d .decision) (placedFor T rules returning dots c arg (piecesOf ws)) (decidedSlots d (piecesOf ws)) out) out
 
 -- ---- by a description and what its source refuses, and on a row
 

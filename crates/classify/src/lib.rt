@@ -15,32 +15,40 @@ use spend::Spent;
 use spend::Tried;
 use spend::Wanted;
 use spend::Way;
+use stack_place::Area;
+use stack_place::Placed;
+use stack_place::Stacked;
 ghost use mathlib.Core.Path.{_≡_};
 ghost use mathlib.Core.List.{[]};
 ghost use Rattle.shape.specs.Words.{piecesOf};
 ghost use Rattle.describe.specs.Description.{Ends};
 ghost use Rattle.rows.specs.Row.{listed};
 ghost use Rattle.spend.specs.Ways as ways;
+ghost use Rattle.slot_writing.specs.Sources.{scalarSlots};
+ghost use Rattle.stack_place.specs.Stacked.{returnPlaced};
+ghost use Rattle.classify.specs.Stacking.{areaOf, stackedOf};
 ghost use Rattle.classify.specs.Spending as rules;
 ghost use Rattle.classify.specs.Answers.{freshAnswer, voidAnswer, variadicAnswer, inMemoryAnswer, Returns, Passes, PassesVariadic};
 ghost use Rattle.classify.specs.Answers as answers;
 ghost use Rattle.classify.specs.Parts as parts;
 
-// One call: the number of its description, and what it has left.
+// One call: the number of its description, what it has left, and the offset at which the next argument on the stack may stand.
 #[repr(C)]
 pub struct Call {
     pub abi: u64,
     pub left: Left,
+    pub stack: u64,
 }
 
-// The number of the way that the value travels, what it passes over and is given, and how many slots were written; or the refusal, with every
-// other number 0. Methods, exported entries and the forms over a lent call all have this one.
+// The number of the way that the value travels, what it passes over and is given, how many slots were written, and where on the stack it stands; or
+// the refusal, with every other number 0. Methods, exported entries and the forms over a lent call all have this one.
 #[repr(C)]
 pub struct Outcome {
     pub refusal: u64,
     pub way: u64,
     pub spent: Spent,
     pub slots: u64,
+    pub stacked: Stacked,
 }
 
 // The next call beside the outcome. A refusal hands back the call that it was handed.
@@ -79,15 +87,15 @@ impl Call {
         }
         let brief = abis::read(self.abi);
         let terms = brief.terms;
-        let left = self.left;
-        let refusal = check_left(terms, left);
+        let refusal = check_call(terms, self);
         if refusal != shape::ACCEPTED {
             return refused(self, refusal);
         }
         let variadic = terms.variadic;
         done(Call {
             abi: self.abi,
-            left: marked(variadic, left),
+            left: marked(variadic, self.left),
+            stack: self.stack,
         })
     }
 
@@ -132,7 +140,7 @@ impl Call {
             return refused(self, shape::BAD_ABI);
         }
         let brief = abis::read(self.abi);
-        let refusal = check_left(brief.terms, self.left);
+        let refusal = check_call(brief.terms, self);
         if refusal != shape::ACCEPTED {
             return refused(self, refusal);
         }
@@ -189,7 +197,7 @@ impl Call {
         }
         let brief = abis::read(self.abi);
         let terms = brief.terms;
-        let refusal = check_aggregate(terms, self.left, shape, words);
+        let refusal = check_aggregate(terms, self, shape, words);
         if refusal != shape::ACCEPTED {
             return InMemory { refusal, align: 0 };
         }
@@ -218,6 +226,12 @@ impl Call {
         let left = self.left;
         left.float
     }
+
+    pub fn stack(self) -> u64
+        ensures { λ r. ⌜ r ≡ self .stack ⌝ }
+    {
+        self.stack
+    }
 }
 
 // ---- an operation, by the number of its description: that is read, or refused; then the checks, and what the terms decide. A scalar's way is
@@ -237,7 +251,7 @@ fn perform_scalar(
     }
     let brief = abis::read(call.abi);
     let terms = brief.terms;
-    let refusal = check_scalar(terms, call.left, s);
+    let refusal = check_scalar(terms, call, s);
     if refusal != shape::ACCEPTED {
         return refused(call, refusal);
     }
@@ -262,7 +276,7 @@ fn perform_aggregate(
         return refused(call, shape::BAD_ABI);
     }
     let checked = abis::read(call.abi);
-    let refusal = check_aggregate(checked.terms, call.left, shape, words);
+    let refusal = check_aggregate(checked.terms, call, shape, words);
     if refusal != shape::ACCEPTED {
         return refused(call, refusal);
     }
@@ -294,7 +308,8 @@ fn dots_for(variadic_argument: bool, variadic: Variadic) -> Dots
     describe::as_fixed()
 }
 
-// ---- an operation that passed the checks, by a description's terms and one of its lists: decide, then room, writing and the answer
+// ---- an operation that passed the checks, by a description's terms and one of its lists: decide, room, place, then writing and the answer. Room is
+// asked before the place: of a scalar the compiler mostly knows there that it has no slots.
 
 fn scalar_by(
     terms: Terms,
@@ -307,7 +322,11 @@ fn scalar_by(
     ensures { λ r. ⌜ parts.By terms [] returning dots call (parts.scalarArg s) [] (now (out .entry)) r (now (out .exit)) ⌝ }
 {
     let decision = decide_scalar(terms, returning, dots, call.left, s);
-    finish_scalar(call, decision, out)
+    if decision.count > slots::room(out.len()) as u64 {
+        return refused(call, shape::NO_ROOM);
+    }
+    let placed = place_scalar(terms, returning, dots, call.stack, s, decision);
+    finish_scalar(call, decision, placed, out)
 }
 
 fn aggregate_by(
@@ -324,40 +343,59 @@ fn aggregate_by(
     ensures { λ r. ⌜ parts.By terms (listed list) returning dots call (parts.aggregateArg shape) (now (words .entry)) (now (out .entry)) r (now (out .exit)) ⌝ }
 {
     let decided = decide_aggregate(terms, list, returning, dots, call.left, shape, words);
-    finish(call, decided, words, out)
+    let decision = decided.decision;
+    if decision.count > slots::room(out.len()) as u64 {
+        return refused(call, shape::NO_ROOM);
+    }
+    let placed = place_aggregate(
+        terms,
+        list,
+        returning,
+        dots,
+        call.stack,
+        shape,
+        words,
+        decision,
+    );
+    finish(call, decided, placed, words, out)
 }
 
 // ---- check
 
-fn check_scalar(terms: Terms, left: Left, s: Scalar) -> u64
-    ensures { λ r. ⌜ r ≡ answers.checked terms left (parts.scalarArg s) [] ⌝ }
+fn check_scalar(terms: Terms, call: Call, s: Scalar) -> u64
+    ensures { λ r. ⌜ r ≡ answers.checked terms call (parts.scalarArg s) [] ⌝ }
 {
-    let refusal = check_left(terms, left);
+    let refusal = check_call(terms, call);
     if refusal != shape::ACCEPTED {
         return refusal;
     }
     checks::check_scalar(s)
 }
 
-fn check_aggregate(terms: Terms, left: Left, shape: Shape, words: &[u64]) -> u64
-    ensures { λ r. ⌜ r ≡ answers.checked terms left (parts.aggregateArg shape) (now (words .entry)) ⌝ }
+fn check_aggregate(terms: Terms, call: Call, shape: Shape, words: &[u64]) -> u64
+    ensures { λ r. ⌜ r ≡ answers.checked terms call (parts.aggregateArg shape) (now (words .entry)) ⌝ }
 {
-    let refusal = check_left(terms, left);
+    let refusal = check_call(terms, call);
     if refusal != shape::ACCEPTED {
         return refusal;
     }
     checks::check_shape(shape, words)
 }
 
-// A count above its bank's start, or a mark that the description doesn't use. What a good call passes is two comparisons and a test for 0.
-fn check_left(terms: Terms, left: Left) -> u64
-    ensures { λ r. ⌜ r ≡ answers.leftRefusal terms left ⌝ }
+// A count above its bank's start, an offset above the limit, or a mark that the description doesn't use. What a good call passes is three
+// comparisons and a test for 0.
+fn check_call(terms: Terms, call: Call) -> u64
+    ensures { λ r. ⌜ r ≡ answers.stateRefusal terms call ⌝ }
 {
     let banks = terms.banks;
+    let left = call.left;
     if banks.integer < left.integer {
         return shape::BAD_CALL;
     }
     if banks.float < left.float {
+        return shape::BAD_CALL;
+    }
+    if stack_place::MOST_STACK < call.stack {
         return shape::BAD_CALL;
     }
     if left.integers_only == spend::NO_MARK {
@@ -497,48 +535,117 @@ fn apply(
     }
 }
 
-// ---- room and writing, and the answer
+// ---- place: what isn't in given registers
 
-fn finish_scalar(call: Call, decision: Decision, out: &mut [u64]) -> Answer
-    ensures { λ r. ⌜ parts.FinishesScalar call decision (now (out .entry)) r (now (out .exit)) ⌝ }
+fn place_scalar(
+    terms: Terms,
+    returning: bool,
+    dots: Dots,
+    stack: u64,
+    s: Scalar,
+    decision: Decision,
+) -> Placed
+    ensures { λ r. ⌜ r ≡ stackedOf terms [] returning dots stack (parts.scalarArg s) [] (decision .way) (decision .spent) (decision .count) ⌝ }
 {
-    if decision.count > slots::room(out.len()) as u64 {
-        return refused(call, shape::NO_ROOM);
+    if returning {
+        return place_return(terms, dots, stack, decision);
+    }
+    let way = decision.way;
+    stack_place::place_scalar(area_of(terms, dots), stack, way, decision.spent, s)
+}
+
+// The alignment in memory is looked for only where registers don't hold all of it.
+fn place_aggregate(
+    terms: Terms,
+    list: Rules,
+    returning: bool,
+    dots: Dots,
+    stack: u64,
+    shape: Shape,
+    words: &[u64],
+    decision: Decision,
+) -> Placed
+    ensures { λ r. ⌜ r ≡ stackedOf terms (listed list) returning dots stack (parts.aggregateArg shape) (piecesOf (now (words .entry))) (decision .way) (decision .spent) (decision .count) ⌝ }
+{
+    if returning {
+        return place_return(terms, dots, stack, decision);
+    }
+    let way = decision.way;
+    let spent = decision.spent;
+    if stack_place::is_held(way, spent, decision.count) {
+        return stack_place::nowhere(stack);
+    }
+    let area = area_of(terms, dots);
+    let bytes = stack_place::aggregate_bytes(way, spent, decision.count, shape.size, area.width);
+    let align = stack_align::in_memory(terms, list, shape, words);
+    stack_place::place_aggregate(area, stack, way, bytes, align)
+}
+
+fn place_return(terms: Terms, dots: Dots, stack: u64, decision: Decision) -> Placed
+    ensures { λ r. ⌜ r ≡ returnPlaced (areaOf terms dots) stack (decision .way) (terms .«return_pointer») (decision .spent) ⌝ }
+{
+    let way = decision.way;
+    let pointer = terms.return_pointer;
+    stack_place::place_return(area_of(terms, dots), stack, way, pointer, decision.spent)
+}
+
+fn area_of(terms: Terms, dots: Dots) -> Area
+    ensures { λ r. ⌜ r ≡ areaOf terms dots ⌝ }
+{
+    let banks = terms.banks;
+    let arguments = terms.stack_args;
+    Area {
+        width: banks.integer_width,
+        arguments,
+        dots: dots.emptied,
+    }
+}
+
+// ---- writing, and the answer
+
+fn finish_scalar(call: Call, decision: Decision, placed: Placed, out: &mut [u64]) -> Answer
+    ensures { λ r. ⌜ parts.Settles call decision placed (scalarSlots (decision .source)) (now (out .entry)) r (now (out .exit)) ⌝ }
+{
+    if placed.refusal != shape::ACCEPTED {
+        return refused(call, placed.refusal);
     }
     let source = decision.source;
     slot_writing::write_scalar(source, out);
-    accept(call, decision)
+    accept(call, decision, placed)
 }
 
-fn finish(call: Call, decided: Decided, words: &[u64], out: &mut [u64]) -> Answer
-    ensures { λ r. ⌜ parts.Finishes call decided (piecesOf (now (words .entry))) (now (out .entry)) r (now (out .exit)) ⌝ }
+fn finish(call: Call, decided: Decided, placed: Placed, words: &[u64], out: &mut [u64]) -> Answer
+    ensures { λ r. ⌜ parts.Settles call (decided .decision) placed (parts.decidedSlots decided (piecesOf (now (words .entry)))) (now (out .entry)) r (now (out .exit)) ⌝ }
 {
     let decision = decided.decision;
-    if decision.count > slots::room(out.len()) as u64 {
-        return refused(call, shape::NO_ROOM);
+    if placed.refusal != shape::ACCEPTED {
+        return refused(call, placed.refusal);
     }
     let source = decision.source;
     let classes = decided.classes;
     slot_writing::write(source, classes, words, out);
-    accept(call, decision)
+    accept(call, decision, placed)
 }
 
-// The call that is handed back has what is left after what was spent.
-fn accept(call: Call, decision: Decision) -> Answer
-    ensures { λ r. ⌜ r ≡ parts.acceptedBy call decision ⌝ }
+// The call that is handed back has what is left after what was spent, and the offset behind what was placed.
+fn accept(call: Call, decision: Decision, placed: Placed) -> Answer
+    ensures { λ r. ⌜ r ≡ parts.acceptedBy call decision placed ⌝ }
 {
     let spent = decision.spent;
     let travels = decision.way;
+    let stacked = placed.stacked;
     Answer {
         next: Call {
             abi: call.abi,
             left: spend::left_after(call.left, spent),
+            stack: placed.next,
         },
         outcome: Outcome {
             refusal: shape::ACCEPTED,
             way: spend::way_number(travels),
             spent,
             slots: decision.count,
+            stacked,
         },
     }
 }
@@ -553,6 +660,7 @@ fn refused(call: Call, refusal: u64) -> Answer
             way: spend::way_number(Way::Ignore),
             spent: nothing_spent(),
             slots: 0,
+            stacked: Stacked { at: 0, bytes: 0 },
         },
     }
 }
@@ -577,6 +685,7 @@ fn nothing_spent() -> Spent
 
 // ---- calls
 
+// Nothing is marked, and nothing on the stack.
 fn unmarked(abi: u64, integer: u64, float: u64) -> Call
     ensures { λ r. ⌜ r ≡ answers.unmarked abi integer float ⌝ }
 {
@@ -587,6 +696,7 @@ fn unmarked(abi: u64, integer: u64, float: u64) -> Call
             float,
             integers_only: spend::NO_MARK,
         },
+        stack: 0,
     }
 }
 

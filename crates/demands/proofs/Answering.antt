@@ -39,39 +39,40 @@ use Rattle.classify.specs.declared.Outcome.{Outcome}
 use Rattle.classify.specs.Pass.{wayOf, passSlots}
 use Rattle.classify.specs.Classify as rust
 use Rattle.classify.specs.Classify.{Passed}
-use Rattle.classify.specs.Answers.{unmarked, rowRefusal, callRefusal, refusalOf, refused, done, orAnswer, callWith, answerTo, writtenTo, variadicAnswerBy, variadicAnswer, returnsAnswerBy, returnsWrittenBy, argumentAnswerBy, argumentWrittenBy, variadicArgumentAnswerBy, variadicArgumentWrittenBy, returnsAnswer, returnsWritten, argumentAnswer, argumentWritten, variadicArgumentAnswer, variadicArgumentWritten, freshAnswer, inMemoryAnswerBy, inMemoryAnswer}
+use Rattle.classify.specs.Answers.{unmarked, rowRefusal, callRefusal, refusalOf, Account, slotsOf, returnsAccount, argumentAccount, variadicArgumentAccount, refused, done, orAnswer, callWith, answerTo, writtenTo, variadicAnswerBy, variadicAnswer, returnsAnswerBy, returnsWrittenBy, argumentAnswerBy, argumentWrittenBy, variadicArgumentAnswerBy, variadicArgumentWrittenBy, returnsAnswer, returnsWritten, argumentAnswer, argumentWritten, variadicArgumentAnswer, variadicArgumentWritten, freshAnswer, inMemoryAnswerBy, inMemoryAnswer}
 use Rattle.classify.proofs.Accepted.{accepted-so, accepted-where, sound}
 use Rattle.ledger.specs.Ledger.{Operation, mark, return, argument, variadic-argument, bufferOf, answerFor, writtenFor}
 use Rattle.export_numbers.specs.Numbers.{told}
 use Rattle.export_questions.specs.Answers.{alignTold, countTold, lengthTold, yesTold, formatTold}
 use Rattle.export_questions.specs.Descriptions.{fieldsOf, descriptionAnswer, ruleIn, returnRuleAnswer, argumentRuleAnswer}
-use Rattle.demands.specs.Rust.{rustPasses, rulesSpend, Accepts, AsRust, recordAlign, recordSize}
+use Rattle.demands.specs.Rust.{rustPasses, rulesSpend, tablePlaces, Accepts, AsRust, recordAlign, recordSize}
 use Rattle.demands.proofs.Refusing.{operation-refused}
 
 -- ---- an operation on a value
 
-module _ (c : Call) (arg : Arg) (words out : List ℕ) (p : Passed) (spent : Spent) where
-  abbrev Room : Type 0
-  Room = length (passSlots (p .pass)) ≤ length out / slotSize
+module _ (c : Call) (arg : Arg) (words out : List ℕ) (account : Account) where
+  abbrev Taken : Type 0
+  Taken = (refusalOf c arg words ≡ accepted) × (length (slotsOf account) ≤ length out / slotSize) × (account .placed .refusal ≡ accepted)
 
-  as-rust : (refusalOf c arg words ≡ accepted) × Room → AsRust c out p spent (answerTo (refusalOf c arg words) c p spent out) (writtenTo (refusalOf c arg words) p out)
+  as-rust : Taken
+      → AsRust c out (account .passed) (account .spent) (account .placed) (answerTo (refusalOf c arg words) c account out) (writtenTo (refusalOf c arg words) account out)
   as-rust z =
-      let a = accepted-where (refusalOf c arg words) c p spent out (z .0) (z .1) in
-      rw (a .answer, a .words-are) (record { not-refused = refl; way = refl; count = refl; slots = refl; left = refl; by-the-rules = refl })
+      let a = accepted-where (refusalOf c arg words) c account out (z .0) (z .1) (z .2) in
+      rw (a .answer, a .words-are) (record { not-refused = refl; way = refl; count = refl; slots = refl; left = refl; by-the-rules = refl; stands = refl })
 
-  accepts : answerTo (refusalOf c arg words) c p spent out .outcome .refusal ≡ accepted → (refusalOf c arg words ≡ accepted) × Room
-  accepts h = let a = accepted-so (refusalOf c arg words) c p spent out h in (a .checks-pass, a .room)
+  accepts : answerTo (refusalOf c arg words) c account out .outcome .refusal ≡ accepted → Taken
+  accepts h = let a = accepted-so (refusalOf c arg words) c account out h in (a .checks-pass, a .room, a .stands)
 
 -- ---- the mark
 
-mark-as-rust : (c : Call) → Accepts mark c → AsRust c [] (rustPasses mark c) (rulesSpend mark c) (variadicAnswer c) []
+mark-as-rust : (c : Call) → Accepts mark c → AsRust c [] (rustPasses mark c) (rulesSpend mark c) (tablePlaces mark c) (variadicAnswer c) []
 unfolding variadicAnswer variadicAnswerBy callRefusal written wordsOf putAt
 mark-as-rust c z =
-    rw z (record { not-refused = refl; way = refl; count = refl; slots = refl; left = refl; by-the-rules = refl })
+    rw z (record { not-refused = refl; way = refl; count = refl; slots = refl; left = refl; by-the-rules = refl; stands = refl })
 
 mark-accepts : (c : Call) → variadicAnswer c .outcome .refusal ≡ accepted → Accepts mark c
 unfolding variadicAnswer variadicAnswerBy callRefusal
-mark-accepts c = go (callRefusal c) (callWith (c .abi) (rust.variadic (described (c .abi)) (c .left)))
+mark-accepts c = go (callRefusal c) (callWith (c .abi) (rust.variadic (described (c .abi)) (c .left)) (c .stack))
   where
     go : (n : ℕ) (next : Call) → orAnswer n c (done next) .outcome .refusal ≡ accepted → n ≡ accepted
     go zero next h = refl
@@ -79,19 +80,19 @@ mark-accepts c = go (callRefusal c) (callWith (c .abi) (rust.variadic (described
 
 -- ---- any operation
 
-pub operation-as-rust : (op : Operation) (c : Call) → Accepts op c → AsRust c (bufferOf op) (rustPasses op c) (rulesSpend op c) (answerFor op c) (writtenFor op c)
-unfolding returnsAnswer returnsWritten returnsAnswerBy returnsWrittenBy argumentAnswer argumentWritten argumentAnswerBy argumentWrittenBy variadicArgumentAnswer variadicArgumentWritten variadicArgumentAnswerBy variadicArgumentWrittenBy refusalOf
+pub operation-as-rust : (op : Operation) (c : Call) → Accepts op c → AsRust c (bufferOf op) (rustPasses op c) (rulesSpend op c) (tablePlaces op c) (answerFor op c) (writtenFor op c)
+unfolding returnsAnswer returnsWritten returnsAnswerBy returnsWrittenBy returnsAccount argumentAnswer argumentWritten argumentAnswerBy argumentWrittenBy argumentAccount variadicArgumentAnswer variadicArgumentWritten variadicArgumentAnswerBy variadicArgumentWrittenBy variadicArgumentAccount refusalOf
 operation-as-rust mark c z = mark-as-rust c z
-operation-as-rust (return arg words out) c z = as-rust c arg words out _ _ z
-operation-as-rust (argument arg words out) c z = as-rust c arg words out _ _ z
-operation-as-rust (variadic-argument arg words out) c z = as-rust c arg words out _ _ z
+operation-as-rust (return arg words out) c z = as-rust c arg words out _ z
+operation-as-rust (argument arg words out) c z = as-rust c arg words out _ z
+operation-as-rust (variadic-argument arg words out) c z = as-rust c arg words out _ z
 
 pub operation-accepts : (op : Operation) (c : Call) → answerFor op c .outcome .refusal ≡ accepted → Accepts op c
-unfolding returnsAnswer returnsAnswerBy argumentAnswer argumentAnswerBy variadicArgumentAnswer variadicArgumentAnswerBy refusalOf
+unfolding returnsAnswer returnsAnswerBy returnsAccount argumentAnswer argumentAnswerBy argumentAccount variadicArgumentAnswer variadicArgumentAnswerBy variadicArgumentAccount refusalOf
 operation-accepts mark c h = mark-accepts c h
-operation-accepts (return arg words out) c h = accepts c arg words out _ _ h
-operation-accepts (argument arg words out) c h = accepts c arg words out _ _ h
-operation-accepts (variadic-argument arg words out) c h = accepts c arg words out _ _ h
+operation-accepts (return arg words out) c h = accepts c arg words out _ h
+operation-accepts (argument arg words out) c h = accepts c arg words out _ h
+operation-accepts (variadic-argument arg words out) c h = accepts c arg words out _ h
 
 -- its way, as the number of REFERENCE 9, and 0 where it is refused
 pub operation-way : (op : Operation) (c : Call) → answerFor op c .outcome .way ≡ cond (eqb (answerFor op c .outcome .refusal) accepted) (wayNumber (wayOf (rustPasses op c .pass))) 0
@@ -103,7 +104,7 @@ operation-way op c = go (eqb (answerFor op c .outcome .refusal) accepted) refl
 
 -- ---- the start of a call, and its mark
 
-pub fresh-as-rust : (d : ℕ) → d < description-count → freshAnswer d ≡ done (callWith d (rust.call (described d)))
+pub fresh-as-rust : (d : ℕ) → d < description-count → freshAnswer d ≡ done (callWith d (rust.call (described d)) 0)
 unfolding freshAnswer
 fresh-as-rust d h = rw (lt-leb description-count d h) refl
 
@@ -111,7 +112,7 @@ pub fresh-is-unmarked : (d : ℕ) → marked (freshAnswer d .next .left) ≡ fal
 unfolding freshAnswer
 fresh-is-unmarked d = go (leb description-count d)
   where
-    go : (b : Bool) → marked (cond b (refused (unmarked 0 0 0) bad-abi) (done (callWith d (rust.call (described d)))) .next .left) ≡ false
+    go : (b : Bool) → marked (cond b (refused (unmarked 0 0 0) bad-abi) (done (callWith d (rust.call (described d)) 0)) .next .left) ≡ false
     go true = refl
     go false = refl
 

@@ -16,7 +16,7 @@ use Rattle.shape.specs.declared.Arg.{Arg}
 use Rattle.shape.specs.declared.Arg.the-variants.{Aggregate}
 use Rattle.shape.specs.declared.Scalar.{Scalar}
 use Rattle.shape.specs.declared.Shape.{Shape}
-use Rattle.shape.specs.Numbers.{accepted, most-size, most-offset, oneIf}
+use Rattle.shape.specs.Numbers.{accepted, bad-call, no-room, most-size, most-offset, oneIf}
 use Rattle.shape.specs.Words.{pieceSize, scalarSize, piecesOf, scalarsOf, putAt}
 use Rattle.checks.specs.Check.{orElse, listRefusal, piecesRefusal, shapeRefusal}
 use Rattle.layouts.specs.Record.{isFloating, recorded, recordAnswer}
@@ -42,16 +42,17 @@ use Rattle.attributes.specs.Attributes.{asked}
 use Rattle.attributes.specs.Spellings.{attribute}
 use Rattle.attributes.specs.Answers.{askedAnswer, attributeAnswer, attributeWritten}
 use Rattle.spend.specs.declared.Way.the-variants.{Memory}
-use Rattle.spend.specs.Ways.{marked, wayNumber}
+use Rattle.spend.specs.Ways.{marked, wayNumber, wayFrom}
+use Rattle.stack_place.specs.Stacked.{most-stack}
 use Rattle.stack_align.specs.InMemory.{inMemory}
 use Rattle.classify.specs.declared.Call.{Call}
 use Rattle.classify.specs.declared.Answer.{Answer}
 use Rattle.classify.specs.Pass.{wayOf}
 use Rattle.classify.specs.Classify as rust
 use Rattle.classify.specs.Answers.{unmarked, callWith, refusalOf, done, freshAnswer, variadicAnswer, inMemoryAnswer}
-use Rattle.ledger.specs.Ledger.{Operation, mark, return, argument, variadic-argument, answerBy, answerFor, bufferOf, writtenFor, callAfter, history, Bank, integers, floats, given, Ledger}
+use Rattle.ledger.specs.Ledger.{Operation, mark, return, argument, variadic-argument, answerBy, answerFor, bufferOf, writtenFor, callAfter, history, Bank, integers, floats, given, Ledger, Rounded}
 use Rattle.ledger.specs.Twelve.{Entry, twelve, callOn, answeredTo, expected}
-use Rattle.ledger.proofs.Ledger.{ledger}
+use Rattle.ledger.proofs.Ledger.{ledger, rounded}
 use Rattle.ledger.proofs.Twelve as calls
 use Rattle.psabi.specs.Domain as psabi
 use Rattle.psabi.specs.Psabi.{psabiArgument, psabiResult}
@@ -65,21 +66,23 @@ use Rattle.aapcs64.proofs.Answered as row-1
 use Rattle.varargs.specs.declared.Offsets.{Offsets}
 use Rattle.varargs.specs.Lists.{located, Inside, Shown, readsAs}
 use Rattle.placement.specs.Caller.{Machine, Whole, Value, State, placeAll, saved}
-use Rattle.placement.specs.Back.{Ready, IsValue, AllValues, AllInside, isStacked, stackEnd, offsetsOf, Stays, Keeps, namedState, used, readings, asPlaced, tooShort}
+use Rattle.placement.specs.Back.{Ready, IsValue, AllValues, AllInside, isStacked, stackEnd, offsetsOf, Stays, Keeps, callNamed, namedState, AllUsual, used, readings, asPlaced, tooShort}
 use Rattle.placement.specs.Examples.{Example, examples, places, stateOf, valuesOf, readsOf}
 use Rattle.placement.proofs.Asked as asking
 use Rattle.placement.proofs.Back as lists
+use Rattle.placement.proofs.Eights as eights
 use Rattle.placement.proofs.Examples as shown
 use Rattle.export_numbers.specs.Numbers.{callFrom, shapeFrom, told}
 use Rattle.export_numbers.proofs.ReadBack as numbers
 use Rattle.export_questions.specs.Answers.{alignTold, countTold, lengthTold, yesTold, formatTold, recordNumbers}
 use Rattle.export_questions.specs.Descriptions.{noDescription, fieldsOf, descriptionAnswer, ruleIn, returnRuleAnswer, argumentRuleAnswer}
 use Rattle.demands.specs.Refusals.{refusalsOf, numberRefusals, inMemoryRefusals, memberRefusals, recordRefusals, nameRefusals, attributeRefusals, questionRefusals, readRefusals, IsRefusal, Refused, RefusedTold, RefusedAs, noRecord, noRule, noBytes}
-use Rattle.demands.specs.Rust.{rustPasses, rulesSpend, Accepts, AsRust, recordAlign, recordSize}
+use Rattle.demands.specs.Rust.{rustPasses, rulesSpend, tablePlaces, Passes, Accepts, AsRust, recordAlign, recordSize}
 use Rattle.demands.specs.Standards.{SaysArgument, SaysResult}
 use Rattle.demands.specs.Performed.{Started, Asks, Takes, Performed, AllPerformed}
 use Rattle.demands.specs.Fastcall.{fastcallOutcome}
 use Rattle.demands.specs.Extent.{Extent}
+use Rattle.demands.specs.Lost.{NothingLost}
 use Rattle.demands.specs.Lists.{AllPlaced, IsRead, AllRead}
 use Rattle.demands.specs.Types.{IsFlattened, RefusedType, Because, AsRecord}
 use Rattle.demands.proofs.Refusing as refusing
@@ -88,6 +91,7 @@ use Rattle.demands.proofs.Answering as answering
 use Rattle.demands.proofs.Performed as performing
 use Rattle.demands.proofs.Listing as listing
 use Rattle.demands.proofs.Carried as carried
+use Rattle.demands.proofs.Placed as placing
 use Rattle.demands.proofs.Typing as typing
 
 -- ---- Demand 1: every entry answers every input; a refusal is one of its numbers, all else is 0, and what was handed in or lent is as it was
@@ -110,6 +114,25 @@ operation-extent = ending.operation-extent
 pub performed-extent : (c : Call) (op : Operation) (a : Answer) (after : List ℕ) → Performed c op a after
     → (shape : Shape) (words : List ℕ) → Takes shape words op → Extent c shape words (a .outcome .refusal)
 performed-extent = performing.performed-extent
+
+-- one with a stack offset above the limit is BAD_CALL, whatever the operation, and so is `in_memory`
+pub offset-past-limit : (c : Call) → c .abi < description-count → most-stack < c .stack → (op : Operation) → answerFor op c .outcome .refusal ≡ bad-call
+offset-past-limit = placing.offset-past-limit
+
+pub performed-offset-past-limit : (c : Call) (op : Operation) (a : Answer) (after : List ℕ) → Performed c op a after → c .abi < description-count → most-stack < c .stack
+    → a .outcome .refusal ≡ bad-call
+performed-offset-past-limit = performing.performed-offset-past-limit
+
+pub in-memory-past-limit : (c : Call) → c .abi < description-count → most-stack < c .stack → (shape : Shape) (words : List ℕ) → inMemoryAnswer c shape words .refusal ≡ bad-call
+in-memory-past-limit = placing.in-memory-past-limit
+
+-- and one whose next stack offset would pass it is NO_ROOM, whatever room the buffer has; the limit itself doesn't pass it (`tablePlaces`)
+pub stack-is-full : (op : Operation) (c : Call) → Passes op c → tablePlaces op c .refusal ≡ no-room → answerFor op c .outcome .refusal ≡ no-room
+stack-is-full = placing.stack-is-full
+
+pub performed-stack-is-full : (c : Call) (op : Operation) (a : Answer) (after : List ℕ) → Performed c op a after → Passes op c → tablePlaces op c .refusal ≡ no-room
+    → a .outcome .refusal ≡ no-room
+performed-stack-is-full = performing.performed-stack-is-full
 
 -- a fresh call: every number but the refusal is 0, of the call too
 pub fresh-refused : (d : ℕ) → IsRefusal (freshAnswer d .outcome .refusal) → Refused numberRefusals (unmarked 0 0 0) [] (freshAnswer d) []
@@ -176,13 +199,13 @@ argument-rule-refused = refusing.argument-rule-refused
 -- ---- Demand 2: what is accepted is answered as the Rust answers, and on descriptions 0 and 1 as the standards say. The Rust answers an aggregate
 -- with a piece past its size, too; it isn't accepted here, and so not compared
 
--- an operation is accepted only where its checks pass and its slots have room (`Accepts`)
+-- an operation is accepted only where its checks pass, its slots have room and the stack has (`Accepts`)
 pub operation-accepts : (op : Operation) (c : Call) → answerFor op c .outcome .refusal ≡ accepted → Accepts op c
 operation-accepts = answering.operation-accepts
 
 -- and there always: the way, the slots at the front of the buffer, all later words as they were, and the counts left are the Rust's; what is passed
--- over and given is by the rules
-pub operation-as-rust : (op : Operation) (c : Call) → Accepts op c → AsRust c (bufferOf op) (rustPasses op c) (rulesSpend op c) (answerFor op c) (writtenFor op c)
+-- over and given is by the rules; where it stands on the stack, how long it is there and the next offset are by the table of REFERENCE 9.9
+pub operation-as-rust : (op : Operation) (c : Call) → Accepts op c → AsRust c (bufferOf op) (rustPasses op c) (rulesSpend op c) (tablePlaces op c) (answerFor op c) (writtenFor op c)
 operation-as-rust = answering.operation-as-rust
 
 -- whichever function performed it, it is accepted only there
@@ -191,7 +214,7 @@ performed-accepts = performing.performed-accepts
 
 -- and whichever performed it, all else is the Rust's there, too
 pub performed-as-rust : (c : Call) (op : Operation) (a : Answer) (after : List ℕ) → Performed c op a after → Accepts op c
-    → AsRust c (bufferOf op) (rustPasses op c) (rulesSpend op c) a after
+    → AsRust c (bufferOf op) (rustPasses op c) (rulesSpend op c) (tablePlaces op c) a after
 performed-as-rust = performing.performed-as-rust
 
 -- the way of every answer is the number of the paper, 0 where it is refused
@@ -200,11 +223,11 @@ pub performed-way : (c : Call) (op : Operation) (a : Answer) (after : List ℕ) 
 performed-way = performing.performed-way
 
 -- a fresh call
-pub fresh-as-rust : (d : ℕ) → d < description-count → freshAnswer d ≡ done (callWith d (rust.call (described d)))
+pub fresh-as-rust : (d : ℕ) → d < description-count → freshAnswer d ≡ done (callWith d (rust.call (described d)) 0)
 fresh-as-rust = answering.fresh-as-rust
 
 -- the same, whichever function started it
-pub started-as-rust : (d : ℕ) (a : Answer) → Started d a → d < description-count → a ≡ done (callWith d (rust.call (described d)))
+pub started-as-rust : (d : ℕ) (a : Answer) → Started d a → d < description-count → a ≡ done (callWith d (rust.call (described d)) 0)
 started-as-rust = performing.started-as-rust
 
 -- it isn't marked
@@ -348,7 +371,7 @@ pub performed-result-is-aapcs64 : (c : Call) (shape : Shape) (words out : List �
     → SaysResult c shape words natural a out after
 performed-result-is-aapcs64 = performing.result-aapcs64
 
--- ---- Demand 3: the ledger, and what the registers carry
+-- ---- Demand 3: the ledger of registers and of the stack, and what they carry
 
 -- any description, any operations in any order, refused ones among them, after any number of them: `Ledger` has one clause for each sentence of
 -- REFERENCE 10
@@ -360,6 +383,26 @@ every-register-once = ledger
 pub every-register-once-performed : (d : ℕ) → d < description-count → (first : Answer) → Started d first → (ops : List Operation) (past : List Answer)
     → AllPerformed (first .next) ops past → (past ≡ history d ops) × ((n : ℕ) → Ledger d (take n past))
 every-register-once-performed = performing.ledger-performed
+
+-- the bytes of each operation on the stack begin at a multiple of what the table of REFERENCE 9.9 rounds them to, with less padding before them than that
+-- (`Rounded`; that they stand behind one another and that no byte is two operations' is said by `Ledger`)
+pub every-place-rounded : (d : ℕ) → d < description-count → (ops : List Operation) → Rounded d ops (history d ops)
+every-place-rounded = rounded
+
+pub every-place-rounded-performed : (d : ℕ) → d < description-count → (first : Answer) → Started d first → (ops : List Operation) (past : List Answer)
+    → AllPerformed (first .next) ops past → Rounded d ops past
+every-place-rounded-performed = performing.rounded-performed
+
+-- nothing is lost of an accepted argument, fixed or after the dots, on any description and with any refusals of its source: each byte of a scalar is in a
+-- register that it was given or on the stack, each slot has a register or a word there, what travels as Memory is there whole, and an address has a
+-- register or a word (`NothingLost`)
+pub nothing-is-lost : (source : ℕ) (D : Description) (arg : Arg) (op : Operation) → Asks arg op → (c : Call) → answerBy source D op c .outcome .refusal ≡ accepted
+    → NothingLost arg (wayFrom (answerBy source D op c .outcome .way)) (D .banks .«integer_width») (answerBy source D op c)
+nothing-is-lost = placing.nothing-is-lost
+
+pub performed-nothing-is-lost : (c : Call) (op : Operation) (a : Answer) (after : List ℕ) → Performed c op a after → (arg : Arg) → Asks arg op → a .outcome .refusal ≡ accepted
+    → NothingLost arg (wayFrom (a .outcome .way)) (described (c .abi) .banks .«integer_width») a
+performed-nothing-is-lost = performing.performed-nothing-is-lost
 
 -- what travels as Memory is given nothing, on any description and with any refusals of its source: a given register carries the value or its
 -- address, and this value's bytes are in the argument area
@@ -378,15 +421,15 @@ counted-in-memory = apart.in-memory-and-spend
 
 -- and these registers are passed over: the whole outcome of an aggregate argument there, fixed or after the dots (`fastcallOutcome`)
 pub fastcall-aggregate : (c : Call) → isFastcall (c .abi) ≡ true → (shape : Shape) (op : Operation) → Asks (Aggregate shape) op → answerFor op c .outcome .refusal ≡ accepted
-    → answerFor op c .outcome ≡ fastcallOutcome shape (c .left .integer)
+    → answerFor op c .outcome ≡ fastcallOutcome shape (c .left .integer) (c .stack)
 fastcall-aggregate = carried.fastcall-aggregate
 
 pub performed-fastcall-aggregate : (c : Call) (op : Operation) (a : Answer) (after : List ℕ) → Performed c op a after → isFastcall (c .abi) ≡ true
-    → (shape : Shape) → Asks (Aggregate shape) op → a .outcome .refusal ≡ accepted → a .outcome ≡ fastcallOutcome shape (c .left .integer)
+    → (shape : Shape) → Asks (Aggregate shape) op → a .outcome .refusal ≡ accepted → a .outcome ≡ fastcallOutcome shape (c .left .integer) (c .stack)
 performed-fastcall-aggregate = performing.performed-fastcall-aggregate
 
 -- what an entry hands back in numbers the next one reads as it was: every number of a call, its mark too
-pub call-read-back : (c : Call) → callFrom (c .abi) (c .left .integer) (c .left .float) (c .left .«integers_only») ≡ c
+pub call-read-back : (c : Call) → callFrom (c .abi) (c .left .integer) (c .left .float) (c .left .«integers_only») (c .stack) ≡ c
 call-read-back = numbers.call-read-back
 
 -- and a record's shape
@@ -505,21 +548,26 @@ pub prologue-stores : (m : Machine) → Whole m
     → ((k : ℕ) → k < 6 → take 8 (drop (8 * k) (saved m)) ≡ getD (m .integers) k []) × ((k : ℕ) → k < 8 → take 16 (drop (48 + 16 * k) (saved m)) ≡ getD (m .floats) k [])
 prologue-stores m w = (lists.integer-stored m w, lists.float-stored m w)
 
--- 2. After named parameters, any operations on description 0: the first offsets are 8 times and 48 plus 16 times what these were given and passed over.
+-- 2. After named parameters, any operations on description 0: the first offsets are 8 times and 48 plus 16 times what these were given and passed over,
+-- and the call's stack offset, which has to be in eightbytes.
 -- No register of theirs and no byte below the stack offset changes (`Stays`)
-pub after-named-parameters : (ops : List Operation) (m : Machine) (stack : ℕ) (vs : List Value) → Whole m → stack % 8 ≡ 0 → AllValues vs
-    → AllInside (length (m .area)) (namedState ops m stack) vs
-    → (offsetsOf (namedState ops m stack) ≡ record { integer = 8 * used integers ops; float = 48 + 16 * used floats ops; overflow = stack })
-    × (readings (saved (placeAll (namedState ops m stack) vs .machine)) (placeAll (namedState ops m stack) vs .machine .area) (offsetsOf (namedState ops m stack)) vs
-    ≡ asPlaced (namedState ops m stack) vs)
-    × Stays (used integers ops) (used floats ops) stack m (placeAll (namedState ops m stack) vs .machine)
+pub after-named-parameters : (ops : List Operation) (m : Machine) (vs : List Value) → Whole m → callNamed ops .stack % 8 ≡ 0 → AllValues vs
+    → AllInside (length (m .area)) (namedState ops m) vs
+    → (offsetsOf (namedState ops m) ≡ record { integer = 8 * used integers ops; float = 48 + 16 * used floats ops; overflow = callNamed ops .stack })
+    × (readings (saved (placeAll (namedState ops m) vs .machine)) (placeAll (namedState ops m) vs .machine .area) (offsetsOf (namedState ops m)) vs ≡ asPlaced (namedState ops m) vs)
+    × Stays (used integers ops) (used floats ops) (callNamed ops .stack) m (placeAll (namedState ops m) vs .machine)
 after-named-parameters = lists.after-named
 
+-- that offset is in eightbytes wherever each aggregate of these is aligned to 0 or to a power of two
+pub named-in-eights : (ops : List Operation) → AllUsual ops → callNamed ops .stack % 8 ≡ 0
+named-in-eights = eights.named-eights
+
 pub performed-after-named-parameters : (first : Answer) → Started 0 first → (ops : List Operation) (past : List Answer) → AllPerformed (first .next) ops past
-    → (m : Machine) (stack : ℕ) (vs : List Value) (to : State) (seen : List Shown) → Whole m → stack % 8 ≡ 0 → AllValues vs → AllInside (length (m .area)) (namedState ops m stack) vs
-    → AllPlaced (record { machine = m; call = callAfter (first .next) past; stack = stack }) vs to
-    → AllRead (saved (to .machine)) (to .machine .area) (record { integer = 8 * used integers ops; float = 48 + 16 * used floats ops; overflow = stack }) vs seen
-    → (seen ≡ asPlaced (namedState ops m stack) vs) × Stays (used integers ops) (used floats ops) stack m (to .machine)
+    → (m : Machine) (vs : List Value) (to : State) (seen : List Shown) → Whole m → callAfter (first .next) past .stack % 8 ≡ 0 → AllValues vs
+    → AllInside (length (m .area)) (namedState ops m) vs → AllPlaced (record { machine = m; call = callAfter (first .next) past }) vs to
+    → AllRead (saved (to .machine)) (to .machine .area)
+    (record { integer = 8 * used integers ops; float = 48 + 16 * used floats ops; overflow = callAfter (first .next) past .stack }) vs seen
+    → (seen ≡ asPlaced (namedState ops m) vs) × Stays (used integers ops) (used floats ops) (callAfter (first .next) past .stack) m (to .machine)
 performed-after-named-parameters = listing.after-named
 
 -- 3. A short area: where so many bytes are lent, and they end before the last byte of v, which stands on the stack behind the values before it, the

@@ -11,7 +11,7 @@ use denote.Ref.{RefT, now}
 use lib.ListN.{length}
 use Rattle.shape.specs.declared.Arg.the-variants.{Aggregate}
 use Rattle.shape.specs.declared.Shape.{Shape}
-use Rattle.shape.specs.Numbers.{accepted, most-size, most-offset, oneIf}
+use Rattle.shape.specs.Numbers.{accepted, bad-call, most-size, most-offset, oneIf}
 use Rattle.shape.specs.Words.{pieceSize, scalar, piecesOf, scalarsOf, putAt}
 use Rattle.checks.specs.Check.{orElse, listRefusal, piecesRefusal, shapeRefusal}
 use Rattle.layouts.specs.Record.{isFloating, recorded, recordAnswer}
@@ -25,6 +25,7 @@ use Rattle.targets.specs.Answers.{numberOf}
 use Rattle.attributes.specs.Attributes.{asked}
 use Rattle.attributes.specs.Spellings.{attribute}
 use Rattle.stack_align.specs.InMemory.{inMemory}
+use Rattle.stack_place.specs.Stacked.{most-stack}
 use Rattle.classify.specs.declared.Call.{Call}
 use Rattle.classify.specs.declared.InMemory.{InMemory}
 use Rattle.classify.specs.Answers.{refusalOf}
@@ -65,6 +66,7 @@ use Rattle.demands.proofs.Refusing as refusing
 use Rattle.demands.proofs.Ending as ending
 use Rattle.demands.proofs.Answering as answering
 use Rattle.demands.proofs.Listing as listing
+use Rattle.demands.proofs.Placed as placing
 
 -- ---- the alignment in the argument area: the method of a call, and the entry
 
@@ -72,19 +74,31 @@ pub in-memory-method : (κs : Lfts 1) (c : Call) (shape : Shape) (words : RefT (
     → AnswersAlone (call-in-memory.Post κs) (c, (shape, (words, tt)))
     (λ (r : InMemory). (IsRefusal (r .refusal) → RefusedTold inMemoryRefusals (alignTold r) [] [])
     × Extent c shape (now words) (r .refusal)
+    × (c .abi < description-count → most-stack < c .stack → r .refusal ≡ bad-call)
     × (refusalOf c (Aggregate shape) (now words) ≡ accepted → alignTold r ≡ told accepted (inMemory (described (c .abi)) shape (piecesOf (now words)))))
 in-memory-method κs c shape words r s p =
-    rw p (refusing.in-memory-refused c shape (now words), ending.in-memory-extent c shape (now words), answering.in-memory-as-rust c shape (now words))
+    rw p (
+      refusing.in-memory-refused c shape (now words),
+      ending.in-memory-extent c shape (now words),
+      (λ known far. placing.in-memory-past-limit c known far shape (now words)),
+      answering.in-memory-as-rust c shape (now words),
+    )
 
 pub in-memory-entry : (κs : Lfts 1) (c : Call) (size align complex floating : ℕ) (words : RefT (List ℕ))
     → AnswersAlone (entry-in-memory.Post κs) (handed c (size, (align, (complex, (floating, (words, tt))))))
     (λ (r : Told). (IsRefusal (r .refusal) → RefusedTold inMemoryRefusals r [] [])
     × Extent c (shapeFrom size align complex floating) (now words) (r .refusal)
+    × (c .abi < description-count → most-stack < c .stack → r .refusal ≡ bad-call)
     × (refusalOf c (Aggregate (shapeFrom size align complex floating)) (now words) ≡ accepted
     → r ≡ told accepted (inMemory (described (c .abi)) (shapeFrom size align complex floating) (piecesOf (now words)))))
 in-memory-entry κs c size align complex floating words r s p =
     let shape : Shape = shapeFrom size align complex floating in
-    rw p (refusing.in-memory-refused c shape (now words), ending.in-memory-extent c shape (now words), answering.in-memory-as-rust c shape (now words))
+    rw p (
+      refusing.in-memory-refused c shape (now words),
+      ending.in-memory-extent c shape (now words),
+      (λ known far. placing.in-memory-past-limit c known far shape (now words)),
+      answering.in-memory-as-rust c shape (now words),
+    )
 
 -- ---- pieces and records
 

@@ -5,5 +5,6 @@ mod Answering
 mod Performed
 mod Listing
 mod Carried
+pub mod Placed
 mod Ending
 mod Typing

@@ -147,14 +147,17 @@ named-so first s ops past p =
     rw (same, start)
 
 pub after-named : (first : Answer) → Started 0 first → (ops : List Operation) (past : List Answer) → AllPerformed (first .next) ops past
-    → (m : Machine) (stack : ℕ) (vs : List Value) (to : State) (seen : List Shown) → Whole m → stack % 8 ≡ 0 → AllValues vs → AllInside (length (m .area)) (namedState ops m stack) vs
-    → AllPlaced (record { machine = m; call = callAfter (first .next) past; stack = stack }) vs to
-    → AllRead (saved (to .machine)) (to .machine .area) (record { integer = 8 * used integers ops; float = 48 + 16 * used floats ops; overflow = stack }) vs seen
-    → (seen ≡ asPlaced (namedState ops m stack) vs) × Stays (used integers ops) (used floats ops) stack m (to .machine)
-after-named first s ops past h m stack vs to seen w eights are inside p r =
-    let ready : Ready (namedState ops m stack) = record { row = theorems.named-row ops; passes = theorems.named-passes ops; whole = w; eights = eights } in
-    let three = theorems.after-named ops m stack vs w eights are inside in
-    let call : callAfter (first .next) past ≡ back.callNamed ops = named-so first s ops past h in
-    let p′ : AllPlaced (namedState ops m stack) vs to = subst (λ (c : Call). AllPlaced (record { machine = m; call = c; stack = stack }) vs to) call p in
-    let both = placed-is-read (namedState ops m stack) vs to seen ready are inside p′ (subst (λ (o : Offsets). AllRead (saved (to .machine)) (to .machine .area) o vs seen) (sym (three .0)) r) in
-    (both .0, rw (theorems.named-integers ops, theorems.named-floats ops) at (both .1))
+    → (m : Machine) (vs : List Value) (to : State) (seen : List Shown) → Whole m → callAfter (first .next) past .stack % 8 ≡ 0 → AllValues vs → AllInside (length (m .area)) (namedState ops m) vs
+    → AllPlaced (record { machine = m; call = callAfter (first .next) past }) vs to
+    → AllRead (saved (to .machine)) (to .machine .area) (record { integer = 8 * used integers ops; float = 48 + 16 * used floats ops; overflow = callAfter (first .next) past .stack }) vs seen
+    → (seen ≡ asPlaced (namedState ops m) vs) × Stays (used integers ops) (used floats ops) (callAfter (first .next) past .stack) m (to .machine)
+after-named first s ops past h m vs to seen w = rw (named-so first s ops past h) go
+  where
+    go : back.callNamed ops .stack % 8 ≡ 0 → AllValues vs → AllInside (length (m .area)) (namedState ops m) vs → AllPlaced (namedState ops m) vs to
+        → AllRead (saved (to .machine)) (to .machine .area) (record { integer = 8 * used integers ops; float = 48 + 16 * used floats ops; overflow = back.callNamed ops .stack }) vs seen
+        → (seen ≡ asPlaced (namedState ops m) vs) × Stays (used integers ops) (used floats ops) (back.callNamed ops .stack) m (to .machine)
+    go eights are inside p r =
+        let ready : Ready (namedState ops m) = record { row = theorems.named-row ops; passes = theorems.named-passes ops; whole = w; eights = eights } in
+        let three = theorems.after-named ops m vs w eights are inside in
+        let both = placed-is-read (namedState ops m) vs to seen ready are inside p (subst (λ (o : Offsets). AllRead (saved (to .machine)) (to .machine .area) o vs seen) (sym (three .0)) r) in
+        (both .0, rw (theorems.named-integers ops, theorems.named-floats ops) at (both .1))

@@ -6,14 +6,16 @@ use mathlib.Core.List.{List, []}
 use mathlib.Core.Option.Option.{some}
 use lib.Dec.{eqb}
 use lib.ListN.{take, getElem?}
+use Rattle.shape.specs.declared.Arg.{Arg}
 use Rattle.shape.specs.declared.Arg.the-variants.{Aggregate}
 use Rattle.shape.specs.declared.Shape.{Shape}
-use Rattle.shape.specs.Numbers.{accepted}
+use Rattle.shape.specs.Numbers.{accepted, bad-call, no-room}
 use Rattle.shape.specs.Words.{piecesOf}
 use Rattle.abis.specs.Abis.{described, description-count}
 use Rattle.abis.specs.Apart.{isFastcall}
 use Rattle.spend.specs.declared.Way.the-variants.{Memory}
-use Rattle.spend.specs.Ways.{wayNumber, marked}
+use Rattle.spend.specs.Ways.{wayNumber, wayFrom, marked}
+use Rattle.stack_place.specs.Stacked.{most-stack}
 use Rattle.classify.specs.declared.Call.{Call}
 use Rattle.classify.specs.declared.Answer.{Answer}
 use Rattle.classify.specs.declared.Outcome.{Outcome}
@@ -21,9 +23,9 @@ use Rattle.classify.specs.Pass.{wayOf}
 use Rattle.classify.specs.Classify as rust
 use Rattle.classify.specs.Answers.{Leaves, unmarked, callWith, done, freshAnswer}
 use Rattle.classify.proofs.Operations.{by-void}
-use Rattle.ledger.specs.Ledger.{Operation, mark, return, argument, bufferOf, answerFor, writtenFor, answersFrom, history, Bank, given, Ledger}
+use Rattle.ledger.specs.Ledger.{Operation, mark, return, argument, bufferOf, answerFor, writtenFor, answersFrom, history, Bank, given, Ledger, Rounded}
 use Rattle.ledger.specs.Twelve.{Entry, twelve, callOn, expected}
-use Rattle.ledger.proofs.Ledger.{ledger}
+use Rattle.ledger.proofs.Ledger.{ledger, rounded}
 use Rattle.ledger.proofs.Twelve.{call-of-twelve}
 use Rattle.bridge.specs.Lent.{Lends}
 use Rattle.psabi.specs.Domain as psabi
@@ -34,14 +36,16 @@ use Rattle.aapcs64.specs.Domain as aapcs64
 use Rattle.aapcs64.specs.Reading.{mostNatural}
 use Rattle.aapcs64.proofs.Answered as row-1
 use Rattle.demands.specs.Refusals.{numberRefusals, refusalsOf, IsRefusal, Refused}
-use Rattle.demands.specs.Rust.{rustPasses, rulesSpend, Accepts, AsRust}
+use Rattle.demands.specs.Rust.{rustPasses, rulesSpend, tablePlaces, Passes, Accepts, AsRust}
 use Rattle.demands.specs.Standards.{SaysArgument, SaysResult}
 use Rattle.demands.specs.Fastcall.{fastcallOutcome}
 use Rattle.demands.specs.Extent.{Extent}
+use Rattle.demands.specs.Lost.{NothingLost}
 use Rattle.demands.proofs.Refusing.{operation-refused, fresh-refused}
 use Rattle.demands.proofs.Answering.{operation-accepts, operation-as-rust, operation-way, fresh-as-rust, fresh-is-unmarked, mark-marks}
 use Rattle.demands.proofs.Ending.{operation-extent}
 use Rattle.demands.proofs.Carried.{row-is-given-nothing, fastcall-aggregate}
+use Rattle.demands.proofs.Placed.{row-loses-nothing, offset-past-limit, stack-is-full}
 use Rattle.demands.specs.Performed as by
 use Rattle.demands.specs.Performed.{Started, Asks, Takes, Performed, AllPerformed, leaving}
 
@@ -103,8 +107,8 @@ module _ (c : Call) (op : Operation) (a : Answer) (after : List ℕ) (p : Perfor
   pub performed-accepts : a .outcome .refusal ≡ accepted → Accepts op c
   performed-accepts = by-definition c op a after p (λ a after. a .outcome .refusal ≡ accepted → Accepts op c) (operation-accepts op c)
 
-  pub performed-as-rust : Accepts op c → AsRust c (bufferOf op) (rustPasses op c) (rulesSpend op c) a after
-  performed-as-rust z = by-definition c op a after p (AsRust c (bufferOf op) (rustPasses op c) (rulesSpend op c)) (operation-as-rust op c z)
+  pub performed-as-rust : Accepts op c → AsRust c (bufferOf op) (rustPasses op c) (rulesSpend op c) (tablePlaces op c) a after
+  performed-as-rust z = by-definition c op a after p (AsRust c (bufferOf op) (rustPasses op c) (rulesSpend op c) (tablePlaces op c)) (operation-as-rust op c z)
 
   pub performed-way : a .outcome .way ≡ cond (eqb (a .outcome .refusal) accepted) (wayNumber (wayOf (rustPasses op c .pass))) 0
   performed-way =
@@ -115,9 +119,21 @@ module _ (c : Call) (op : Operation) (a : Answer) (after : List ℕ) (p : Perfor
       by-definition c op a after p (λ a after. a .outcome .way ≡ wayNumber Memory → (b : Bank) → given b a ≡ 0) (row-is-given-nothing op c)
 
   pub performed-fastcall-aggregate : isFastcall (c .abi) ≡ true → (shape : Shape) → Asks (Aggregate shape) op → a .outcome .refusal ≡ accepted
-      → a .outcome ≡ fastcallOutcome shape (c .left .integer)
+      → a .outcome ≡ fastcallOutcome shape (c .left .integer) (c .stack)
   performed-fastcall-aggregate row shape asks =
-      by-definition c op a after p (λ a after. a .outcome .refusal ≡ accepted → a .outcome ≡ fastcallOutcome shape (c .left .integer)) (fastcall-aggregate c row shape op asks)
+      by-definition c op a after p (λ a after. a .outcome .refusal ≡ accepted → a .outcome ≡ fastcallOutcome shape (c .left .integer) (c .stack)) (fastcall-aggregate c row shape op asks)
+
+-- the stack
+module _ (c : Call) (op : Operation) (a : Answer) (after : List ℕ) (p : Performed c op a after) where
+  pub performed-nothing-is-lost : (arg : Arg) → Asks arg op → a .outcome .refusal ≡ accepted → NothingLost arg (wayFrom (a .outcome .way)) (described (c .abi) .banks .«integer_width») a
+  performed-nothing-is-lost arg asks =
+      by-definition c op a after p (λ a after. a .outcome .refusal ≡ accepted → NothingLost arg (wayFrom (a .outcome .way)) (described (c .abi) .banks .«integer_width») a) (row-loses-nothing c arg op asks)
+
+  pub performed-offset-past-limit : c .abi < description-count → most-stack < c .stack → a .outcome .refusal ≡ bad-call
+  performed-offset-past-limit known far = by-definition c op a after p (λ a after. a .outcome .refusal ≡ bad-call) (offset-past-limit c known far op)
+
+  pub performed-stack-is-full : Passes op c → tablePlaces op c .refusal ≡ no-room → a .outcome .refusal ≡ no-room
+  performed-stack-is-full z full = by-definition c op a after p (λ a after. a .outcome .refusal ≡ no-room) (stack-is-full op c z full)
 
 pub performed-mark-marks : (c : Call) (a : Answer) (after : List ℕ) → Performed c mark a after → Accepts mark c
     → marked (a .next .left) ≡ rust.isIntegersOnly (described (c .abi) .variadic)
@@ -161,7 +177,7 @@ started-defined d a (by.barkpaddle-fresh κs m) = m .1
 pub started-refused : (d : ℕ) (a : Answer) → Started d a → IsRefusal (a .outcome .refusal) → Refused numberRefusals (unmarked 0 0 0) [] a []
 started-refused d a s = rw (started-defined d a s) (fresh-refused d)
 
-pub started-as-rust : (d : ℕ) (a : Answer) → Started d a → d < description-count → a ≡ done (callWith d (rust.call (described d)))
+pub started-as-rust : (d : ℕ) (a : Answer) → Started d a → d < description-count → a ≡ done (callWith d (rust.call (described d)) 0)
 started-as-rust d a s h = started-defined d a s ∙ fresh-as-rust d h
 
 pub started-is-unmarked : (d : ℕ) (a : Answer) → Started d a → marked (a .next .left) ≡ false
@@ -178,6 +194,10 @@ pub ledger-performed : (d : ℕ) → d < description-count → (first : Answer) 
 ledger-performed d known first s ops past p =
     let same : past ≡ history d ops = rw (all-defined (first .next) ops past p, started-defined d first s) refl in
     (same, λ n. rw same (ledger d known ops n))
+
+pub rounded-performed : (d : ℕ) → d < description-count → (first : Answer) → Started d first → (ops : List Operation) (past : List Answer)
+    → AllPerformed (first .next) ops past → Rounded d ops past
+rounded-performed d known first s ops past p = rw (ledger-performed d known first s ops past p .0) (rounded d known ops)
 
 -- ---- the table of twelve calls
 

@@ -6,6 +6,7 @@ use mathlib.Core.List.{List, [], _∷_}
 use mathlib.Core.Bool.{Bool, true, false, cond}
 use mathlib.Core.Option.{Option}
 use mathlib.Core.Option.Option.{none, some}
+use mathlib.Core.Logic.{⊎-elim}
 use native.Mathlib.Omega.{arith}
 use borrow.Author.Tests.{leb-false, ne-eqb}
 use lib.Dec.{eqb, leb, ltb}
@@ -26,6 +27,7 @@ use Rattle.layouts.specs.Record.{largestAlign, furthestEnd, refuseRecord, recor
 use Rattle.layouts.specs.Members.{scalarsRefusal, membersRefusal, placed, piecesWords, orPlaced, ifRoom, piecesAnswer, piecesWritten}
 use Rattle.layouts.proofs.Members.{room-words}
 use Rattle.text.specs.Text.{wrote, putAnswer, putWritten}
+use Rattle.describe.specs.declared.Dots.{Dots}
 use Rattle.describe.specs.declared.Rule.{Rule}
 use Rattle.describe.specs.declared.Terms.{Terms}
 use Rattle.describe.specs.Description.{Description, termsOf}
@@ -33,14 +35,14 @@ use Rattle.abis.specs.Abis.{described, description-count}
 use Rattle.abis.specs.Answers.{questionRefusal, askedYes, askedFormat, isByReferenceAnswer, returnsByReferenceAnswer, wideReturnsInAnswer, nameAnswer, nameWritten}
 use Rattle.attributes.specs.Spellings.{spellingAnswer, spellingWritten}
 use Rattle.attributes.specs.Answers.{nameOf, attributeAnswer, attributeWritten}
-use Rattle.spend.specs.declared.Left.{Left}
 use Rattle.spend.specs.declared.Spent.{Spent}
+use Rattle.spend.specs.declared.Way.{Way}
 use Rattle.classify.specs.declared.Call.{Call}
 use Rattle.classify.specs.declared.Answer.{Answer}
-use Rattle.classify.specs.Pass.{passSlots}
-use Rattle.classify.specs.Classify.{Passed}
-use Rattle.classify.specs.Answers.{unmarked, isBadLeft, leftRefusal, argRefusal, checked, callRefusalBy, refusalBy, rowRefusal, refusalOf, refused, done, orAnswer, orAlign, wholeRefusal, answerTo, writtenTo, variadicAnswerBy, returnsAnswerBy, returnsWrittenBy, argumentAnswerBy, argumentWrittenBy, variadicArgumentAnswerBy, variadicArgumentWrittenBy, inMemoryAnswerBy, freshAnswer, variadicAnswer, returnsAnswer, returnsWritten, argumentAnswer, argumentWritten, variadicArgumentAnswer, variadicArgumentWritten, inMemoryAnswer}
+use Rattle.classify.specs.Stacking.{stackedOf}
+use Rattle.classify.specs.Answers.{unmarked, isBadCall, stateRefusal, argRefusal, checked, callRefusalBy, refusalBy, rowRefusal, refusalOf, roomRefusal, Account, slotsOf, returnsAccount, argumentAccount, variadicArgumentAccount, refused, done, orAnswer, orAlign, wholeRefusal, answerTo, writtenTo, variadicAnswerBy, returnsAnswerBy, returnsWrittenBy, argumentAnswerBy, argumentWrittenBy, variadicArgumentAnswerBy, variadicArgumentWrittenBy, inMemoryAnswerBy, freshAnswer, variadicAnswer, returnsAnswer, returnsWritten, argumentAnswer, argumentWritten, variadicArgumentAnswer, variadicArgumentWritten, inMemoryAnswer}
 use Rattle.classify.proofs.Accepted.{by-cases}
+use Rattle.classify.proofs.Stacking.{stacked-stands}
 use Rattle.ledger.specs.Ledger.{Operation, mark, return, argument, variadic-argument, bufferOf, answerFor, writtenFor}
 use Rattle.export_questions.specs.Answers.{alignTold, countTold, lengthTold, yesTold, formatTold, recordNumbers}
 use Rattle.export_questions.specs.Descriptions.{noDescription, fieldsOf, descriptionAnswer, ruleIn, returnRuleAnswer, argumentRuleAnswer}
@@ -106,9 +108,9 @@ module _ (numbers : List ℕ) where
   unfolding rowRefusal
   row-within abi d = refuse-within numbers (leb description-count d) bad-abi accepted abi tt
 
-  left-within : OneOf numbers bad-call → (T : Terms) (left : Left) → Within numbers (leftRefusal T left)
-  unfolding leftRefusal
-  left-within call T left = refuse-within numbers (isBadLeft T left) bad-call accepted call tt
+  state-within : OneOf numbers bad-call → (T : Terms) (c : Call) → Within numbers (stateRefusal T c)
+  unfolding stateRefusal
+  state-within call T c = refuse-within numbers (isBadCall T c) bad-call accepted call tt
 
   module _ (list : OneOf numbers bad-list) (kind : OneOf numbers bad-kind) (size : OneOf numbers bad-size) (align : OneOf numbers bad-align) where
     members-within : (ws : List ℕ) → Within numbers (membersRefusal ws)
@@ -136,46 +138,56 @@ module _ (numbers : List ℕ) where
       unfolding refusalOf refusalBy checked
       checks-within abi call c arg ws =
           else-within numbers (rowRefusal (c .abi)) _ (row-within abi (c .abi))
-          (else-within numbers (leftRefusal (termsOf (described (c .abi))) (c .left)) (argRefusal arg ws)
-          (left-within call (termsOf (described (c .abi))) (c .left)) (arg-within arg ws))
+          (else-within numbers (stateRefusal (termsOf (described (c .abi))) c) (argRefusal arg ws)
+          (state-within call (termsOf (described (c .abi))) c) (arg-within arg ws))
 
 -- ---- operations on a call
 
 by-number : (numbers : List ℕ) (n : ℕ) (c : Call) (out : List ℕ) → Within numbers (suc n) → Refused numbers c out (refused c (suc n)) out
 by-number numbers n c out h = record { one-of-them = h; same-call = refl; rest-zero = refl; same-words = refl }
 
+-- a place on the stack is refused with NO_ROOM alone
+stacked-within : (T : Terms) (rules : List Rule) (returning : Bool) (dots : Dots) (stack : ℕ) (arg : args.Arg) (ps : List Piece) (way : Way) (spent : Spent) (slots : ℕ)
+    → Within valueRefusals (stackedOf T rules returning dots stack arg ps way spent slots .refusal)
+unfolding isOneOf
+stacked-within T rules returning dots stack arg ps way spent slots =
+    ⊎-elim (λ (e : stackedOf T rules returning dots stack arg ps way spent slots .refusal ≡ accepted). rw e tt)
+    (λ (e : stackedOf T rules returning dots stack arg ps way spent slots .refusal ≡ no-room). rw e refl)
+    (stacked-stands T rules returning dots stack arg ps way spent slots .one-refusal)
+
 -- every operation on a value
 module _ (c : Call) (arg : args.Arg) (words out : List ℕ) where
-  whole-within : (p : Passed) → Within valueRefusals (wholeRefusal (refusalOf c arg words) p out)
+  whole-within : (account : Account) → Within valueRefusals (account .placed .refusal) → Within valueRefusals (wholeRefusal (refusalOf c arg words) account out)
   unfolding isOneOf
-  whole-within p =
+  whole-within account stack =
       else-within valueRefusals (refusalOf c arg words) _ (checks-within valueRefusals refl refl refl refl refl refl refl c arg words)
-      (refuse-within valueRefusals (ltb (length out / slotSize) (length (passSlots (p .pass)))) no-room accepted refl tt)
+      (else-within valueRefusals (roomRefusal (length (slotsOf account)) out) _
+      (refuse-within valueRefusals (ltb (length out / slotSize) (length (slotsOf account))) no-room accepted refl tt) stack)
 
-  answer-refused : (p : Passed) (spent : Spent) → IsRefusal (answerTo (refusalOf c arg words) c p spent out .outcome .refusal)
-      → Refused valueRefusals c out (answerTo (refusalOf c arg words) c p spent out) (writtenTo (refusalOf c arg words) p out)
-  answer-refused p spent =
-      by-cases (refusalOf c arg words) c p spent out (λ (a : Answer) (after : List ℕ). IsRefusal (a .outcome .refusal) → Refused valueRefusals c out a after)
-      (λ n e _. by-number valueRefusals n c out (subst (Within valueRefusals) e (whole-within p)))
-      (λ z room x. absurd (x refl))
+  answer-refused : (account : Account) → Within valueRefusals (account .placed .refusal) → IsRefusal (answerTo (refusalOf c arg words) c account out .outcome .refusal)
+      → Refused valueRefusals c out (answerTo (refusalOf c arg words) c account out) (writtenTo (refusalOf c arg words) account out)
+  answer-refused account stack =
+      by-cases (refusalOf c arg words) c account out (λ (a : Answer) (after : List ℕ). IsRefusal (a .outcome .refusal) → Refused valueRefusals c out a after)
+      (λ n e _. by-number valueRefusals n c out (subst (Within valueRefusals) e (whole-within account stack)))
+      (λ z room s x. absurd (x refl))
 
   return-refused : IsRefusal (returnsAnswer c arg words out .outcome .refusal) → Refused valueRefusals c out (returnsAnswer c arg words out) (returnsWritten c arg words out)
-  unfolding returnsAnswer returnsWritten returnsAnswerBy returnsWrittenBy refusalOf
-  return-refused = answer-refused _ _
+  unfolding returnsAnswer returnsWritten returnsAnswerBy returnsWrittenBy returnsAccount refusalOf
+  return-refused = answer-refused _ (stacked-within _ _ _ _ _ arg _ _ _ _)
 
   argument-refused : IsRefusal (argumentAnswer c arg words out .outcome .refusal) → Refused valueRefusals c out (argumentAnswer c arg words out) (argumentWritten c arg words out)
-  unfolding argumentAnswer argumentWritten argumentAnswerBy argumentWrittenBy refusalOf
-  argument-refused = answer-refused _ _
+  unfolding argumentAnswer argumentWritten argumentAnswerBy argumentWrittenBy argumentAccount refusalOf
+  argument-refused = answer-refused _ (stacked-within _ _ _ _ _ arg _ _ _ _)
 
   variadic-argument-refused : IsRefusal (variadicArgumentAnswer c arg words out .outcome .refusal)
       → Refused valueRefusals c out (variadicArgumentAnswer c arg words out) (variadicArgumentWritten c arg words out)
-  unfolding variadicArgumentAnswer variadicArgumentWritten variadicArgumentAnswerBy variadicArgumentWrittenBy refusalOf
-  variadic-argument-refused = answer-refused _ _
+  unfolding variadicArgumentAnswer variadicArgumentWritten variadicArgumentAnswerBy variadicArgumentWrittenBy variadicArgumentAccount refusalOf
+  variadic-argument-refused = answer-refused _ (stacked-within _ _ _ _ _ arg _ _ _ _)
 
 pub call-within : (D : Description) (c : Call) → Within markRefusals (callRefusalBy (rowRefusal (c .abi)) D c)
 unfolding callRefusalBy isOneOf
 call-within D c =
-    else-within markRefusals (rowRefusal (c .abi)) _ (row-within markRefusals refl (c .abi)) (left-within markRefusals refl (termsOf D) (c .left))
+    else-within markRefusals (rowRefusal (c .abi)) _ (row-within markRefusals refl (c .abi)) (state-within markRefusals refl (termsOf D) c)
 
 mark-refused : (c : Call) → IsRefusal (variadicAnswer c .outcome .refusal) → Refused markRefusals c [] (variadicAnswer c) []
 unfolding variadicAnswer variadicAnswerBy

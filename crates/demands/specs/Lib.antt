@@ -7,3 +7,4 @@ pub mod Lists
 pub mod Fastcall
 pub mod Extent
 pub mod Types
+pub mod Lost

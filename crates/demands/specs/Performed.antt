@@ -55,8 +55,8 @@ abbrev pub MetAlone : {A R S : Type 0} → (A → R → S → Type 0) → A → 
 MetAlone {S} Post a r = (s : S) × Post a r s
 
 -- the numbers of a call, as an exported entry is handed them before whatever else it takes
-abbrev pub handed : {A : Type 0} → Call → A → ℕ × (ℕ × (ℕ × (ℕ × A)))
-handed c rest = (c .abi, (c .left .integer, (c .left .float, (c .left .«integers_only», rest))))
+abbrev pub handed : {A : Type 0} → Call → A → ℕ × (ℕ × (ℕ × (ℕ × (ℕ × A))))
+handed c rest = (c .abi, (c .left .integer, (c .left .float, (c .left .«integers_only», (c .stack, rest)))))
 
 -- what an operation on a lent call answers, with the call that stands there afterwards
 abbrev pub leaving : Call → Outcome → Answer
@@ -108,31 +108,31 @@ pub data Performed (c : Call) : Operation → Answer → List ℕ → Type 0 whe
       → Met (call-argument-aggregate.Post κs) (λ s. now (s .1 .1 .1 .0)) (c, (shape, (w, (o, tt)))) a after → Performed c (asks.argument (Aggregate shape) (now w) (now o)) a after
   variadic-argument-aggregate : (κs : Lfts 2) (shape : Shape) (w o : RefT (List ℕ)) (a : Answer) (after : List ℕ)
       → Met (call-variadic-argument-aggregate.Post κs) (λ s. now (s .1 .1 .1 .0)) (c, (shape, (w, (o, tt)))) a after → Performed c (asks.variadic-argument (Aggregate shape) (now w) (now o)) a after
-  -- the exported entries, which are handed the call's four numbers and the value's
+  -- the exported entries, which are handed the call's five numbers and the value's
   barkpaddle-variadic : (κs : Lfts 0) (a : Answer) → MetAlone (entry-variadic.Post κs) (handed c tt) a → Performed c asks.mark a []
   barkpaddle-return-void : (κs : Lfts 1) (o : RefT (List ℕ)) (a : Answer) (after : List ℕ)
-      → Met (entry-return-void.Post κs) (λ s. now (s .1 .1 .1 .1 .0)) (handed c (o, tt)) a after → Performed c (asks.return voidArg [] (now o)) a after
+      → Met (entry-return-void.Post κs) (λ s. now (s .1 .1 .1 .1 .1 .0)) (handed c (o, tt)) a after → Performed c (asks.return voidArg [] (now o)) a after
   barkpaddle-return-scalar : (κs : Lfts 1) (kind size align : ℕ) (o : RefT (List ℕ)) (a : Answer) (after : List ℕ)
-      → Met (entry-return-scalar.Post κs) (λ s. now (s .1 .1 .1 .1 .1 .1 .1 .0)) (handed c (kind, (size, (align, (o, tt))))) a after
+      → Met (entry-return-scalar.Post κs) (λ s. now (s .1 .1 .1 .1 .1 .1 .1 .1 .0)) (handed c (kind, (size, (align, (o, tt))))) a after
       → Performed c (asks.return (scalarFrom kind size align) [] (now o)) a after
   barkpaddle-return-aggregate : (κs : Lfts 2) (size align complex floating : ℕ) (w o : RefT (List ℕ)) (a : Answer) (after : List ℕ)
-      → Met (entry-return-aggregate.Post κs) (λ s. now (s .1 .1 .1 .1 .1 .1 .1 .1 .1 .0)) (handed c (size, (align, (complex, (floating, (w, (o, tt))))))) a after
+      → Met (entry-return-aggregate.Post κs) (λ s. now (s .1 .1 .1 .1 .1 .1 .1 .1 .1 .1 .0)) (handed c (size, (align, (complex, (floating, (w, (o, tt))))))) a after
       → Performed c (asks.return (aggregateFrom size align complex floating) (now w) (now o)) a after
   barkpaddle-argument-void : (κs : Lfts 1) (o : RefT (List ℕ)) (a : Answer) (after : List ℕ)
-      → Met (entry-argument-void.Post κs) (λ s. now (s .1 .1 .1 .1 .0)) (handed c (o, tt)) a after → Performed c (asks.argument voidArg [] (now o)) a after
+      → Met (entry-argument-void.Post κs) (λ s. now (s .1 .1 .1 .1 .1 .0)) (handed c (o, tt)) a after → Performed c (asks.argument voidArg [] (now o)) a after
   barkpaddle-argument-scalar : (κs : Lfts 1) (kind size align : ℕ) (o : RefT (List ℕ)) (a : Answer) (after : List ℕ)
-      → Met (entry-argument-scalar.Post κs) (λ s. now (s .1 .1 .1 .1 .1 .1 .1 .0)) (handed c (kind, (size, (align, (o, tt))))) a after
+      → Met (entry-argument-scalar.Post κs) (λ s. now (s .1 .1 .1 .1 .1 .1 .1 .1 .0)) (handed c (kind, (size, (align, (o, tt))))) a after
       → Performed c (asks.argument (scalarFrom kind size align) [] (now o)) a after
   barkpaddle-argument-aggregate : (κs : Lfts 2) (size align complex floating : ℕ) (w o : RefT (List ℕ)) (a : Answer) (after : List ℕ)
-      → Met (entry-argument-aggregate.Post κs) (λ s. now (s .1 .1 .1 .1 .1 .1 .1 .1 .1 .0)) (handed c (size, (align, (complex, (floating, (w, (o, tt))))))) a after
+      → Met (entry-argument-aggregate.Post κs) (λ s. now (s .1 .1 .1 .1 .1 .1 .1 .1 .1 .1 .0)) (handed c (size, (align, (complex, (floating, (w, (o, tt))))))) a after
       → Performed c (asks.argument (aggregateFrom size align complex floating) (now w) (now o)) a after
   barkpaddle-variadic-argument-void : (κs : Lfts 1) (o : RefT (List ℕ)) (a : Answer) (after : List ℕ)
-      → Met (entry-variadic-argument-void.Post κs) (λ s. now (s .1 .1 .1 .1 .0)) (handed c (o, tt)) a after → Performed c (asks.variadic-argument voidArg [] (now o)) a after
+      → Met (entry-variadic-argument-void.Post κs) (λ s. now (s .1 .1 .1 .1 .1 .0)) (handed c (o, tt)) a after → Performed c (asks.variadic-argument voidArg [] (now o)) a after
   barkpaddle-variadic-argument-scalar : (κs : Lfts 1) (kind size align : ℕ) (o : RefT (List ℕ)) (a : Answer) (after : List ℕ)
-      → Met (entry-variadic-argument-scalar.Post κs) (λ s. now (s .1 .1 .1 .1 .1 .1 .1 .0)) (handed c (kind, (size, (align, (o, tt))))) a after
+      → Met (entry-variadic-argument-scalar.Post κs) (λ s. now (s .1 .1 .1 .1 .1 .1 .1 .1 .0)) (handed c (kind, (size, (align, (o, tt))))) a after
       → Performed c (asks.variadic-argument (scalarFrom kind size align) [] (now o)) a after
   barkpaddle-variadic-argument-aggregate : (κs : Lfts 2) (size align complex floating : ℕ) (w o : RefT (List ℕ)) (a : Answer) (after : List ℕ)
-      → Met (entry-variadic-argument-aggregate.Post κs) (λ s. now (s .1 .1 .1 .1 .1 .1 .1 .1 .1 .0)) (handed c (size, (align, (complex, (floating, (w, (o, tt))))))) a after
+      → Met (entry-variadic-argument-aggregate.Post κs) (λ s. now (s .1 .1 .1 .1 .1 .1 .1 .1 .1 .1 .0)) (handed c (size, (align, (complex, (floating, (w, (o, tt))))))) a after
       → Performed c (asks.variadic-argument (aggregateFrom size align complex floating) (now w) (now o)) a after
   -- the entries of a bridge: `c` stands behind the call's reference before, and the answer's next call afterwards
   barkpaddle-bridge-variadic : (κs : Lfts 1) (b : RefT Call) (r : Outcome) (e : AtExit on-mark.ended κs)

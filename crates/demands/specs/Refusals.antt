@@ -7,6 +7,7 @@ use mathlib.Core.List.{List, [], _∷_}
 use lib.Dec.{eqb}
 use Rattle.shape.specs.Numbers.{accepted, bad-abi, bad-call, bad-list, bad-kind, bad-size, bad-align, no-room, bad-area, bad-extent}
 use Rattle.spend.specs.Ways.{nothing}
+use Rattle.stack_place.specs.Stacked.{stands}
 use Rattle.classify.specs.declared.Call.{Call}
 use Rattle.classify.specs.declared.Outcome.{Outcome}
 use Rattle.classify.specs.declared.Answer.{Answer}
@@ -73,7 +74,7 @@ abbrev pub OneOf : List ℕ → ℕ → Type 0
 OneOf numbers n = isOneOf numbers n ≡ true
 
 abbrev pub refusedOutcome : ℕ → Outcome
-refusedOutcome refusal = record { refusal = refusal; way = 0; spent = nothing; slots = 0 }
+refusedOutcome refusal = record { refusal = refusal; way = 0; spent = nothing; slots = 0; stacked = stands 0 0 }
 
 -- of an operation: the call that was handed in or lent, the words that the buffer held, the answer, and the words that it holds afterwards. Of an
 -- operation on a lent call the answer's next call is the one that stands there afterwards

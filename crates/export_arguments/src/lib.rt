@@ -1,5 +1,5 @@
 // The exported entries that start a call, mark it, and ask for its fixed arguments, in numbers and slices (REFERENCE 13.2). The call comes as
-// its description, the counts left and the mark, and goes back in the answer. Returns, arguments after the dots and questions are entries of
+// its description, the counts left, the mark and the stack offset, and goes back in the answer. Returns, arguments after the dots and questions are entries of
 // crates of their own: what the entries of one archive share isn't inlined into any of them (docs/DECISIONS.md).
 ghost use mathlib.Core.Path.{_≡_};
 ghost use mathlib.Core.List.{[]};
@@ -24,10 +24,11 @@ pub extern "C" fn barkpaddle_variadic(
     integer: u64,
     float: u64,
     integers_only: u64,
+    stack: u64,
 ) -> Answer
-    ensures { λ r. ⌜ r ≡ variadicAnswer (callFrom abi integer float «integers_only») ⌝ }
+    ensures { λ r. ⌜ r ≡ variadicAnswer (callFrom abi integer float «integers_only» stack) ⌝ }
 {
-    let call = export_numbers::call_from(abi, integer, float, integers_only);
+    let call = export_numbers::call_from(abi, integer, float, integers_only, stack);
     call.variadic()
 }
 
@@ -38,11 +39,12 @@ pub extern "C" fn barkpaddle_argument_void(
     integer: u64,
     float: u64,
     integers_only: u64,
+    stack: u64,
     slots: &mut [u64],
 ) -> Answer
-    ensures { λ r. ⌜ Passes (callFrom abi integer float «integers_only») voidArg [] (now (slots .entry)) r (now (slots .exit)) ⌝ }
+    ensures { λ r. ⌜ Passes (callFrom abi integer float «integers_only» stack) voidArg [] (now (slots .entry)) r (now (slots .exit)) ⌝ }
 {
-    let call = export_numbers::call_from(abi, integer, float, integers_only);
+    let call = export_numbers::call_from(abi, integer, float, integers_only, stack);
     call.nothing()
 }
 
@@ -53,14 +55,15 @@ pub extern "C" fn barkpaddle_argument_scalar(
     integer: u64,
     float: u64,
     integers_only: u64,
+    stack: u64,
     kind: u64,
     size: u64,
     align: u64,
     slots: &mut [u64],
 ) -> Answer
-    ensures { λ r. ⌜ Passes (callFrom abi integer float «integers_only») (scalarFrom kind size align) [] (now (slots .entry)) r (now (slots .exit)) ⌝ }
+    ensures { λ r. ⌜ Passes (callFrom abi integer float «integers_only» stack) (scalarFrom kind size align) [] (now (slots .entry)) r (now (slots .exit)) ⌝ }
 {
-    let call = export_numbers::call_from(abi, integer, float, integers_only);
+    let call = export_numbers::call_from(abi, integer, float, integers_only, stack);
     call.argument_scalar(Scalar { kind, size, align }, slots)
 }
 
@@ -71,6 +74,7 @@ pub extern "C" fn barkpaddle_argument_aggregate(
     integer: u64,
     float: u64,
     integers_only: u64,
+    stack: u64,
     size: u64,
     align: u64,
     complex: u64,
@@ -78,9 +82,9 @@ pub extern "C" fn barkpaddle_argument_aggregate(
     words: &[u64],
     slots: &mut [u64],
 ) -> Answer
-    ensures { λ r. ⌜ Passes (callFrom abi integer float «integers_only») (aggregateFrom size align complex floating) (now (words .entry)) (now (slots .entry)) r (now (slots .exit)) ⌝ }
+    ensures { λ r. ⌜ Passes (callFrom abi integer float «integers_only» stack) (aggregateFrom size align complex floating) (now (words .entry)) (now (slots .entry)) r (now (slots .exit)) ⌝ }
 {
-    let call = export_numbers::call_from(abi, integer, float, integers_only);
+    let call = export_numbers::call_from(abi, integer, float, integers_only, stack);
     let shape = export_numbers::shape_from(size, align, complex, floating);
     call.argument_aggregate(shape, words, slots)
 }

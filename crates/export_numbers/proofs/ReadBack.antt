@@ -1,4 +1,4 @@
--- What one entry hands back, the next one reads as it was meant: a call from its four numbers, and a shape from a record's.
+-- What one entry hands back, the next one reads as it was meant: a call from its five numbers, and a shape from a record's.
 use mathlib.Core.Path.{_≡_, refl}
 use mathlib.Core.Bool.{Bool, true, false}
 use Rattle.shape.specs.declared.Shape.{Shape}
@@ -7,7 +7,7 @@ use Rattle.classify.specs.declared.Call.{Call}
 use Rattle.export_numbers.specs.Numbers.{isSet, callFrom, shapeFrom}
 
 -- every number of a call, its mark too, whatever that is
-pub call-read-back : (c : Call) → callFrom (c .abi) (c .left .integer) (c .left .float) (c .left .«integers_only») ≡ c
+pub call-read-back : (c : Call) → callFrom (c .abi) (c .left .integer) (c .left .float) (c .left .«integers_only») (c .stack) ≡ c
 call-read-back c = refl
 
 -- a yes that an entry answers is read as a yes, and a no as a no

@@ -15,8 +15,8 @@ use Rattle.export_numbers.specs.declared.Told.{Told}
 abbrev pub isSet : ℕ → Bool
 isSet n = not (eqb n 0)
 
-abbrev pub callFrom : ℕ → ℕ → ℕ → ℕ → Call
-callFrom abi integer float mark = callWith abi (leaves integer float mark)
+abbrev pub callFrom : ℕ → ℕ → ℕ → ℕ → ℕ → Call
+callFrom abi integer float mark stack = callWith abi (leaves integer float mark) stack
 
 abbrev pub shapeFrom : ℕ → ℕ → ℕ → ℕ → Shape
 shapeFrom size align complex floating =

@@ -13,9 +13,9 @@ pub struct Told {
     pub value: u64,
 }
 
-// A call from its description, the counts left and the mark.
-pub fn call_from(abi: u64, integer: u64, float: u64, integers_only: u64) -> Call
-    ensures { λ r. ⌜ r ≡ callFrom abi integer float «integers_only» ⌝ }
+// A call from its description, the counts left, the mark and the stack offset.
+pub fn call_from(abi: u64, integer: u64, float: u64, integers_only: u64, stack: u64) -> Call
+    ensures { λ r. ⌜ r ≡ callFrom abi integer float «integers_only» stack ⌝ }
 {
     Call {
         abi,
@@ -24,6 +24,7 @@ pub fn call_from(abi: u64, integer: u64, float: u64, integers_only: u64) -> Call
             float,
             integers_only,
         },
+        stack,
     }
 }
 

@@ -12,15 +12,16 @@ pub extern "C" fn barkpaddle_in_memory(
     integer: u64,
     float: u64,
     integers_only: u64,
+    stack: u64,
     size: u64,
     align: u64,
     complex: u64,
     floating: u64,
     words: &[u64],
 ) -> Told
-    ensures { λ r. ⌜ r ≡ alignTold (inMemoryAnswer (callFrom abi integer float «integers_only») (shapeFrom size align complex floating) (now (words .entry))) ⌝ }
+    ensures { λ r. ⌜ r ≡ alignTold (inMemoryAnswer (callFrom abi integer float «integers_only» stack) (shapeFrom size align complex floating) (now (words .entry))) ⌝ }
 {
-    let call = export_numbers::call_from(abi, integer, float, integers_only);
+    let call = export_numbers::call_from(abi, integer, float, integers_only, stack);
     let answer = call.in_memory(
         export_numbers::shape_from(size, align, complex, floating),
         words,

@@ -1,5 +1,5 @@
 // The exported entries that say how an argument after the dots travels, in numbers and slices (REFERENCE 13.2). The call comes as its
-// description, the counts left and the mark, and goes back in the answer.
+// description, the counts left, the mark and the stack offset, and goes back in the answer.
 ghost use mathlib.Core.List.{[]};
 ghost use Rattle.export_numbers.specs.Numbers.{callFrom, voidArg, scalarFrom, aggregateFrom};
 ghost use Rattle.classify.specs.Answers.{PassesVariadic};
@@ -13,11 +13,12 @@ pub extern "C" fn barkpaddle_variadic_argument_void(
     integer: u64,
     float: u64,
     integers_only: u64,
+    stack: u64,
     slots: &mut [u64],
 ) -> Answer
-    ensures { λ r. ⌜ PassesVariadic (callFrom abi integer float «integers_only») voidArg [] (now (slots .entry)) r (now (slots .exit)) ⌝ }
+    ensures { λ r. ⌜ PassesVariadic (callFrom abi integer float «integers_only» stack) voidArg [] (now (slots .entry)) r (now (slots .exit)) ⌝ }
 {
-    let call = export_numbers::call_from(abi, integer, float, integers_only);
+    let call = export_numbers::call_from(abi, integer, float, integers_only, stack);
     call.nothing()
 }
 
@@ -28,14 +29,15 @@ pub extern "C" fn barkpaddle_variadic_argument_scalar(
     integer: u64,
     float: u64,
     integers_only: u64,
+    stack: u64,
     kind: u64,
     size: u64,
     align: u64,
     slots: &mut [u64],
 ) -> Answer
-    ensures { λ r. ⌜ PassesVariadic (callFrom abi integer float «integers_only») (scalarFrom kind size align) [] (now (slots .entry)) r (now (slots .exit)) ⌝ }
+    ensures { λ r. ⌜ PassesVariadic (callFrom abi integer float «integers_only» stack) (scalarFrom kind size align) [] (now (slots .entry)) r (now (slots .exit)) ⌝ }
 {
-    let call = export_numbers::call_from(abi, integer, float, integers_only);
+    let call = export_numbers::call_from(abi, integer, float, integers_only, stack);
     call.variadic_argument_scalar(Scalar { kind, size, align }, slots)
 }
 
@@ -46,6 +48,7 @@ pub extern "C" fn barkpaddle_variadic_argument_aggregate(
     integer: u64,
     float: u64,
     integers_only: u64,
+    stack: u64,
     size: u64,
     align: u64,
     complex: u64,
@@ -53,9 +56,9 @@ pub extern "C" fn barkpaddle_variadic_argument_aggregate(
     words: &[u64],
     slots: &mut [u64],
 ) -> Answer
-    ensures { λ r. ⌜ PassesVariadic (callFrom abi integer float «integers_only») (aggregateFrom size align complex floating) (now (words .entry)) (now (slots .entry)) r (now (slots .exit)) ⌝ }
+    ensures { λ r. ⌜ PassesVariadic (callFrom abi integer float «integers_only» stack) (aggregateFrom size align complex floating) (now (words .entry)) (now (slots .entry)) r (now (slots .exit)) ⌝ }
 {
-    let call = export_numbers::call_from(abi, integer, float, integers_only);
+    let call = export_numbers::call_from(abi, integer, float, integers_only, stack);
     let shape = export_numbers::shape_from(size, align, complex, floating);
     call.variadic_argument_aggregate(shape, words, slots)
 }

@@ -12,7 +12,7 @@ use lib.ListN.{length, getD}
 use Rattle.shape.specs.Numbers.{oneIf}
 use Rattle.shape.proofs.Bools.{both-true}
 use Rattle.types.specs.Tree.{Tree, Forest, leaf, group, array, empty, child}
-use Rattle.types.proofs.Sizes.{at-most}
+use Rattle.shape.proofs.Rounding.{at-most}
 use Rattle.flatten.specs.Leaves.{endsAtScalar, childEnds, under, elementPaths, leafPaths, forestPaths}
 
 unfoldable samePath : List ℕ → List ℕ → Bool

@@ -14,14 +14,14 @@ use Rattle.shape.specs.Lists.{every}
 use Rattle.shape.specs.Numbers.{most-word}
 use Rattle.shape.specs.Arithmetic.{plus, rounded}
 use Rattle.shape.proofs.Bools.{both-true}
-use Rattle.shape.proofs.Rounding.{round-least}
+use Rattle.shape.proofs.Rounding.{round-least, at-most}
 use Rattle.types.specs.declared.Row.{Row}
 use Rattle.types.specs.Entries.{Meaning, one, several, repeated, meaningAt, referred, refersBack}
 use Rattle.types.specs.Tree.{Tree, leaf, group, array, alignOf, reach, lastReach, sizeOf, furthestIn, reachOf, takesOf, levelsOf, levelsIn, leavesOf}
 use Rattle.types.specs.Trees.{offsetFrom, laidOut, treeOf, typeAt}
 use Rattle.types.specs.Table.{rowAt, counted, rowOfTree, placeFrom, Measured}
 use Rattle.types.proofs.Types.{own-type}
-use Rattle.types.proofs.Sizes.{at-most, align-some, largest-some, size-reach, takes-reach, array-size}
+use Rattle.types.proofs.Sizes.{align-some, largest-some, size-reach, takes-reach, array-size}
 use Rattle.flatten.specs.Writing.{ifLeaves, overMembers, overElements, stepOf, spread, entryPieces}
 use Rattle.flatten.proofs.Pieces.{elementPieces, treePieces, forestPieces, no-leaves}
 

@@ -20,9 +20,10 @@ use Rattle.classify.specs.Classify.{call}
 use Rattle.classify.specs.Answers.{callWith, rowRefusal, callRefusalBy, freshAnswer, variadicAnswer, returnsAnswer, argumentAnswer, variadicArgumentAnswer}
 use Rattle.classify.proofs.Steps.{row-there}
 use Rattle.classify.proofs.Accepted.{sound, sound-accepted}
-use Rattle.ledger.specs.Ledger.{Operation, mark, return, argument, variadic-argument, answerBy, answerFor, answersBy, answersFrom, freshCall, history, callAfter, Bank, integers, floats, startOf, leftIn, runAt, InRun, InPassedOver, InGiven, Holder, passed-over-by, given-to, left, holds, Has, LedgerBy, Ledger}
-use Rattle.ledger.proofs.Fair.{Fair, fair}
+use Rattle.ledger.specs.Ledger.{Operation, mark, return, argument, variadic-argument, answerBy, answerFor, answersBy, answersFrom, freshCall, history, callAfter, Bank, integers, floats, startOf, leftIn, runAt, InRun, InPassedOver, InGiven, Holder, passed-over-by, given-to, left, holds, Has, LedgerBy, RoundedBy, Ledger, Rounded}
+use Rattle.ledger.proofs.Fair.{Fair, fair, even}
 use Rattle.ledger.proofs.Registers.{AllFair, totals, abut, ends, last-ends, run-counts, first-run, passed-over-holds, given-holds, left-holds, HasFrom, holder-has}
+use Rattle.ledger.proofs.Ranges.{below-last, ordered, in-one}
 
 -- ---- every operation of a list is fair
 
@@ -128,6 +129,14 @@ module _ (source : ℕ) (D : Description) (c : Call) (good : callRefusalBy sourc
         acceptable = last .1;
         never-above = λ b. omega (arith, totals b source D c past f, whole b);
         marked-where-used = implied _ _ (sound source D _ (last .1) .1 .mark-used);
+        stands-behind = λ k a e. fair-at source D c past k a f e .stands-behind;
+        hands-on-end = λ k a e. fair-at source D c past k a f e .hands-on-end;
+        nowhere-stays = λ k a e. fair-at source D c past k a f e .nowhere-stays;
+        refused-is-nowhere = λ k a e. fair-at source D c past k a f e .refused-is-nowhere;
+        below-offset = λ k. below-last source D c past k f;
+        below-limit = sound source D _ (last .1) .1 .stack-within;
+        in-order = λ j k. ordered source D c past j k f;
+        no-byte-twice = λ j k byte. in-one source D c past j k byte f;
       }
 
 -- ---- the theorem: after every prefix of every list of operations, on every description
@@ -136,19 +145,35 @@ pub ledger-by : (source : ℕ) (D : Description) (c : Call) → callRefusalBy so
     → (ops : List Operation) (n : ℕ) → LedgerBy source D c (take n (answersBy source D c ops))
 ledger-by source D c good whole ops n = rw (prefix n source D c ops) (ledger-of-fair source D c good whole _ (all-fair source D c good (take n ops)))
 
+-- ---- the roundings, of any list of operations on any call
+
+answer-at : (source : ℕ) (D : Description) (c : Call) (ops : List Operation) (k : ℕ) (op : Operation) → getElem? ops k ≡ some op
+    → (a : Answer) → getElem? (answersBy source D c ops) k ≡ some a → a ≡ answerBy source D op (callAfter c (take k (answersBy source D c ops)))
+unfolding answersBy callAfter
+answer-at source D c [] k op e a x = absurd (let z : _≡_ {A = ℕ} 0 1 = cc in omega arith)
+answer-at source D c (o ∷ ops) zero op e a x = let q : o ≡ op = cc in let r : answerBy source D o c ≡ a = cc in sym r ∙ rw q
+answer-at source D c (o ∷ ops) (suc k) op e a x = answer-at source D (answerBy source D o c .next) ops k op e a x
+
+pub rounded-by : (source : ℕ) (D : Description) (c : Call) (ops : List Operation) → RoundedBy D c ops (answersBy source D c ops)
+rounded-by source D c ops =
+    record {
+      at-multiple = λ k op e a x. rw (answer-at source D c ops k op e a x) (even source D _ op .at-multiple);
+      little-padding = λ k op e a x. rw (answer-at source D c ops k op e a x) (even source D _ op .little-padding);
+    }
+
 -- ---- a row
 
 -- every register is left on its fresh call, and it passes the checks
 module _ (d : ℕ) (known : d < description-count) where
-  fresh-is : freshCall d ≡ callWith d (call (described d))
+  fresh-is : freshCall d ≡ callWith d (call (described d)) 0
   unfolding freshAnswer
   fresh-is = rw (lt-leb description-count d known, freshCall)
 
   fresh-accepted : callRefusalBy (rowRefusal d) (described d) (freshCall d) ≡ accepted
   fresh-accepted =
       rw fresh-is
-      (sound-accepted (rowRefusal d) (described d) (callWith d (call (described d))) (row-there d known)
-      (record { integers = omega arith; floats = omega arith; mark-used = refl }))
+      (sound-accepted (rowRefusal d) (described d) (callWith d (call (described d)) 0) (row-there d known)
+      (record { integers = omega arith; floats = omega arith; stack-within = omega arith; mark-used = refl }))
 
   fresh-left : (b : Bank) → leftIn b (freshCall d) ≡ startOf b (described d .banks)
   fresh-left integers = rw fresh-is
@@ -178,3 +203,7 @@ pub ledger : (d : ℕ) → d < description-count → (ops : List Operation) (n :
 ledger d known ops n =
     rw (answers-on-row d (freshCall d) (fresh-row d known) (fresh-accepted d known) ops)
     (ledger-by (rowRefusal d) (described d) (freshCall d) (fresh-accepted d known) (fresh-left d known) ops n)
+
+pub rounded : (d : ℕ) → d < description-count → (ops : List Operation) → Rounded d ops (history d ops)
+rounded d known ops =
+    rw (answers-on-row d (freshCall d) (fresh-row d known) (fresh-accepted d known) ops) (rounded-by (rowRefusal d) (described d) (freshCall d) ops)

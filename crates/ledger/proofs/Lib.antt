@@ -1,4 +1,5 @@
 pub mod Fair
 pub mod Registers
+pub mod Ranges
 pub mod Ledger
 pub mod Twelve

@@ -1,22 +1,30 @@
--- The ledger of a call's registers (REFERENCE 10): every register of a bank is passed over by one operation, given to one, or left. What is
--- passed over and given is by the spending rules, and what is left is as the Rust counts it: the ledger is where the two meet. It is said of any
--- description, with what its source refuses, and of any call to begin with; a row's ledger is the case of its description and its fresh call.
-use Prim.Native.Nat.{ℕ, suc, _+_, _-_, _≤_, _<_}
+-- The ledger of a call's registers and of its stack (REFERENCE 10): every register of a bank is passed over by one operation, given to one, or left,
+-- and no byte of the stack is two operations'. What is passed over and given is by the spending rules, and what is left is as the Rust counts it: the
+-- ledger is where the two meet. It is said of any description, with what its source refuses, and of any call to begin with; a row's ledger is the case
+-- of its description and its fresh call.
+use Prim.Native.Nat.{ℕ, suc, _+_, _-_, _%_, _≤_, _<_}
 use mathlib.Core.Path.{_≡_}
-use mathlib.Core.List.{List, [], _∷_}
-use mathlib.Core.Bool.{Bool, true, cond}
+use mathlib.Core.List.{List, [], _∷_, map}
+use mathlib.Core.Bool.{Bool, true, false, cond}
 use mathlib.Core.Option.Option.{some}
 use lib.Dec.{ltb}
 use lib.ListN.{length, take, getD, getElem?}
 use Rattle.shape.specs.declared.Arg as args
 use Rattle.shape.specs.Numbers.{accepted}
+use Rattle.shape.specs.Words.{piecesOf}
 use Rattle.describe.specs.declared.Banks.{Banks}
-use Rattle.describe.specs.Description.{Description}
+use Rattle.describe.specs.Description.{Description, termsOf}
+use Rattle.describe.specs.Dots.{asFixed, dotsOf}
 use Rattle.abis.specs.Abis.{described}
 use Rattle.spend.specs.Ways.{marked}
+use Rattle.stack_place.specs.declared.Stacked.{Stacked}
+use Rattle.stack_place.specs.Stacked.{most-stack, stands}
 use Rattle.classify.specs.declared.Call.{Call}
 use Rattle.classify.specs.declared.Answer.{Answer}
+use Rattle.classify.specs.Pass.{wayOf}
+use Rattle.classify.specs.Classify as rust
 use Rattle.classify.specs.Classify.{isIntegersOnly}
+use Rattle.classify.specs.Stacking.{roundingFor}
 use Rattle.classify.specs.Answers.{rowRefusal, callRefusalBy, variadicAnswerBy, returnsAnswerBy, argumentAnswerBy, variadicArgumentAnswerBy, freshAnswer, variadicAnswer, returnsAnswer, returnsWritten, argumentAnswer, argumentWritten, variadicArgumentAnswer, variadicArgumentWritten}
 
 -- ---- a history
@@ -171,6 +179,32 @@ Has b banks c past r (passed-over-by k) = InPassedOver (runAt b banks c past k) 
 Has b banks c past r (given-to k) = InGiven (runAt b banks c past k) r
 Has b banks c past r left = startOf b banks - leftIn b (callAfter c past) ≤ r
 
+-- ---- an operation's bytes on the stack
+
+-- where they end; a byte among them
+abbrev pub rangeEnd : Stacked → ℕ
+rangeEnd range = range .at + range .bytes
+
+abbrev pub InRange : Stacked → ℕ → Type 0
+InRange range byte = (range .at ≤ byte) × (byte < rangeEnd range)
+
+abbrev pub rangeOf : Answer → Stacked
+rangeOf a = a .outcome .stacked
+
+-- those of operation k of those that were performed; past the last one there are none
+abbrev pub rangeAt : List Answer → ℕ → Stacked
+rangeAt past k = getD (map rangeOf past) k (stands 0 0)
+
+-- what the offset of an operation's value is rounded to (REFERENCE 9.9), on a call and by a description
+abbrev pub roundingBy : Description → Operation → Call → ℕ
+roundingBy D mark c = 1
+roundingBy D (return arg words out) c =
+    roundingFor (termsOf D) (D .returns) true asFixed arg (piecesOf words) (wayOf (rust.returns D (c .left) arg (piecesOf words) .pass))
+roundingBy D (argument arg words out) c =
+    roundingFor (termsOf D) (D .arguments) false asFixed arg (piecesOf words) (wayOf (rust.argument D (c .left) arg (piecesOf words) .pass))
+roundingBy D (variadic-argument arg words out) c =
+    roundingFor (termsOf D) (D .arguments) false (dotsOf (D .variadic)) arg (piecesOf words) (wayOf (rust.variadicArgument D (c .left) arg (piecesOf words) .pass))
+
 -- ---- the ledger, `past` being the answers so far to operations from the call c on
 
 pub record LedgerBy (source : ℕ) (D : Description) (c : Call) (past : List Answer) : Type 0 where
@@ -201,7 +235,31 @@ pub record LedgerBy (source : ℕ) (D : Description) (c : Call) (past : List Ans
   pub acceptable : callRefusalBy source D (callAfter c past) ≡ accepted
   pub never-above : (b : Bank) → leftIn b (callAfter c past) ≤ startOf b (D .banks)
   pub marked-where-used : marked (callAfter c past .left) ≡ true → isIntegersOnly (D .variadic) ≡ true
+  -- an operation with bytes for the stack has them from the offset of its call on, and hands on where they end; one with none has no place and leaves
+  -- the offset, and so does a refused one
+  pub stands-behind : (k : ℕ) (a : Answer) → getElem? past k ≡ some a → 0 < rangeOf a .bytes → callAfter c (take k past) .stack ≤ rangeOf a .at
+  pub hands-on-end : (k : ℕ) (a : Answer) → getElem? past k ≡ some a → 0 < rangeOf a .bytes → a .next .stack ≡ rangeEnd (rangeOf a)
+  pub nowhere-stays : (k : ℕ) (a : Answer) → getElem? past k ≡ some a → rangeOf a .bytes ≡ 0
+      → (rangeOf a .at ≡ 0) × (a .next .stack ≡ callAfter c (take k past) .stack)
+  pub refused-is-nowhere : (k : ℕ) (a : Answer) → getElem? past k ≡ some a → isRefused a ≡ true → rangeOf a ≡ stands 0 0
+  -- the bytes of all are below the last offset, which is within the limit; those of a later operation are behind those of an earlier one; no byte is
+  -- two operations'
+  pub below-offset : (k : ℕ) → rangeEnd (rangeAt past k) ≤ callAfter c past .stack
+  pub below-limit : callAfter c past .stack ≤ most-stack
+  pub in-order : (j k : ℕ) → j < k → 0 < rangeAt past k .bytes → rangeEnd (rangeAt past j) ≤ rangeAt past k .at
+  pub no-byte-twice : (j k byte : ℕ) → InRange (rangeAt past j) byte → InRange (rangeAt past k) byte → j ≡ k
 
--- the ledger of a history on a row
+-- the roundings of the operations `ops` from the call c on, of which `past` are the answers: bytes on the stack begin at a multiple of their rounding,
+-- with less padding before them than that
+pub record RoundedBy (D : Description) (c : Call) (ops : List Operation) (past : List Answer) : Type 0 where
+  pub at-multiple : (k : ℕ) (op : Operation) → getElem? ops k ≡ some op → (a : Answer) → getElem? past k ≡ some a → 0 < rangeOf a .bytes
+      → rangeOf a .at % roundingBy D op (callAfter c (take k past)) ≡ 0
+  pub little-padding : (k : ℕ) (op : Operation) → getElem? ops k ≡ some op → (a : Answer) → getElem? past k ≡ some a → 0 < rangeOf a .bytes
+      → rangeOf a .at < callAfter c (take k past) .stack + roundingBy D op (callAfter c (take k past))
+
+-- the ledger of a history on a row, and its roundings
 abbrev pub Ledger : ℕ → List Answer → Type 0
 Ledger d past = LedgerBy (rowRefusal d) (described d) (freshCall d) past
+
+abbrev pub Rounded : ℕ → List Operation → List Answer → Type 0
+Rounded d ops past = RoundedBy (described d) (freshCall d) ops past

@@ -16,9 +16,11 @@ use Rattle.spend.specs.declared.Way.{Way}
 use Rattle.spend.specs.declared.Way.the-variants.{Direct, Pieces, Reference, Memory}
 use Rattle.spend.specs.declared.Spent.{Spent}
 use Rattle.spend.specs.Ways.{spends}
+use Rattle.stack_place.specs.Stacked.{stands}
 use Rattle.classify.specs.declared.Call.{Call}
 use Rattle.classify.specs.declared.Answer.{Answer}
-use Rattle.classify.specs.Answers.{unmarked, answered}
+use Rattle.classify.specs.Classify.{counts}
+use Rattle.classify.specs.Answers.{callWith, unmarked, answered}
 use Rattle.ledger.specs.Ledger.{Operation, return, argument, answerFor, writtenFor, integers, floats, startOf}
 
 -- ---- what is asked
@@ -58,16 +60,19 @@ integer-is-passed size = argument (args.the-variants.Scalar (scalar integer size
 
 -- ---- what is answered
 
--- the way; integers and floats left; integers passed over and given; floats passed over and given; the slots
+-- the way; integers and floats left; integers passed over and given; floats passed over and given; the stack offset behind it, which is also how many
+-- bytes it has there, since each call's stack is empty before; the slots
 pub record Line : Type 0 where
   pub way : Way
   pub integers-left : ℕ
   pub floats-left : ℕ
   pub spent : Spent
+  pub stack : ℕ
   pub slots : List Slot
 
-abbrev pub tableLine : Way → ℕ → ℕ → ℕ → ℕ → ℕ → ℕ → List Slot → Line
-tableLine way i f ip ig fp fg slots = record { way = way; integers-left = i; floats-left = f; spent = spends ip ig fp fg; slots = slots }
+abbrev pub tableLine : Way → ℕ → ℕ → ℕ → ℕ → ℕ → ℕ → ℕ → List Slot → Line
+tableLine way i f ip ig fp fg stack slots =
+    record { way = way; integers-left = i; floats-left = f; spent = spends ip ig fp fg; stack = stack; slots = slots }
 
 -- ---- the table
 
@@ -89,21 +94,21 @@ fresh = none
 
 abbrev pub twelve : List Entry
 twelve =
-    entry 1 0 fresh fresh (is-passed 16 8 (int8 0 ++ float8 8)) (tableLine Pieces 5 7 0 1 0 1 (slot 0 0 8 ∷ slot 2 8 0 ∷ []))
-    ∷ entry 2 0 (some 1) fresh (is-passed 16 8 (int8 0 ++ int8 8)) (tableLine Memory 1 8 0 0 0 0 [])
-    ∷ entry 3 0 (some 1) fresh (integer-is-passed 16) (tableLine Direct 1 8 0 0 0 0 [])
-    ∷ entry 4 0 fresh fresh (is-passed 16 16 (float16 0)) (tableLine Memory 6 8 0 0 0 0 [])
-    ∷ entry 4 0 fresh fresh (comes-back 16 16 (float16 0)) (tableLine Pieces 6 8 0 0 0 0 (slot 3 0 0 ∷ []))
-    ∷ entry 5 0 fresh fresh (is-passed 12 4 (float4 0 ++ float4 4 ++ float4 8)) (tableLine Pieces 6 6 0 0 0 2 (slot 2 0 0 ∷ slot 1 8 0 ∷ []))
-    ∷ entry 6 1 (some 7) fresh (integer-is-passed 16) (tableLine Direct 4 8 1 2 0 0 [])
-    ∷ entry 6 2 (some 7) fresh (integer-is-passed 16) (tableLine Direct 5 8 0 2 0 0 [])
-    ∷ entry 7 1 fresh fresh (is-passed 20 4 (float4 0 ++ float4 4 ++ float4 8 ++ float4 12 ++ float4 16)) (tableLine Reference 7 8 0 1 0 0 [])
-    ∷ entry 8 1 fresh (some 2) (is-passed 24 8 (float8 0 ++ float8 8 ++ float8 16)) (tableLine Memory 8 0 0 0 2 0 [])
-    ∷ entry 9 4 fresh fresh (is-passed 0 1 []) (tableLine Reference 3 0 0 1 0 0 [])
-    ∷ entry 10 4 (some 0) fresh (is-passed 8 8 (int8 0)) (tableLine Pieces 0 0 0 0 0 0 (slot 0 0 8 ∷ []))
-    ∷ entry 11 5 (some 2) (some 0) (is-passed 8 4 (float4 0 ++ int4 4)) (tableLine Pieces 1 0 0 1 0 0 (slot 0 0 8 ∷ []))
-    ∷ entry 12 9 (some 1) fresh (integer-is-passed 8) (tableLine Direct 1 0 0 0 0 0 [])
-    ∷ entry 12 9 (some 1) fresh (is-passed 8 4 (int4 0 ++ int4 4)) (tableLine Memory 0 0 1 0 0 0 [])
+    entry 1 0 fresh fresh (is-passed 16 8 (int8 0 ++ float8 8)) (tableLine Pieces 5 7 0 1 0 1 0 (slot 0 0 8 ∷ slot 2 8 0 ∷ []))
+    ∷ entry 2 0 (some 1) fresh (is-passed 16 8 (int8 0 ++ int8 8)) (tableLine Memory 1 8 0 0 0 0 16 [])
+    ∷ entry 3 0 (some 1) fresh (integer-is-passed 16) (tableLine Direct 1 8 0 0 0 0 16 [])
+    ∷ entry 4 0 fresh fresh (is-passed 16 16 (float16 0)) (tableLine Memory 6 8 0 0 0 0 16 [])
+    ∷ entry 4 0 fresh fresh (comes-back 16 16 (float16 0)) (tableLine Pieces 6 8 0 0 0 0 0 (slot 3 0 0 ∷ []))
+    ∷ entry 5 0 fresh fresh (is-passed 12 4 (float4 0 ++ float4 4 ++ float4 8)) (tableLine Pieces 6 6 0 0 0 2 0 (slot 2 0 0 ∷ slot 1 8 0 ∷ []))
+    ∷ entry 6 1 (some 7) fresh (integer-is-passed 16) (tableLine Direct 4 8 1 2 0 0 0 [])
+    ∷ entry 6 2 (some 7) fresh (integer-is-passed 16) (tableLine Direct 5 8 0 2 0 0 0 [])
+    ∷ entry 7 1 fresh fresh (is-passed 20 4 (float4 0 ++ float4 4 ++ float4 8 ++ float4 12 ++ float4 16)) (tableLine Reference 7 8 0 1 0 0 0 [])
+    ∷ entry 8 1 fresh (some 2) (is-passed 24 8 (float8 0 ++ float8 8 ++ float8 16)) (tableLine Memory 8 0 0 0 2 0 24 [])
+    ∷ entry 9 4 fresh fresh (is-passed 0 1 []) (tableLine Reference 3 0 0 1 0 0 0 [])
+    ∷ entry 10 4 (some 0) fresh (is-passed 8 8 (int8 0)) (tableLine Pieces 0 0 0 0 0 0 8 (slot 0 0 8 ∷ []))
+    ∷ entry 11 5 (some 2) (some 0) (is-passed 8 4 (float4 0 ++ int4 4)) (tableLine Pieces 1 0 0 1 0 0 0 (slot 0 0 8 ∷ []))
+    ∷ entry 12 9 (some 1) fresh (integer-is-passed 8) (tableLine Direct 1 0 0 0 0 0 8 [])
+    ∷ entry 12 9 (some 1) fresh (is-passed 8 4 (int4 0 ++ int4 4)) (tableLine Memory 0 0 1 0 0 0 8 [])
     ∷ []
 
 -- ---- an entry's answer, and the one that is expected: the answer and the words of the buffer
@@ -125,7 +130,7 @@ inBuffer words = words ++ replicate (mostWords - length words) 0
 
 abbrev pub expected : Entry → Answer × List ℕ
 expected e = (
-  answered (unmarked (e .row) (e .answer .integers-left) (e .answer .floats-left)) accepted
-      (e .answer .way) (e .answer .spent) (length (e .answer .slots)),
+  answered (callWith (e .row) (counts (e .answer .integers-left) (e .answer .floats-left)) (e .answer .stack)) accepted
+      (e .answer .way) (e .answer .spent) (length (e .answer .slots)) (stands 0 (e .answer .stack)),
   inBuffer (wordsOf (e .answer .slots)),
 )

@@ -1,38 +1,45 @@
 -- What the classifier answers about a scalar of a list, on a call of description 0 that passes the checks: integer registers, all or none, or one
 -- float register, or nothing; it passes none over. And what the reader says of the same scalar, at the offsets of the same call.
-use Prim.Native.Nat.{ℕ, _+_, _-_, _*_, _≤_, _<_, min}
-use mathlib.Core.Path.{_≡_, refl, sym, _∙_, ap}
+use Prim.Native.Nat.{ℕ, _+_, _-_, _*_, _/_, _≤_, _<_, min}
+use mathlib.Core.Path.{_≡_, refl, sym, _∙_, ap, subst}
 use mathlib.Core.List.{List, []}
 use mathlib.Core.Bool.{Bool, true, false, cond}
 use native.Mathlib.Omega.{arith}
-use borrow.Author.Tests.{le-leb, lt-leb, leb-true, leb-false}
-use lib.Dec.{leb, eqb}
+use borrow.Author.Tests.{le-leb, lt-leb, leb-true, leb-false, le-ltb}
+use lib.Dec.{leb, eqb, ltb}
 use lib.ListN.{length}
 use Rattle.shape.specs.declared.Arg.{Arg}
 use Rattle.shape.specs.declared.Arg.the-variants.{Scalar}
+use Rattle.shape.specs.declared.Piece.{Piece}
 use Rattle.shape.specs.declared.Scalar as scalars
 use Rattle.shape.specs.Numbers.{integer, single, double, x87-extended, quad, accepted}
-use Rattle.shape.specs.Words.{scalar}
+use Rattle.shape.specs.Words.{scalar, piecesOf}
 use Rattle.checks.specs.Check as checks
 use Rattle.checks.proofs.Accepted.{else-none}
 use Rattle.shape.specs.Arithmetic.{roundUp}
 use Rattle.abis.specs.Abis as abis
 use Rattle.abis.specs.Abis.{described}
 use Rattle.describe.specs.Description.{termsOf}
+use Rattle.describe.specs.Dots.{dotsOf}
+use Rattle.slots.specs.Words.{slotSize}
 use Rattle.spend.specs.declared.Left.{Left}
 use Rattle.spend.specs.declared.Spent.{Spent}
 use Rattle.spend.specs.declared.Decision.{Decision}
 use Rattle.spend.specs.Spending as rules
 use Rattle.spend.specs.Ways.{no-mark, spends, nothing}
 use Rattle.spend_scalar.specs.Spending as lone
+use Rattle.stack_place.specs.declared.Placed.{Placed}
+use Rattle.stack_place.specs.Stacked.{scalarRest, behind}
 use Rattle.classify.specs.declared.Call.{Call}
-use Rattle.classify.specs.Pass.{direct}
+use Rattle.classify.specs.Pass.{direct, wayOf, passSlots}
 use Rattle.classify.specs.Classify as rust
 use Rattle.classify.specs.Spending as spending
 use Rattle.classify.specs.Spending.{variadicArgumentChoice}
+use Rattle.classify.specs.Stacking.{stackedOf}
 use Rattle.classify.specs.Answers as answers
-use Rattle.classify.specs.Answers.{rowRefusal, callRefusal, refusalBy, leftRefusal, argumentAnswer, variadicArgumentAnswer, acceptedAnswer}
-use Rattle.classify.proofs.Accepted.{Sound, sound, unmarked, accepted-where}
+use Rattle.classify.specs.Answers.{rowRefusal, callRefusal, refusalBy, stateRefusal, Account, argumentAnswer, variadicArgumentAnswer, orAnswer, acceptedAnswer, answerTo}
+use Rattle.classify.proofs.Accepted.{Sound, sound, unmarked}
+use Rattle.ledger.specs.Ledger.{variadic-argument, roundingBy}
 use Rattle.varargs.specs.declared.Offsets.{Offsets}
 use Rattle.varargs.specs.declared.Located.{Located}
 use Rattle.varargs.specs.declared.Area.the-variants.{Save}
@@ -78,7 +85,7 @@ module _ (left : Left) where
   abbrev one-float : Spent
   one-float = spends 0 0 0 (min 1 (left .float))
 
-  abbrev costOf : {s : scalars.Scalar} → Listed s → Spent
+  abbrev pub costOf : {s : scalars.Scalar} → Listed s → Spent
   costOf integer-1 = words 1
   costOf integer-2 = words 1
   costOf integer-4 = words 1
@@ -111,36 +118,100 @@ module _ (left : Left) where
 
 -- ---- the answer
 
-module _ (left : Left) (good : leftRefusal (termsOf (described 0)) left ≡ accepted) (m : left .«integers_only» ≡ no-mark) (s : scalars.Scalar) (is : Listed s) (ws out : List ℕ) where
+-- where it stands: by how many bytes its registers leave, and 16 or 8
+abbrev pub roundingOn : {s : scalars.Scalar} → Listed s → ℕ
+roundingOn integer-1 = 8
+roundingOn integer-2 = 8
+roundingOn integer-4 = 8
+roundingOn integer-8 = 8
+roundingOn integer-16 = 16
+roundingOn a-single = 8
+roundingOn a-double = 8
+roundingOn an-x87 = 16
+roundingOn a-quad = 16
+
+abbrev pub standsFor : ℕ → (s : scalars.Scalar) → Listed s → Spent → Placed
+standsFor stack s is spent = behind stack (roundUp (scalarRest spent (s .size) 8) 8) (roundingOn is)
+
+abbrev pub accountFor : Call → (s : scalars.Scalar) → Listed s → Account
+accountFor c s is =
+    record { passed = rust.scalar (described 0) (c .left) s; spent = costOf (c .left) is; placed = standsFor (c .stack) s is (costOf (c .left) is) }
+
+module _ (left : Left) (stack : ℕ) where
   abbrev call-0 : Call
-  call-0 = answers.callWith 0 left
+  call-0 = answers.callWith 0 left stack
 
-  not-refused : refusalBy (rowRefusal 0) (described 0) call-0 (Scalar s) ws ≡ accepted
-  unfolding rowRefusal refusalBy answers.checked answers.argRefusal
-  not-refused = rw (good, base-taken s is)
+  module _ (m : left .«integers_only» ≡ no-mark) where
+    stands-so : (s : scalars.Scalar) (is : Listed s) (ps : List Piece) (spent : Spent)
+        → stackedOf (termsOf (described 0)) (described 0 .arguments) false (dotsOf (described 0 .variadic)) stack (Scalar s) ps (wayOf (rust.scalar (described 0) left s .pass)) spent
+        (length (passSlots (rust.scalar (described 0) left s .pass)))
+        ≡ standsFor stack s is spent
+    unfolding abis.descriptions described stackedOf
+    stands-so s integer-1 ps spent = rw (travels left m s integer-1)
+    stands-so s integer-2 ps spent = rw (travels left m s integer-2)
+    stands-so s integer-4 ps spent = rw (travels left m s integer-4)
+    stands-so s integer-8 ps spent = rw (travels left m s integer-8)
+    stands-so s integer-16 ps spent = rw (travels left m s integer-16)
+    stands-so s a-single ps spent = rw (travels left m s a-single)
+    stands-so s a-double ps spent = rw (travels left m s a-double)
+    stands-so s an-x87 ps spent = rw (travels left m s an-x87)
+    stands-so s a-quad ps spent = rw (travels left m s a-quad)
 
-  answer-0 : variadicArgumentAnswer call-0 (Scalar s) ws out ≡ acceptedAnswer call-0 (rust.scalar (described 0) left s) (costOf left is)
-  unfolding variadicArgumentAnswer answers.variadicArgumentAnswerBy abis.descriptions described rust.argument rust.variadicArgument variadicArgumentChoice
-  answer-0 =
-      rw (← spends-so left m s is)
-      (accepted-where (refusalBy (rowRefusal 0) (described 0) call-0 (Scalar s) ws) call-0 (rust.scalar (described 0) left s) (spentOn left s) out not-refused (rw (travels left m s is) (omega arith)) .answer)
+    rounds-so : (s : scalars.Scalar) (is : Listed s) → roundingBy (described 0) (variadic-argument (Scalar s) [] []) call-0 ≡ roundingOn is
+    unfolding abis.descriptions described rust.argument rust.variadicArgument
+    rounds-so s integer-1 = rw (travels left m s integer-1)
+    rounds-so s integer-2 = rw (travels left m s integer-2)
+    rounds-so s integer-4 = rw (travels left m s integer-4)
+    rounds-so s integer-8 = rw (travels left m s integer-8)
+    rounds-so s integer-16 = rw (travels left m s integer-16)
+    rounds-so s a-single = rw (travels left m s a-single)
+    rounds-so s a-double = rw (travels left m s a-double)
+    rounds-so s an-x87 = rw (travels left m s an-x87)
+    rounds-so s a-quad = rw (travels left m s a-quad)
+
+    module _ (good : stateRefusal (termsOf (described 0)) call-0 ≡ accepted) (s : scalars.Scalar) (is : Listed s) (ws out : List ℕ) where
+      not-refused : refusalBy (rowRefusal 0) (described 0) call-0 (Scalar s) ws ≡ accepted
+      unfolding rowRefusal refusalBy answers.checked answers.argRefusal
+      not-refused = rw (good, base-taken s is)
+
+      account-so : answers.variadicArgumentAccount (described 0) call-0 (Scalar s) (piecesOf ws) ≡ accountFor call-0 s is
+      unfolding answers.variadicArgumentAccount abis.descriptions described rust.argument rust.variadicArgument variadicArgumentChoice
+      account-so =
+          rw (← spends-so left m s is)
+          (ap (λ (placed : Placed). record { passed = rust.scalar (described 0) left s; spent = spentOn left s; placed = placed }) (stands-so s is (piecesOf ws) (spentOn left s)))
+
+      accepted-so : answerTo accepted call-0 (accountFor call-0 s is) out ≡ orAnswer (standsFor stack s is (costOf left is) .refusal) call-0 (acceptedAnswer call-0 (accountFor call-0 s is))
+      unfolding answerTo
+      accepted-so =
+          let none : ltb (length out / slotSize) 0 ≡ false = le-ltb (length out / slotSize) 0 (omega arith) in
+          rw (travels left m s is, none)
+
+      answer-0 : variadicArgumentAnswer call-0 (Scalar s) ws out ≡ orAnswer (standsFor stack s is (costOf left is) .refusal) call-0 (acceptedAnswer call-0 (accountFor call-0 s is))
+      unfolding variadicArgumentAnswer answers.variadicArgumentAnswerBy
+      answer-0 = rw (not-refused, account-so) accepted-so
 
 module _ (c : Call) (row : c .abi ≡ 0) (passes : callRefusal c ≡ accepted) where
   pub on-row-0 : Sound (described 0) c
-  unfolding callRefusal answers.callRefusalBy
+  unfolding callRefusal answers.callRefusalBy stateRefusal
   on-row-0 = sound (rowRefusal 0) (described 0) c (rw row at passes) .1
 
   no-mark-here : c .left .«integers_only» ≡ no-mark
   unfolding abis.descriptions described
   no-mark-here = unmarked (described 0) c on-row-0 refl
 
-  left-good : leftRefusal (termsOf (described 0)) (c .left) ≡ accepted
-  unfolding callRefusal answers.callRefusalBy
-  left-good = else-none (rowRefusal 0) _ (rw row at passes) .1
+  call-good : stateRefusal (termsOf (described 0)) (answers.callWith 0 (c .left) (c .stack)) ≡ accepted
+  unfolding callRefusal answers.callRefusalBy stateRefusal
+  call-good = else-none (rowRefusal 0) _ (rw row at passes) .1
 
   -- whatever words and whatever buffer come with it
-  pub answer-is : (s : scalars.Scalar) (is : Listed s) (ws out : List ℕ) → variadicArgumentAnswer c (Scalar s) ws out ≡ acceptedAnswer c (rust.scalar (described 0) (c .left) s) (costOf (c .left) is)
-  answer-is s is ws out = rw row (answer-0 (c .left) left-good no-mark-here s is ws out)
+  pub answer-is : (s : scalars.Scalar) (is : Listed s) (ws out : List ℕ)
+      → variadicArgumentAnswer c (Scalar s) ws out ≡ orAnswer (standsFor (c .stack) s is (costOf (c .left) is) .refusal) c (acceptedAnswer c (accountFor c s is))
+  answer-is s is ws out =
+      subst (λ (x : Call). variadicArgumentAnswer x (Scalar s) ws out ≡ orAnswer (standsFor (c .stack) s is (costOf (c .left) is) .refusal) x (acceptedAnswer x (accountFor x s is)))
+      (ap (λ (n : ℕ). answers.callWith n (c .left) (c .stack)) (sym row)) (answer-0 (c .left) (c .stack) no-mark-here call-good s is ws out)
+
+  pub rounding-is : (s : scalars.Scalar) (is : Listed s) → roundingBy (described 0) (variadic-argument (Scalar s) [] []) c ≡ roundingOn is
+  rounding-is s is = rounds-so (c .left) (c .stack) no-mark-here s is
 
   -- so none of them matters
   pub asked-so : (s : scalars.Scalar) → Listed s → (ws out : List ℕ) → variadicArgumentAnswer c (Scalar s) ws out ≡ behindDots c s
@@ -148,7 +219,7 @@ module _ (c : Call) (row : c .abi ≡ 0) (passes : callRefusal c ≡ accepted) w
 
 -- a fixed argument is answered alike: description 0 makes no difference after the dots
 pub alike : (c : Call) → c .abi ≡ 0 → (arg : Arg) (ws out : List ℕ) → argumentAnswer c arg ws out ≡ variadicArgumentAnswer c arg ws out
-unfolding argumentAnswer variadicArgumentAnswer answers.argumentAnswerBy answers.variadicArgumentAnswerBy abis.descriptions described rust.variadicArgument spending.argumentChoice variadicArgumentChoice
+unfolding argumentAnswer variadicArgumentAnswer answers.argumentAnswerBy answers.variadicArgumentAnswerBy answers.argumentAccount answers.variadicArgumentAccount abis.descriptions described rust.variadicArgument spending.argumentChoice variadicArgumentChoice
 alike c row arg ws out = rw row
 
 -- ---- four lots: one word, two words, a float register, the stack; and the reader has the same one

@@ -143,7 +143,7 @@ module _ (ops : List Operation) where
   named-row = so-far .same-abi
 
   pub named-passes : callRefusal (callNamed ops) ≡ accepted
-  unfolding callRefusal answers.callRefusalBy
+  unfolding callRefusal answers.callRefusalBy answers.stateRefusal
   named-passes = rw named-row (so-far .acceptable)
 
   -- the registers that come before the call's next ones are those that the operations were given and passed over
@@ -155,13 +155,12 @@ module _ (ops : List Operation) where
   unfolding abis.descriptions described
   named-floats = omega (arith, so-far .adds-up floats)
 
-pub after-named : (ops : List Operation) (m : Machine) (stack : ℕ) (vs : List Value) → Whole m → stack % 8 ≡ 0 → AllValues vs
-    → AllInside (length (m .area)) (namedState ops m stack) vs
-    → (offsetsOf (namedState ops m stack) ≡ record { integer = 8 * used integers ops; float = 48 + 16 * used floats ops; overflow = stack })
-    × (readings (saved (placeAll (namedState ops m stack) vs .machine)) (placeAll (namedState ops m stack) vs .machine .area) (offsetsOf (namedState ops m stack)) vs
-    ≡ asPlaced (namedState ops m stack) vs)
-    × Stays (used integers ops) (used floats ops) stack m (placeAll (namedState ops m stack) vs .machine)
-after-named ops m stack vs w eights are inside =
-    let ready : Ready (namedState ops m stack) = record { row = named-row ops; passes = named-passes ops; whole = w; eights = eights } in
-    let both = what-was-placed-is-read (namedState ops m stack) vs ready are inside in
+pub after-named : (ops : List Operation) (m : Machine) (vs : List Value) → Whole m → callNamed ops .stack % 8 ≡ 0 → AllValues vs
+    → AllInside (length (m .area)) (namedState ops m) vs
+    → (offsetsOf (namedState ops m) ≡ record { integer = 8 * used integers ops; float = 48 + 16 * used floats ops; overflow = callNamed ops .stack })
+    × (readings (saved (placeAll (namedState ops m) vs .machine)) (placeAll (namedState ops m) vs .machine .area) (offsetsOf (namedState ops m)) vs ≡ asPlaced (namedState ops m) vs)
+    × Stays (used integers ops) (used floats ops) (callNamed ops .stack) m (placeAll (namedState ops m) vs .machine)
+after-named ops m vs w eights are inside =
+    let ready : Ready (namedState ops m) = record { row = named-row ops; passes = named-passes ops; whole = w; eights = eights } in
+    let both = what-was-placed-is-read (namedState ops m) vs ready are inside in
     (rw (named-integers ops, named-floats ops), both .0, rw (named-integers ops, named-floats ops) at (both .1))

@@ -1,6 +1,6 @@
 -- The caller's side of a variable argument list on description 0 (REFERENCE 15.4): where a caller that asks the classifier puts each value, and
 -- what the prologue of the function that is called stores. Nothing here is the reader's: that it finds what was put there is a theorem.
-use Prim.Native.Nat.{ℕ, zero, suc, _+_, max}
+use Prim.Native.Nat.{ℕ, zero, suc, _+_, _≤_}
 use mathlib.Core.Path.{_≡_}
 use mathlib.Core.Bool.{cond}
 use mathlib.Core.List.{List, [], _∷_, _++_}
@@ -9,12 +9,12 @@ use lib.ListN.{length, take, drop, set, getD}
 use Rattle.shape.specs.declared.Arg.the-variants.{Scalar}
 use Rattle.shape.specs.declared.Scalar as scalars
 use Rattle.shape.specs.Words.{putAt}
-use Rattle.shape.specs.Arithmetic.{roundUp}
 use Rattle.abis.specs.Abis.{described}
+use Rattle.stack_place.specs.Stacked.{most-stack}
 use Rattle.classify.specs.declared.Call.{Call}
 use Rattle.classify.specs.declared.Answer.{Answer}
 use Rattle.classify.specs.Answers.{variadicArgumentAnswer}
-use Rattle.ledger.specs.Ledger.{Bank, integers, floats, runOf, given}
+use Rattle.ledger.specs.Ledger.{Bank, integers, floats, isRefused, runOf, given}
 
 -- ---- the machine
 
@@ -34,10 +34,11 @@ pub data Registers (bytes : ℕ) : ℕ → List Register → Type 0 where
   and-then : {count : ℕ} {register : Register} {registers : List Register} → length register ≡ bytes → Registers bytes count registers
       → Registers bytes (suc count) (register ∷ registers)
 
--- six integer registers of 8 bytes and eight float registers of 16, whatever they hold
+-- six integer registers of 8 bytes and eight float registers of 16, whatever they hold, and an area that isn't longer than a call's arguments get
 pub record Whole (m : Machine) : Type 0 where
   pub six : Registers 8 6 (m .integers)
   pub eight : Registers 16 8 (m .floats)
+  pub within : length (m .area) ≤ most-stack
 
 -- ---- what is placed
 
@@ -46,11 +47,10 @@ pub record Value : Type 0 where
   pub scalar : scalars.Scalar
   pub bytes : List ℕ
 
--- between two values: the machine, the call, and where the stack goes on
+-- between two values: the machine, and the call, which has where the stack goes on
 pub record State : Type 0 where
   pub machine : Machine
   pub call : Call
-  pub stack : ℕ
 
 -- ---- registers
 
@@ -67,16 +67,6 @@ spread (suc n) r bytes registers = spread n (suc r) (drop 8 bytes) (toFront regi
 abbrev pub firstGiven : Bank → Call → Answer → ℕ
 firstGiven b c a = runOf b (described 0 .banks) c a .first + runOf b (described 0 .banks) c a .passes
 
--- ---- the stack: the psABI's rule for what has no register
-
--- the offset is rounded up to the larger of 8 and the alignment
-abbrev pub stackStart : ℕ → scalars.Scalar → ℕ
-stackStart offset s = roundUp offset (max 8 (s .align))
-
--- and moves on by the size, rounded up to 8
-abbrev pub stackNext : ℕ → scalars.Scalar → ℕ
-stackNext offset s = stackStart offset s + roundUp (s .size) 8
-
 -- ---- a value is placed, by the answer that the classifier gave
 
 abbrev pub placedInIntegers : Answer → State → Value → State
@@ -88,7 +78,6 @@ placedInIntegers a st v =
         area = st .machine .area;
       };
       call = a .next;
-      stack = st .stack;
     }
 
 abbrev pub placedInFloats : Answer → State → Value → State
@@ -100,7 +89,6 @@ placedInFloats a st v =
         area = st .machine .area;
       };
       call = a .next;
-      stack = st .stack;
     }
 
 abbrev pub placedOnStack : Answer → State → Value → State
@@ -109,15 +97,17 @@ placedOnStack a st v =
       machine = record {
         integers = st .machine .integers;
         floats = st .machine .floats;
-        area = putAt (st .machine .area) (stackStart (st .stack) (v .scalar)) (v .bytes);
+        area = putAt (st .machine .area) (a .outcome .stacked .at) (v .bytes);
       };
       call = a .next;
-      stack = stackNext (st .stack) (v .scalar);
     }
 
--- in the integer registers that it was given, in the float register, or, given nothing in either bank, on the stack
+-- in the integer registers that it was given, in the float register, or, given nothing in either bank, on the stack, where the answer says; what is
+-- refused isn't placed
 unfoldable pub placedBy : Answer → State → Value → State
-placedBy a st v = cond (ltb 0 (given integers a)) (placedInIntegers a st v) (cond (ltb 0 (given floats a)) (placedInFloats a st v) (placedOnStack a st v))
+placedBy a st v =
+    cond (isRefused a) st
+    (cond (ltb 0 (given integers a)) (placedInIntegers a st v) (cond (ltb 0 (given floats a)) (placedInFloats a st v) (placedOnStack a st v)))
 
 -- what the classifier answers about an argument after the dots
 abbrev pub behindDots : Call → scalars.Scalar → Answer

@@ -5,7 +5,8 @@ use lib.ListN.{replicate}
 use Rattle.shape.specs.declared.Scalar.{Scalar}
 use Rattle.shape.specs.Numbers.{integer, double, x87-extended, quad}
 use Rattle.shape.specs.Words.{scalar}
-use Rattle.classify.specs.Answers.{unmarked}
+use Rattle.classify.specs.Classify.{counts}
+use Rattle.classify.specs.Answers.{callWith}
 use Rattle.varargs.specs.declared.Offsets.{Offsets}
 use Rattle.varargs.specs.declared.Located.{Located}
 use Rattle.varargs.specs.Lists.{areaNumber, saveBytes, located, Shown}
@@ -84,7 +85,7 @@ abbrev zeros : Machine
 zeros = record { integers = replicate 6 (replicate 8 0); floats = replicate 8 (replicate 16 0); area = replicate 64 0 }
 
 abbrev pub stateOf : Example → State
-stateOf e = record { machine = zeros; call = unmarked 0 (e .integers) (e .floats); stack = e .stack }
+stateOf e = record { machine = zeros; call = callWith 0 (counts (e .integers) (e .floats)) (e .stack) }
 
 unfoldable pub numbered : ℕ → List Scalar → List Value
 numbered n [] = []

@@ -11,14 +11,13 @@ use Rattle.shape.specs.Words.{piecesOf}
 use Rattle.slots.specs.Words.{slotSize, written, slotsRead}
 use Rattle.slots.proofs.Words.{read-back}
 use Rattle.abis.specs.Abis.{described, descriptions}
-use Rattle.spend.specs.declared.Spent.{Spent}
 use Rattle.spend.specs.Ways.{no-mark}
 use Rattle.spend.proofs.Ways.{back}
 use Rattle.classify.specs.declared.Call.{Call}
 use Rattle.classify.specs.declared.Answer.{Answer}
 use Rattle.classify.specs.Pass.{Pass, ignore, direct, pieces, reference, memory, wayOf, passSlots}
-use Rattle.classify.specs.Classify.{Passed, argument, returns}
-use Rattle.classify.specs.Answers.{rowRefusal, refusalOf, acceptedAnswer, answerTo, writtenTo, argumentAnswerBy, argumentWrittenBy, returnsAnswerBy, returnsWrittenBy, argumentAnswer, argumentWritten, returnsAnswer, returnsWritten}
+use Rattle.classify.specs.Classify.{Passed}
+use Rattle.classify.specs.Answers.{rowRefusal, refusalOf, Account, slotsOf, argumentAccount, returnsAccount, acceptedAnswer, answerTo, writtenTo, argumentAnswerBy, argumentWrittenBy, returnsAnswerBy, returnsWrittenBy, argumentAnswer, argumentWritten, returnsAnswer, returnsWritten}
 use Rattle.classify.proofs.Accepted as accepted
 use Rattle.classify.proofs.Accepted.{Sound}
 use Rattle.psabi.specs.Psabi.{Free, Travels, psabiArgument, psabiResult}
@@ -39,9 +38,10 @@ pass-back memory out h = refl
 
 -- ---- an answer that is no refusal
 
-read-accepted : (from : Free) (c : Call) (p : Passed) (spent : Spent) (out : List ℕ) → length (passSlots (p .pass)) ≤ length out / slotSize
-    → answerRead from c (acceptedAnswer c p spent) (written (passSlots (p .pass)) out) ≡ readIn from (c .left) p
-read-accepted from c p spent out h =
+read-accepted : (from : Free) (c : Call) (account : Account) (out : List ℕ) → length (slotsOf account) ≤ length out / slotSize
+    → answerRead from c (acceptedAnswer c account) (written (slotsOf account) out) ≡ readIn from (c .left) (account .passed)
+read-accepted from c account out h =
+    let p : Passed = account .passed in
     rw (back (wayOf (p .pass)))
     (ap (λ (q : Pass). readPass from (freeAt c) q (standing (p .left .integer) (p .left .float))) (pass-back (p .pass) out h))
 
@@ -67,22 +67,22 @@ pub record Says (from : Free) (c : Call) (a : Answer) (out : List ℕ) (t : Trav
 
 module _ (c : Call) (shape : Shape) (ws out : List ℕ) (e : c .abi ≡ 0) (d : Domain shape (piecesOf ws)) where
   -- what the operation does to a call, read in the psABI's words, whatever the operation
-  says : (from : Free) (p : Passed) (spent : Spent) (t : Travels) → answerTo (refusalOf c (Aggregate shape) ws) c p spent out .outcome .refusal ≡ 0
-      → (Kept c → (readIn from (c .left) p ≡ some t) × (p .left .«integers_only» ≡ no-mark))
-      → Says from c (answerTo (refusalOf c (Aggregate shape) ws) c p spent out) (writtenTo (refusalOf c (Aggregate shape) ws) p out) t
+  says : (from : Free) (account : Account) (t : Travels) → answerTo (refusalOf c (Aggregate shape) ws) c account out .outcome .refusal ≡ 0
+      → (Kept c → (readIn from (c .left) (account .passed) ≡ some t) × (account .passed .left .«integers_only» ≡ no-mark))
+      → Says from c (answerTo (refusalOf c (Aggregate shape) ws) c account out) (writtenTo (refusalOf c (Aggregate shape) ws) account out) t
   unfolding refusalOf
-  says from p spent t h agrees =
-      let a = accepted.accepted-so (refusalOf c (Aggregate shape) ws) c p spent out h in
+  says from account t h agrees =
+      let a = accepted.accepted-so (refusalOf c (Aggregate shape) ws) c account out h in
       let s = accepted.sound (rowRefusal (c .abi)) (described (c .abi)) c (accepted.call-checked (rowRefusal (c .abi)) (described (c .abi)) c (Aggregate shape) ws (a .checks-pass)) .1 in
       let k = agrees (kept c e s) in
       rw (a .answer, a .words-are)
-      (record { travels = read-accepted from c p spent out (a .room) ∙ k .0; same-abi = e; unmarked = k .1 })
+      (record { travels = read-accepted from c account out (a .room) ∙ k .0; same-abi = e; unmarked = k .1 })
 
   pub argument-says : argumentAnswer c (Aggregate shape) ws out .outcome .refusal ≡ 0
       → Says (freeAt c) c (argumentAnswer c (Aggregate shape) ws out) (argumentWritten c (Aggregate shape) ws out) (psabiArgument (freeAt c) (shape .size) (piecesOf ws))
-  unfolding argumentAnswer argumentWritten argumentAnswerBy argumentWrittenBy refusalOf
+  unfolding argumentAnswer argumentWritten argumentAnswerBy argumentWrittenBy argumentAccount refusalOf
   argument-says h =
-      says (freeAt c) (argument (described (c .abi)) (c .left) (Aggregate shape) (piecesOf ws)) _ _ h
+      says (freeAt c) (argumentAccount (described (c .abi)) c (Aggregate shape) (piecesOf ws)) _ h
       (λ k.
       rw (e, k .unmarked) (
         argument-is-psabi shape (piecesOf ws) d (c .left .integer) (c .left .float) (k .integer≤) (k .float≤),
@@ -91,9 +91,9 @@ module _ (c : Call) (shape : Shape) (ws out : List ℕ) (e : c .abi ≡ 0) (d : 
 
   pub result-says : returnsAnswer c (Aggregate shape) ws out .outcome .refusal ≡ 0
       → Says results c (returnsAnswer c (Aggregate shape) ws out) (returnsWritten c (Aggregate shape) ws out) (psabiResult (freeAt c) (shape .size) (piecesOf ws))
-  unfolding returnsAnswer returnsWritten returnsAnswerBy returnsWrittenBy refusalOf
+  unfolding returnsAnswer returnsWritten returnsAnswerBy returnsWrittenBy returnsAccount refusalOf
   result-says h =
-      says results (returns (described (c .abi)) (c .left) (Aggregate shape) (piecesOf ws)) _ _ h
+      says results (returnsAccount (described (c .abi)) c (Aggregate shape) (piecesOf ws)) _ h
       (λ k.
       rw (e, k .unmarked) (
         result-is-psabi shape (piecesOf ws) d (c .left .integer) (c .left .float) (k .integer≤) (k .float≤),

@@ -19,7 +19,7 @@ use Rattle.checks.proofs.Accepted.{else-none, inside-first, inside-shape}
 use Rattle.describe.specs.Description.{termsOf}
 use Rattle.abis.specs.Abis.{described}
 use Rattle.classify.specs.declared.Call.{Call}
-use Rattle.classify.specs.Answers.{leftRefusal, argRefusal, checked, refusalBy, rowRefusal, refusalOf}
+use Rattle.classify.specs.Answers.{stateRefusal, argRefusal, checked, refusalBy, rowRefusal, refusalOf}
 use Rattle.psabi.specs.Psabi.{liesIn, eightbytesIn}
 use Rattle.psabi.specs.Domain.{howMany, atEach, isX87Piece, x87In, otherIn, isIntegerSize, isOfKind, isInside, Domain}
 
@@ -142,5 +142,5 @@ each-inside size (p ∷ ps) e = let x = inside-first size p ps e in rw (le-leb _
 pub accepted-inside : (c : Call) (shape : Shape) (words : List ℕ) → refusalOf c (Aggregate shape) words ≡ accepted → isInside shape (piecesOf words) ≡ true
 unfolding refusalOf refusalBy checked argRefusal
 accepted-inside c shape words e =
-    let of-value = else-none (leftRefusal (termsOf (described (c .abi))) (c .left)) _ (else-none (rowRefusal (c .abi)) _ e .1) .1 in
+    let of-value = else-none (stateRefusal (termsOf (described (c .abi))) c) _ (else-none (rowRefusal (c .abi)) _ e .1) .1 in
     each-inside (shape .size) (piecesOf words) (inside-shape shape words of-value)

@@ -1,11 +1,15 @@
--- The laws of rounding up, and of sums and roundings that stay within 64 bits.
+-- The laws of rounding up, and of sums, products and roundings that stay within 64 bits.
 use Prim.Native.Nat.{ℕ, suc, _+_, _-_, _*_, _/_, _%_, _≤_, _<_, min, max}
-use mathlib.Core.Path.{_≡_, ap, sym, _∙_}
+use mathlib.Core.Path.{_≡_, refl, ap, sym, _∙_}
+use mathlib.Core.Bool.{Bool, true, false}
+use mathlib.Core.Logic.{_⊎_, inl, inr, ⊎-elim}
 use native.Mathlib.Omega.{arith}
-use native.Mathlib.Nat.{div-add-mod', div-mul-le-self, mod-lt, suc-mul, add-mul, add-mul-div-right}
+use native.Mathlib.Nat.{div-add-mod', div-mul-le-self, mod-lt, suc-mul, mul-le-mul-right, add-mul, add-mul-div-right}
+use borrow.Author.Tests.{ltb-true, ltb-false}
 use lib.Arith.{digits-div}
+use lib.Dec.{ltb}
 use Rattle.shape.specs.Numbers.{most-word}
-use Rattle.shape.specs.Arithmetic.{roundUp, rounded}
+use Rattle.shape.specs.Arithmetic.{times, roundUp, rounded}
 
 module _ (n a : ℕ) (p : 0 < a) where
   pub over-less : n % a < a
@@ -70,3 +74,36 @@ module _ (n a step : ℕ) (es : step ≡ max a 1) where
 -- where the multiple is within 64 bits, that is what `round_up` answers
 pub round-within : (n a r : ℕ) → r ≡ rounded n a → n + max a 1 ≤ most-word → r ≡ roundUp n (max a 1)
 round-within n a r er h = er ∙ omega (arith, round-bound n (max a 1) (omega arith))
+
+-- ---- as `product` has it
+
+pub product-none : (a b : ℕ) → b ≡ 0 → 0 ≡ times a b
+product-none a b h = rw h (omega arith)
+
+module _ (a b : ℕ) (nz : b ≡ 0 → ⊥) where
+  pub product-past : most-word / b < a → most-word ≡ times a b
+  product-past h =
+      let m : suc (most-word / b) * b ≤ a * b = mul-le-mul-right b h in
+      let s : suc (most-word / b) * b ≡ most-word / b * b + b = suc-mul (most-word / b) b in
+      omega (arith, div-add-mod' most-word b, mod-lt most-word {m = b} (omega arith))
+
+  pub product-fits : a ≤ most-word / b → a * b ≤ most-word
+  product-fits h = let m : a * b ≤ most-word / b * b = mul-le-mul-right b h in omega (arith, div-mul-le-self most-word b)
+
+  pub product-is : a ≤ most-word / b → a * b ≡ times a b
+  product-is h = let m : a * b ≤ most-word = product-fits h in omega arith
+
+-- ---- what was held to 64 bits before
+
+pub at-most : (x y : ℕ) → (x ≤ y) ⊎ (y < x)
+at-most x y = go (ltb y x) refl
+  where
+    go : (b : Bool) → ltb y x ≡ b → (x ≤ y) ⊎ (y < x)
+    go true e = inr (ltb-true y x e)
+    go false e = inl (ltb-false y x e)
+
+pub round-sat : (x a : ℕ) → 0 < a → min (roundUp (min x most-word) a) most-word ≡ min (roundUp x a) most-word
+round-sat x a p = ⊎-elim
+    (λ (h : x ≤ most-word). let e : min x most-word ≡ x = omega arith in rw e)
+    (λ (h : most-word < x). omega (arith, round-least (min x most-word) a p, round-least x a p))
+    (at-most x most-word)

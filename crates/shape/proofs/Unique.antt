@@ -16,6 +16,7 @@ use Rattle.shape.proofs.least.Reads as least
 use Rattle.shape.proofs.most.Reads as most
 use Rattle.shape.proofs.minus.Reads as minus
 use Rattle.shape.proofs.sum.Reads as sum
+use Rattle.shape.proofs.product.Reads as product
 use Rattle.shape.proofs.round_up.Reads as round-up
 use Rattle.shape.proofs.one_if.Reads as one-if
 use Rattle.shape.proofs.wide.Reads as wide
@@ -61,6 +62,9 @@ minus-decides κs a r q s t p p′ = p ∙ sym p′
 
 sum-decides : (κs : Lfts 0) → OneAnswer (sum.Post κs)
 sum-decides κs a r q s t p p′ = p ∙ sym p′
+
+product-decides : (κs : Lfts 0) → OneAnswer (product.Post κs)
+product-decides κs a r q s t p p′ = p ∙ sym p′
 
 round-up-decides : (κs : Lfts 0) → OneAnswer (round-up.Post κs)
 round-up-decides κs a r q s t p p′ = p ∙ sym p′

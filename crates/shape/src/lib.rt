@@ -3,7 +3,7 @@
 ghost use mathlib.Core.Path.{_≡_};
 ghost use Prim.Native.Nat.{_-_, _<_, _≤_, min, max, _+_};
 ghost use Rattle.shape.specs.Numbers.{oneIf};
-ghost use Rattle.shape.specs.Arithmetic.{plus, rounded};
+ghost use Rattle.shape.specs.Arithmetic.{plus, times, rounded};
 ghost use Rattle.shape.specs.Words.{piecesOf, pieceAt, scalarAt, putAt, pieceSize, pieceWords};
 ghost use lib.Dec.{leb};
 ghost use lib.ListN.{length};
@@ -251,6 +251,19 @@ pub fn sum(a: u64, b: u64) -> u64
     ensures { λ r. ⌜ r ≡ plus a b ⌝ }
 {
     a + least(b, MOST_WORD - a)
+}
+
+// A product, or the largest number where it passes 64 bits.
+pub fn product(a: u64, b: u64) -> u64
+    ensures { λ r. ⌜ r ≡ times a b ⌝ }
+{
+    if b == 0 {
+        return 0;
+    }
+    if a > MOST_WORD / b {
+        return MOST_WORD;
+    }
+    a * b
 }
 
 // The next multiple of `a`, where 0 counts as 1, or the largest number where that passes 64 bits.

@@ -17,7 +17,7 @@ unfolding eventText
 event-bound s events.the-variants.More ps slots = omega arith
 event-bound s events.the-variants.Stop ps slots = omega arith
 event-bound s (events.the-variants.Ready operation) ps slots =
-    line-bound (actOf operation) (performed s operation ps slots .answer) (performedSlots s operation ps slots) (eight-slots s operation ps slots)
+    line-bound (actOf operation) (s .call .stack) (performed s operation ps slots .answer) (performedSlots s operation ps slots) (eight-slots s operation ps slots)
 
 pub text-bound : (b : Between) (bytes : List ℕ) → length (text b bytes) ≤ longest
 unfolding text

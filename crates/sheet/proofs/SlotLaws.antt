@@ -9,12 +9,9 @@ use lib.ListN.{length}
 use Rattle.shape.specs.Numbers.{accepted, bad-abi}
 use Rattle.slots.specs.Words.{slotSize, mostSlots}
 use Rattle.abis.specs.Abis.{description-count}
-use Rattle.spend.specs.declared.Spent.{Spent}
 use Rattle.classify.specs.declared.Call.{Call}
 use Rattle.classify.specs.declared.Answer.{Answer}
-use Rattle.classify.specs.Pass.{passSlots}
-use Rattle.classify.specs.Classify.{Passed}
-use Rattle.classify.specs.Answers.{callRefusal, refusalOf, refused, done, orAnswer, answerTo, freshAnswer, variadicAnswerBy, returnsAnswerBy, argumentAnswerBy, variadicArgumentAnswerBy, variadicAnswer, returnsAnswer, argumentAnswer, variadicArgumentAnswer}
+use Rattle.classify.specs.Answers.{callRefusal, refusalOf, Account, slotsOf, refused, done, orAnswer, answerTo, freshAnswer, variadicAnswerBy, returnsAccount, returnsAnswerBy, argumentAccount, argumentAnswerBy, variadicArgumentAccount, variadicArgumentAnswerBy, variadicAnswer, returnsAnswer, argumentAnswer, variadicArgumentAnswer}
 use Rattle.classify.proofs.Accepted.{by-cases}
 use Rattle.classify.proofs.Eight.{eight}
 use Rattle.sheet_records.specs.declared.known.Operation as operations
@@ -28,11 +25,11 @@ record Few (answer : Answer) (slots : List ℕ) : Type 0 where
 few-refused : (c : Call) (n : ℕ) (slots : List ℕ) → Few (refused c n) slots
 few-refused c n slots = record { at-most = omega arith; inside = omega arith }
 
-few-answer : (checks : ℕ) (c : Call) (p : Passed) (spent : Spent) (slots : List ℕ) → (checks ≡ accepted → length (passSlots (p .pass)) ≤ mostSlots)
-    → Few (answerTo checks c p spent slots) slots
-few-answer checks c p spent slots h =
-    by-cases checks c p spent slots (λ (a : Answer) (words : List ℕ). Few a slots) (λ n e. few-refused c (suc n) slots)
-    (λ z room. record { at-most = h z; inside = room })
+few-answer : (checks : ℕ) (c : Call) (account : Account) (slots : List ℕ) → (checks ≡ accepted → length (slotsOf account) ≤ mostSlots)
+    → Few (answerTo checks c account slots) slots
+few-answer checks c account slots h =
+    by-cases checks c account slots (λ (a : Answer) (words : List ℕ). Few a slots) (λ n e. few-refused c (suc n) slots)
+    (λ z room stands. record { at-most = h z; inside = room })
 
 few-fresh : (b : Bool) (c next : Call) (slots : List ℕ) → Few (cond b (refused c bad-abi) (done next)) slots
 few-fresh true c next slots = few-refused c bad-abi slots
@@ -43,12 +40,12 @@ few-marked zero c next slots = few-refused next accepted slots
 few-marked (suc n) c next slots = few-refused c (suc n) slots
 
 few : (c : Call) (operation : operations.Operation) (ws slots : List ℕ) → Few (answerOf c operation ws slots) slots
-unfolding answerOf freshAnswer variadicAnswerBy returnsAnswerBy argumentAnswerBy variadicArgumentAnswerBy variadicAnswer returnsAnswer argumentAnswer variadicArgumentAnswer callRefusal refusalOf
+unfolding answerOf freshAnswer variadicAnswerBy returnsAccount returnsAnswerBy argumentAccount argumentAnswerBy variadicArgumentAccount variadicArgumentAnswerBy variadicAnswer returnsAnswer argumentAnswer variadicArgumentAnswer callRefusal refusalOf
 few c (operations.the-variants.Fresh abi) ws slots = few-fresh (leb description-count abi) _ _ slots
 few c operations.the-variants.Mark ws slots = few-marked (callRefusal c) c _ slots
-few c (operations.the-variants.Return arg) ws slots = few-answer (refusalOf c arg ws) c _ _ slots (λ e. eight c arg ws e .returned)
-few c (operations.the-variants.Argument arg) ws slots = few-answer (refusalOf c arg ws) c _ _ slots (λ e. eight c arg ws e .passed-on)
-few c (operations.the-variants.VariadicArgument arg) ws slots = few-answer (refusalOf c arg ws) c _ _ slots (λ e. eight c arg ws e .variadic-argument)
+few c (operations.the-variants.Return arg) ws slots = few-answer (refusalOf c arg ws) c _ slots (λ e. eight c arg ws e .returned)
+few c (operations.the-variants.Argument arg) ws slots = few-answer (refusalOf c arg ws) c _ slots (λ e. eight c arg ws e .passed-on)
+few c (operations.the-variants.VariadicArgument arg) ws slots = few-answer (refusalOf c arg ws) c _ slots (λ e. eight c arg ws e .variadic-argument)
 
 module _ (s : State) (operation : operations.Operation) (ps slots : List ℕ) where
   pub eight-slots : performed s operation ps slots .answer .outcome .slots ≤ mostSlots

@@ -50,12 +50,12 @@ stop-put out at to out′ h et eo = append-put out at stopText to out′ (omega 
 pub carried-out : (s : State) (op : operations.Operation) (ps slots out : List ℕ) (at : ℕ) → at + longest ≤ length out
     → (x : Performed) → x ≡ performed s op ps slots
     → (slots′ : List ℕ) → slots′ ≡ performedSlots s op ps slots → length slots′ ≡ length slots → (act : acts.Act) → act ≡ actOf op
-    → (to : ℕ) (out′ : List ℕ) → Lined act (x .answer) slots′ out at to out′
+    → (to : ℕ) (out′ : List ℕ) → Lined act (s .call .stack) (x .answer) slots′ out at to out′
     → CarriedOut s op ps slots out at (stepTo (x .next) to) slots′ out′
 unfolding eventState eventText eventSlots
 carried-out s op ps slots out at room x ex slots′ es same act ew to out′ l =
-    let y : Put out at (line act (x .answer) slots′) to out′ =
-    line-there act (x .answer) slots′ out at to out′ l room (rw ex (eight-slots s op ps slots)) (rw (ex, same) (slots-fit s op ps slots)) in
+    let y : Put out at (line act (s .call .stack) (x .answer) slots′) to out′ =
+    line-there act (s .call .stack) (x .answer) slots′ out at to out′ l room (rw ex (eight-slots s op ps slots)) (rw (ex, same) (slots-fit s op ps slots)) in
     record { answers = rw (y .ends, ex, es, ew); slots-left = es; text-left = y .put ∙ rw (ex, es, ew) }
 
 -- ---- a step

@@ -47,7 +47,7 @@ unfoldable pub eventText : State → events.Event → List ℕ → List ℕ → 
 eventText s events.the-variants.More ps slots = []
 eventText s events.the-variants.Stop ps slots = stopText
 eventText s (events.the-variants.Ready operation) ps slots =
-    line (actOf operation) (performed s operation ps slots .answer) (performedSlots s operation ps slots)
+    line (actOf operation) (s .call .stack) (performed s operation ps slots .answer) (performedSlots s operation ps slots)
 
 unfoldable pub eventState : State → events.Event → List ℕ → List ℕ → State
 eventState s events.the-variants.More ps slots = s

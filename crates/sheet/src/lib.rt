@@ -126,10 +126,12 @@ fn carry_out(
     requires { ⌜ at + longest ≤ length (now out) ⌝ }
     ensures { λ r. ⌜ CarriedOut state operation (now (pieces .entry)) (now (slots .entry)) (now (out .entry)) at r (now (slots .exit)) (now (out .exit)) ⌝ }
 {
+    let call = state.call;
     let performed = state.perform(operation, pieces, slots);
     let next = performed.next;
     let answer = performed.answer;
-    let to = sheet_lines::put_line(sheet_records::act_of(operation), answer, slots, out, at);
+    let act = sheet_records::act_of(operation);
+    let to = sheet_lines::put_line(act, call.stack, answer, slots, out, at);
     Step { next, at: to }
 }
 

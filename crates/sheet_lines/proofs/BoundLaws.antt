@@ -1,4 +1,4 @@
--- No line is longer than the longest: a name, six counts and the words of the most slots of a mark and a number each, and a newline.
+-- No line is longer than the longest: a name, six counts, the words of the most slots and two offsets of a mark and a number each, and a newline.
 use Prim.Native.Nat.{ℕ, _+_, _*_, _≤_}
 use mathlib.Core.List.{List, [], _∷_, _++_}
 use mathlib.Core.Bool.{Bool, true, false, cond}
@@ -12,7 +12,7 @@ use Rattle.classify.specs.declared.Outcome.{Outcome}
 use Rattle.classify.specs.declared.Answer.{Answer}
 use Rattle.sheet_records.specs.declared.known.Act as acts
 use Rattle.text.specs.Numbers.{part, mostPart}
-use Rattle.sheet_lines.specs.Printing.{newline, space, wayText, actText, refusedText, nameText, pair, countsText, markAt, slotsText, restText, line, mostName, mostPair, mostCounts, mostRest, longest}
+use Rattle.sheet_lines.specs.Printing.{newline, space, wayText, actText, refusedText, nameText, pair, countsText, markAt, slotsText, restText, offsetsText, endText, line, mostName, mostPair, mostCounts, mostRest, mostEnd, longest}
 use Rattle.text.proofs.Digits.{part-bound}
 
 either : (b : Bool) (x y : List ℕ) (n : ℕ) → length x ≤ n → length y ≤ n → length (cond b x y) ≤ n
@@ -63,9 +63,13 @@ rest-bound o slots h =
     let p = part-bound space (o .refusal) in
     either (eqb (o .refusal) 0) (slotsText 0 (take (o .slots * slotSize) slots)) (part space (o .refusal)) mostRest b (omega arith)
 
-pub line-bound : (act : acts.Act) (a : Answer) (slots : List ℕ) → a .outcome .slots ≤ mostSlots → length (line act a slots) ≤ longest
+end-bound : (act : acts.Act) (before : ℕ) (a : Answer) → length (endText act before a) ≤ mostEnd
+unfolding offsetsText
+end-bound act before a = joined (pair _ _) (newline ∷ []) mostPair 1 (pair-bound _ _) (omega arith)
+
+pub line-bound : (act : acts.Act) (before : ℕ) (a : Answer) (slots : List ℕ) → a .outcome .slots ≤ mostSlots → length (line act before a slots) ≤ longest
 unfolding line
-line-bound act a slots h =
-    joined (nameText act (a .outcome)) _ mostName (mostCounts + (mostRest + 1)) (name-bound act (a .outcome))
-    (joined (countsText a) _ mostCounts (mostRest + 1) (counts-bound a)
-    (joined (restText (a .outcome) slots) (newline ∷ []) mostRest 1 (rest-bound (a .outcome) slots h) (omega arith)))
+line-bound act before a slots h =
+    joined (nameText act (a .outcome)) _ mostName (mostCounts + (mostRest + mostEnd)) (name-bound act (a .outcome))
+    (joined (countsText a) _ mostCounts (mostRest + mostEnd) (counts-bound a)
+    (joined (restText (a .outcome) slots) (endText act before a) mostRest mostEnd (rest-bound (a .outcome) slots h) (end-bound act before a)))

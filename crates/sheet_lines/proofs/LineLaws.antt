@@ -29,8 +29,8 @@ module _ (k n : ℕ) (g : Bool) (eg : g ≡ leb k mostSlots && leb k (n / slotSi
   pub words-there : k * slotSize ≤ n
   words-there = let h : k ≤ n / slotSize = leb-true _ _ (tests .1) in omega arith
 
-module _ (act : Act) (a : Answer) (slots out : List ℕ) (at : ℕ) (b : Bool) (eb : b ≡ leb (at + longest) (length out)) where
-  pub line-roomless : not b ≡ true → Lined act a slots out at at out
+module _ (act : Act) (before : ℕ) (a : Answer) (slots out : List ℕ) (at : ℕ) (b : Bool) (eb : b ≡ leb (at + longest) (length out)) where
+  pub line-roomless : not b ≡ true → Lined act before a slots out at at out
   unfolding lineEnd lineOut
   line-roomless t = let f : leb (at + longest) (length out) ≡ false = sym eb ∙ not-true b t in record { ends = rw f; text-left = rw f }
 
@@ -38,24 +38,24 @@ module _ (act : Act) (a : Answer) (slots out : List ℕ) (at : ℕ) (b : Bool) (
     roomy : leb (at + longest) (length out) ≡ true
     roomy = sym eb ∙ not-false b t
 
-    pub line-slotless : not g ≡ true → Lined act a slots out at at out
+    pub line-slotless : not g ≡ true → Lined act before a slots out at at out
     unfolding lineEnd lineOut
     line-slotless u = record { ends = rw (roomy, ← eg, not-true g u); text-left = rw (roomy, ← eg, not-true g u) }
 
     module _ (u : not g ≡ false) where
-      pub line-printed : (r : ℕ) (out′ : List ℕ) → Put out at (line act a slots) r out′
-          → Lined act a slots out at r out′
+      pub line-printed : (r : ℕ) (out′ : List ℕ) → Put out at (line act before a slots) r out′
+          → Lined act before a slots out at r out′
       unfolding lineEnd lineOut
       line-printed r out′ x =
           record { ends = rw (roomy, ← eg, not-false g u) (x .ends); text-left = rw (roomy, ← eg, not-false g u) (x .put) }
 
 -- a line that is printable stands there
-pub line-there : (act : Act) (a : Answer) (slots out : List ℕ) (at to : ℕ) (out′ : List ℕ) → Lined act a slots out at to out′
-    → at + longest ≤ length out → a .outcome .slots ≤ mostSlots → a .outcome .slots ≤ length slots / slotSize → Put out at (line act a slots) to out′
+pub line-there : (act : Act) (before : ℕ) (a : Answer) (slots out : List ℕ) (at to : ℕ) (out′ : List ℕ) → Lined act before a slots out at to out′
+    → at + longest ≤ length out → a .outcome .slots ≤ mostSlots → a .outcome .slots ≤ length slots / slotSize → Put out at (line act before a slots) to out′
 unfolding lineEnd lineOut
-line-there act a slots out at to out′ x room few inside =
+line-there act before a slots out at to out′ x room few inside =
     let f = le-leb (at + longest) (length out) room in
     let g = le-leb (a .outcome .slots) mostSlots few in
     let h = le-leb (a .outcome .slots) (length slots / slotSize) inside in
-    let k = line-bound act a slots few in
+    let k = line-bound act before a slots few in
     record { ends = rw (f, g, h) at (x .ends); put = rw (f, g, h) at (x .text-left); fits = omega arith }

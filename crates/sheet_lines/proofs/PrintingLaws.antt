@@ -16,7 +16,7 @@ use Rattle.classify.specs.declared.Answer.{Answer}
 use Rattle.sheet_records.specs.declared.known.Act as acts
 use Rattle.text.specs.Text.{Put}
 use Rattle.text.specs.Numbers.{part, mostPart}
-use Rattle.sheet_lines.specs.Printing.{space, newline, wayText, actText, refusedText, nameText, pair, countsText, markAt, slotsText, restText, line}
+use Rattle.sheet_lines.specs.Printing.{space, newline, wayText, actText, refusedText, nameText, pair, countsText, markAt, slotsText, restText, offsetBefore, offsetsText, endText, line}
 use Rattle.text.proofs.Putting.{put-then, put-nothing}
 
 module _ (o : List ℕ) (at r : ℕ) (p : List ℕ) where
@@ -84,11 +84,18 @@ pub counts-put : (answer : Answer) (o : List ℕ) (at a : ℕ) (p : List ℕ) (b
 unfolding countsText
 counts-put answer o at a p b q c s x1 x2 x3 = put-then x1 (put-then x2 x3)
 
-pub line-put : (act : acts.Act) (answer : Answer) (slots o : List ℕ) (at a : ℕ) (p : List ℕ) (b : ℕ) (q : List ℕ) (c : ℕ) (s : List ℕ) (d : ℕ) (t : List ℕ)
-    → Put o at (nameText act (answer .outcome)) a p → Put p a (countsText answer) b q → Put q b (restText (answer .outcome) slots) c s
-    → Put s c (newline ∷ []) d t → Put o at (line act answer slots) d t
-unfolding line
-line-put act answer slots o at a p b q c s d t x1 x2 x3 x4 = put-then x1 (put-then x2 (put-then x3 x4))
+module _ (act : acts.Act) (before : ℕ) where
+  pub end-put : (answer : Answer) (first : ℕ) → first ≡ offsetBefore act before (answer .next .stack)
+      → (o : List ℕ) (at a : ℕ) (p : List ℕ) (b : ℕ) (q : List ℕ)
+      → Put o at (pair first (answer .next .stack)) a p → Put p a (newline ∷ []) b q → Put o at (endText act before answer) b q
+  unfolding offsetsText
+  end-put answer first e o at a p b q x1 x2 = put-then (rw e at x1) x2
+
+  pub line-put : (answer : Answer) (slots o : List ℕ) (at a : ℕ) (p : List ℕ) (b : ℕ) (q : List ℕ) (c : ℕ) (s : List ℕ) (d : ℕ) (t : List ℕ)
+      → Put o at (nameText act (answer .outcome)) a p → Put p a (countsText answer) b q → Put q b (restText (answer .outcome) slots) c s
+      → Put s c (endText act before answer) d t → Put o at (line act before answer slots) d t
+  unfolding line
+  line-put answer slots o at a p b q c s d t x1 x2 x3 x4 = put-then x1 (put-then x2 (put-then x3 x4))
 
 -- ---- the loop of `put_slots`
 

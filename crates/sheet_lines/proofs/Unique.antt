@@ -9,7 +9,7 @@ use Rattle.sheet_lines.proofs.has_room.Reads as has-room
 put-line-decides : (κs : Lfts 2) → OneAnswer (put-line.Post κs)
 put-line-decides κs a r q s t p p′ = p .ends ∙ sym (p′ .ends)
 
-put-line-text : (κs : Lfts 2) → OneExit (put-line.Post κs) (λ s. now (s .1 .1 .1 .0))
+put-line-text : (κs : Lfts 2) → OneExit (put-line.Post κs) (λ s. now (s .1 .1 .1 .1 .0))
 put-line-text κs a r q s t p p′ = p .text-left ∙ sym (p′ .text-left)
 
 has-room-decides : (κs : Lfts 0) → OneAnswer (has-room.Post κs)

@@ -1,5 +1,5 @@
 // The line of an operation (docs/REFERENCE.md, 11): what it is or how the value travels, the counts left, passed over and given, then the
-// slots or the refusal. A line is written whole, or not at all.
+// slots or the refusal, and last the stack offsets before and after. A line is written whole, or not at all.
 mod writing;
 
 use classify::Answer;
@@ -21,16 +21,28 @@ ghost use Rattle.sheet_lines.specs.Printing as spec;
 // The letters of the longest name.
 const MOST_NAME: usize = 9;
 
-// No line is longer: a name, six counts, the words of the most slots, and a newline.
+// The words of a slot that a line has room for: one more than a slot has, so that it can gain a word and no buffer for lines has to grow.
+const LINE_SLOT: usize = 4;
+
+// No line is longer: a name, six counts, the words of the most slots, two offsets, and a newline.
 pub const LONGEST: usize = MOST_NAME
     + 6 * text::MOST_PART
-    + slots::MOST_WORDS * text::MOST_PART
+    + slots::MOST_SLOTS * LINE_SLOT * text::MOST_PART
+    + 2 * text::MOST_PART
     + 1;
 
-// Writes the line of an operation from a place of the text on, and answers where it ends. Nothing is written where the longest line has no
-// room, and of an answer that has more slots than any result needs or than stand beside it: no answer of an operation has.
-pub fn put_line(act: Act, answer: Answer, slots: &[u64], out: &mut [u8], at: usize) -> usize
-    ensures { λ r. ⌜ spec.Lined act answer (now (slots .entry)) (now (out .entry)) at r (now (out .exit)) ⌝ }
+// Writes the line of an operation from a place of the text on, and answers where it ends. `before` is the stack offset of the call that the
+// operation was performed on. Nothing is written where the longest line has no room, and of an answer that has more slots than any result
+// needs or than stand beside it: no answer of an operation has.
+pub fn put_line(
+    act: Act,
+    before: u64,
+    answer: Answer,
+    slots: &[u64],
+    out: &mut [u8],
+    at: usize,
+) -> usize
+    ensures { λ r. ⌜ spec.Lined act before answer (now (slots .entry)) (now (out .entry)) at r (now (out .exit)) ⌝ }
 {
     if !has_room(out.len(), at) {
         return at;
@@ -39,7 +51,7 @@ pub fn put_line(act: Act, answer: Answer, slots: &[u64], out: &mut [u8], at: usi
     if !are_there(outcome.slots, slots.len()) {
         return at;
     }
-    print(act, answer, slots, out, at)
+    print(act, before, answer, slots, out, at)
 }
 
 // Whether the longest line fits from a place on.
@@ -59,15 +71,15 @@ fn are_there(n: u64, words: usize) -> bool
     (n <= slots::MOST_SLOTS as u64) & (n <= slots::room(words) as u64)
 }
 
-fn print(act: Act, answer: Answer, slots: &[u64], out: &mut [u8], at: usize) -> usize
+fn print(act: Act, before: u64, answer: Answer, slots: &[u64], out: &mut [u8], at: usize) -> usize
     requires { ⌜ (at + spec.longest ≤ length (now out)) × (answer .outcome .slots ≤ mostSlots) × (answer .outcome .slots * slotSize ≤ length (now slots)) ⌝ }
-    ensures { λ r. ⌜ Put (now (out .entry)) at (spec.line act answer (now (slots .entry))) r (now (out .exit)) ⌝ }
+    ensures { λ r. ⌜ Put (now (out .entry)) at (spec.line act before answer (now (slots .entry))) r (now (out .exit)) ⌝ }
 {
     let outcome = answer.outcome;
     let a = put_name(act, outcome, out, at);
     let b = put_counts(answer, out, a);
     let c = put_rest(outcome, slots, out, b);
-    put_text(out, c, b"\n")
+    put_end(act, before, answer, out, c)
 }
 
 fn put_name(act: Act, outcome: Outcome, out: &mut [u8], at: usize) -> usize
@@ -138,6 +150,28 @@ fn mark(i: usize) -> u8
     ensures { λ r. ⌜ r ≡ spec.markAt i ⌝ }
 {
     if i % slots::SLOT == 0 { b' ' } else { b':' }
+}
+
+// The stack offset before the operation and the one after it, and the newline.
+fn put_end(act: Act, before: u64, answer: Answer, out: &mut [u8], at: usize) -> usize
+    requires { ⌜ at + spec.mostEnd ≤ length (now out) ⌝ }
+    ensures { λ r. ⌜ Put (now (out .entry)) at (spec.endText act before answer) r (now (out .exit)) ⌝ }
+{
+    let call = answer.next;
+    let after = call.stack;
+    let to = put_pair(out, at, offset_before(act, before, after), after);
+    put_text(out, to, b"\n")
+}
+
+// A fresh call is performed on none, and has its own offset twice.
+fn offset_before(act: Act, before: u64, after: u64) -> u64
+    ensures { λ r. ⌜ r ≡ spec.offsetBefore act before after ⌝ }
+{
+    match act {
+        Act::Fresh => after,
+        Act::Mark => before,
+        Act::Value => before,
+    }
 }
 
 // Two numbers, each behind a space.

@@ -34,6 +34,7 @@ impl State {
                     float: 0,
                     integers_only: spend::NO_MARK,
                 },
+                stack: 0,
             },
             reader: Reader::start(),
         }

@@ -12,7 +12,8 @@ use lib.ListN.{length}
 use Rattle.shape.specs.declared.Scalar.{Scalar}
 use Rattle.shape.specs.Lists.{every}
 use Rattle.shape.specs.Numbers.{accepted, bad-size, most-word, most-offset}
-use Rattle.shape.specs.Arithmetic.{roundUp, plus, rounded}
+use Rattle.shape.specs.Arithmetic.{roundUp, plus, times, rounded}
+use Rattle.shape.proofs.Rounding.{round-sat}
 use Rattle.shape.specs.Words.{scalar, pieceWords}
 use Rattle.shape.proofs.Bools.{both-true}
 use Rattle.shape.proofs.Put.{length-put}
@@ -23,10 +24,10 @@ use Rattle.types.specs.declared.Row.{Row}
 use Rattle.types.specs.Entries.{most-elements, union-kind, array-kind, entryAt, membersFrom, one, several, repeated, hasMembers, meaningAt, referred, refersBack}
 use Rattle.types.specs.Tree.{Tree, Forest, leaf, group, array, alignOf, largestIn, sizeOf, furthestIn, reach, reachOf, takesOf, leavesOf, leavesIn}
 use Rattle.types.specs.Trees.{offsetFrom, laidOut, treeOf, typeAt, sizeRefusal, treeRefusal, treesRefusal}
-use Rattle.types.specs.Table.{row, rowFrom, rowPiece, rowAt, putRow, counted, rowOfTree, placeFrom, membersRow, times, elementsRow, rowOf, entryRefusal, rowHere, refusalHere, filledRefusal, filled, Measured}
+use Rattle.types.specs.Table.{row, rowFrom, rowPiece, rowAt, putRow, counted, rowOfTree, placeFrom, membersRow, elementsRow, rowOf, entryRefusal, rowHere, refusalHere, filledRefusal, filled, Measured}
 use Rattle.types.proofs.Reading.{means-several, means-repeated, means-one}
 use Rattle.types.proofs.Types.{own-type}
-use Rattle.types.proofs.Sizes.{max-regroup, round-sat, times-sat, limit-sat, align-some, largest-some, size-reach, array-size}
+use Rattle.types.proofs.Sizes.{max-regroup, times-sat, limit-sat, align-some, largest-some, size-reach, array-size}
 
 -- ---- a row from the rows before, in numbers that stay within 64 bits
 

@@ -1,20 +1,19 @@
 -- Rows and levels as the code makes them, in the form in which each function's proof meets them.
-use Prim.Native.Nat.{ℕ, suc, _+_, _-_, _*_, _/_, _≤_, _<_, min, max}
+use Prim.Native.Nat.{ℕ, suc, _+_, _-_, _≤_, _<_, min, max}
 use mathlib.Core.Path.{_≡_, ap, _∙_}
 use mathlib.Core.Bool.{Bool, true, false}
 use mathlib.Core.List.{List}
-use native.Mathlib.Nat.{div-add-mod', div-mul-le-self, mod-lt, suc-mul, mul-le-mul-right}
 use native.Mathlib.Omega.{arith}
 use borrow.Author.Tests.{lt-ltb, le-ltb}
 use lib.Dec.{eqb}
 use lib.ListN.{getD}
-use Rattle.shape.specs.Numbers.{accepted, most-word}
-use Rattle.shape.specs.Arithmetic.{plus, rounded}
+use Rattle.shape.specs.Numbers.{accepted}
+use Rattle.shape.specs.Arithmetic.{plus, times, rounded}
 use Rattle.checks.proofs.Check.{else-first, left-alone}
 use Rattle.types.specs.declared.Entry.{Entry}
 use Rattle.types.specs.declared.Row.{Row}
 use Rattle.types.specs.Entries.{nowhere, union-kind, array-kind, entryAt, membersFrom, hasMembers, meaningOf, referred}
-use Rattle.types.specs.Table.{row, rowAt, putRow, placeFrom, membersRow, elementsRow, times, rowOf, entryRefusal, filledRefusal, filled, levelAbove, levelOf}
+use Rattle.types.specs.Table.{row, rowAt, putRow, placeFrom, membersRow, elementsRow, rowOf, entryRefusal, filledRefusal, filled, levelAbove, levelOf}
 use Rattle.types.proofs.Reading.{members-start, members-step, members-end, means-several, means-repeated, means-one}
 
 -- ---- small ones
@@ -25,22 +24,6 @@ module _ (overlaid : Bool) (end align : ℕ) where
 
   pub place-behind : overlaid ≡ false → (r : ℕ) → r ≡ rounded end align → r ≡ placeFrom overlaid end align
   place-behind h r er = rw h er
-
-pub product-none : (a b : ℕ) → b ≡ 0 → 0 ≡ times a b
-product-none a b h = rw h (omega arith)
-
-module _ (a b : ℕ) (nz : b ≡ 0 → ⊥) where
-  pub product-past : most-word / b < a → most-word ≡ times a b
-  product-past h =
-      let m : suc (most-word / b) * b ≤ a * b = mul-le-mul-right b h in
-      let s : suc (most-word / b) * b ≡ most-word / b * b + b = suc-mul (most-word / b) b in
-      omega (arith, div-add-mod' most-word b, mod-lt most-word {m = b} (omega arith))
-
-  pub product-fits : a ≤ most-word / b → a * b ≤ most-word
-  product-fits h = let m : a * b ≤ most-word / b * b = mul-le-mul-right b h in omega (arith, div-mul-le-self most-word b)
-
-  pub product-is : a ≤ most-word / b → a * b ≡ times a b
-  product-is h = let m : a * b ≤ most-word = product-fits h in omega arith
 
 -- ---- levels
 

@@ -1,34 +1,20 @@
 -- The laws of a type's size and alignment, and of numbers that stay within 64 bits.
 use Prim.Native.Nat.{ℕ, zero, suc, _+_, _-_, _*_, _/_, _≤_, _<_, min, max}
 use mathlib.Core.Path.{_≡_, refl, ap, sym, _∙_}
-use mathlib.Core.Bool.{Bool, true, false}
-use mathlib.Core.Logic.{_⊎_, inl, inr, ⊎-elim}
+use mathlib.Core.Logic.{⊎-elim}
 use native.Mathlib.Nat.{mul-assoc, suc-mul, zero-mul}
 use native.Mathlib.Omega.{arith}
-use borrow.Author.Tests.{lt-ltb, le-ltb, ltb-true, ltb-false}
+use borrow.Author.Tests.{lt-ltb, le-ltb}
 use lib.Dec.{ltb}
 use Rattle.shape.specs.Numbers.{most-word, most-offset}
 use Rattle.shape.specs.Arithmetic.{roundUp}
-use Rattle.shape.proofs.Rounding.{round-least, round-beside, round-zero, round-again}
+use Rattle.shape.proofs.Rounding.{round-least, round-beside, round-zero, round-again, at-most}
 use Rattle.types.specs.Tree.{Tree, Forest, leaf, group, array, empty, child, alignOf, largestIn, reach, lastReach, sizeOf, furthestIn, reachOf, takesOf}
 
 pub max-regroup : (a b c : ℕ) → max (max a b) c ≡ max a (max b c)
 max-regroup a b c = omega arith
 
 -- ---- within 64 bits
-
-pub at-most : (x y : ℕ) → (x ≤ y) ⊎ (y < x)
-at-most x y = go (ltb y x) refl
-  where
-    go : (b : Bool) → ltb y x ≡ b → (x ≤ y) ⊎ (y < x)
-    go true e = inr (ltb-true y x e)
-    go false e = inl (ltb-false y x e)
-
-pub round-sat : (x a : ℕ) → 0 < a → min (roundUp (min x most-word) a) most-word ≡ min (roundUp x a) most-word
-round-sat x a p = ⊎-elim
-    (λ (h : x ≤ most-word). let e : min x most-word ≡ x = omega arith in rw e)
-    (λ (h : most-word < x). omega (arith, round-least (min x most-word) a p, round-least x a p))
-    (at-most x most-word)
 
 -- a product of what was held to a limit is held to it, as the product is
 pub times-sat : (n x w : ℕ) → min (n * min x w) w ≡ min (n * x) w

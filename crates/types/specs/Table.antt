@@ -8,7 +8,7 @@ use lib.ListN.{length, getD}
 use Rattle.shape.specs.declared.Piece.{Piece}
 use Rattle.shape.specs.Numbers.{accepted, bad-size, no-room, most-word, most-pieces}
 use Rattle.shape.specs.Words.{scalar, piece, pieceAt, pieceWords, putAt}
-use Rattle.shape.specs.Arithmetic.{plus, rounded}
+use Rattle.shape.specs.Arithmetic.{plus, times, rounded}
 use Rattle.checks.specs.Check.{refuse, orElse, unlessRefused, scalarRefusal}
 use Rattle.types.specs.declared.Entry.{Entry}
 use Rattle.types.specs.declared.Row.{Row}
@@ -55,9 +55,6 @@ membersRow tb overlaid end far align leaves (m ∷ ms) =
     (max align (rowAt tb m .align))
     (counted (plus leaves (rowAt tb m .leaves)))
     ms
-
-abbrev pub times : ℕ → ℕ → ℕ
-times a b = min (a * b) most-word
 
 abbrev pub elementsRow : Row → ℕ → Row
 elementsRow r n = row (times n (rounded (r .reach) (r .align))) (times n (rounded (r .reach) (r .align))) (r .align) (counted (times n (r .leaves)))

@@ -12,6 +12,7 @@ use shape::Scalar;
 use shape::TOO_DEEP;
 use shape::least;
 use shape::most;
+use shape::product;
 use shape::round_up;
 use shape::sum;
 ghost use mathlib.Core.Path.{_≡_};
@@ -23,7 +24,7 @@ ghost use Rattle.shape.specs.Words.{pieceAt};
 ghost use Rattle.checks.specs.Check.{unlessRefused};
 ghost use Rattle.types.specs.Entries.{nowhere, entryAt, membersFrom, hasMembers, meaningOf, allReferBack};
 ghost use Rattle.types.specs.Trees.{entries, sizeRefusal, listsRefusal, referencesRefusal};
-ghost use Rattle.types.specs.Table.{rowAt, putRow, placeFrom, membersRow, elementsRow, times, rowOf, entryRefusal, filledRefusal, filled, tableRefusal, measureRefusal, levelOf, levelAbove, Levelled};
+ghost use Rattle.types.specs.Table.{rowAt, putRow, placeFrom, membersRow, elementsRow, rowOf, entryRefusal, filledRefusal, filled, tableRefusal, measureRefusal, levelOf, levelAbove, Levelled};
 
 // Words of an entry, and of its row in the table.
 pub const ENTRY: usize = 4;
@@ -320,19 +321,6 @@ fn counted(n: u64) -> u64
     ensures { λ r. ⌜ r ≡ min n 1025 ⌝ }
 {
     least(n, checks::MOST_PIECES as u64 + 1)
-}
-
-// A product, or the largest number where it passes 64 bits.
-fn product(a: u64, b: u64) -> u64
-    ensures { λ r. ⌜ r ≡ times a b ⌝ }
-{
-    if b == 0 {
-        return 0;
-    }
-    if a > MOST_WORD / b {
-        return MOST_WORD;
-    }
-    a * b
 }
 
 // Whether an entry of this kind is a record or a union.

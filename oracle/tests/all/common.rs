@@ -26,3 +26,8 @@ pub fn printed(bytes: &[u8]) -> String {
 pub fn lines(sheet: &[&[u64]]) -> Vec<String> {
     printed(&bytes(sheet)).lines().map(str::to_string).collect()
 }
+
+/// The refusal of a line, if it has one: it stands before the two offsets.
+pub fn refusal(line: &str) -> Option<&str> {
+    line.starts_with("refused ").then(|| line.split(' ').nth_back(2)).flatten()
+}

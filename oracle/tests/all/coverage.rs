@@ -1,14 +1,20 @@
 //! Which rules a sheet decides by.
 
-use oracle::coverage;
-use oracle::generate;
-use oracle::records::FRESH;
+use oracle::records::{self, FRESH, RETURN, Record, SCALAR, VARIADIC_ARGUMENT};
+use oracle::{coverage, edge, generate};
 
 /// The sheet that is stored beside callsheet.
 fn stored() -> Vec<u8> {
     let mut sheet = Vec::new();
     generate::write(&mut sheet, 7, 50_000).expect("a vector takes all");
     sheet
+}
+
+/// The stored sheet with some of its records changed.
+fn changed(change: impl Fn(&mut Record)) -> Vec<u8> {
+    let mut records: Vec<Record> = stored().as_chunks().0.iter().map(records::from_bytes).collect();
+    records.iter_mut().for_each(change);
+    records::bytes(&records)
 }
 
 /// What is wrong with a sheet, a fault to a line.
@@ -25,20 +31,46 @@ fn the_stored_sheet_decides_by_every_rule() {
 #[test]
 fn an_empty_sheet_decides_by_none() {
     let faults = faults(&[]);
-    assert!(faults.len() > 500);
+    assert!(faults.len() > 1_000);
     assert!(faults.iter().all(|fault| fault.starts_with("never: ")));
 }
 
 #[test]
 fn a_row_that_is_left_out_is_named_and_no_other() {
-    let mut sheet = stored();
-    for record in sheet.chunks_mut(48) {
-        let word = |at: usize| u64::from_le_bytes(record[8 * at..8 * at + 8].try_into().unwrap());
-        if word(0) == FRESH && word(1) == 17 {
-            record[8] = 16;
+    let faults = faults(&changed(|record| {
+        if record[..2] == [FRESH, 17] {
+            record[1] = 16;
         }
-    }
-    let faults = faults(&sheet);
+    }));
     assert!(faults.contains(&"never: row 17 argument rule 2 fits".to_string()));
+    assert!(faults.contains(&"never: row 17 argument stack: scalar placed in part".to_string()));
     assert!(faults.iter().all(|fault| fault.starts_with("never: row 17 ")), "{faults:?}");
+}
+
+/// A scalar aligned to 16 goes where one aligned to 8 goes, but on the stack.
+#[test]
+fn a_rounding_that_is_left_out_is_named_on_every_row() {
+    let faults = faults(&changed(|record| {
+        let is_scalar = (RETURN..=VARIADIC_ARGUMENT).contains(&record[0]) && record[1] == SCALAR;
+        if is_scalar && record[4] == 16 {
+            record[4] = 8;
+        }
+    }));
+    for row in 0..30 {
+        let fault = format!("never: row {row} argument stack: scalar moved on to 16");
+        assert!(faults.contains(&fault), "{fault}");
+    }
+    let after_dots = "never: row 2 after the dots stack: scalar moved on to 16";
+    assert!(faults.contains(&after_dots.to_string()));
+    assert!(faults.iter().all(|fault| fault.contains("stack: ")), "{faults:?}");
+}
+
+/// Neither a random sheet nor the stored one gets there.
+#[test]
+fn a_full_stack_is_not_expected() {
+    let mut sheet = Vec::new();
+    edge::write(&mut sheet).expect("a vector takes all");
+    let unexpected: Vec<String> =
+        faults(&sheet).into_iter().filter(|fault| !fault.starts_with("never: ")).collect();
+    assert_eq!(unexpected, ["not expected: refusal 7"]);
 }

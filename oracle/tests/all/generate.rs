@@ -45,9 +45,31 @@ fn a_good_sheet_has_every_word_and_every_refusal() {
     let expected =
         ["fresh", "marked", "ignore", "direct", "pieces", "reference", "memory", "refused"];
     assert_eq!(words, HashSet::from(expected));
-    let refused = printed.lines().filter(|line| line.starts_with("refused"));
-    let refusals: HashSet<&str> = refused.filter_map(|line| line.split(' ').next_back()).collect();
+    let refusals: HashSet<&str> = printed.lines().filter_map(common::refusal).collect();
     assert_eq!(refusals, HashSet::from(["1", "4", "5", "6", "9"]));
+}
+
+/// The stack offset goes from line to line of a call, and never back.
+#[test]
+fn the_offsets_of_a_good_sheet_hang_together() {
+    let printed = common::printed(&good(3, 20_000));
+    let mut last = 0;
+    let mut largest = 0;
+    for line in printed.lines() {
+        let (rest, after) = line.rsplit_once(' ').expect("the offset after");
+        let (rest, before) = rest.rsplit_once(' ').expect("the offset before");
+        let [before, after] = [before, after].map(|word| word.parse::<u64>().expect("a number"));
+        let is_refused_fresh = rest == "refused 0 0 0 0 0 0 1";
+        if rest.starts_with("fresh ") || is_refused_fresh {
+            last = 0;
+        }
+        let stays =
+            ["fresh", "refused", "marked", "ignore"].iter().any(|word| rest.starts_with(word));
+        assert!(before == last && after >= before && !(stays && after > before), "{line}");
+        last = after;
+        largest = largest.max(after);
+    }
+    assert!(largest > 16_777_216, "{largest}");
 }
 
 /// The aggregates of a good sheet: size, pieces, and the refusal, 0 where there is none.
@@ -63,8 +85,7 @@ fn aggregates(sheet: &[u8]) -> Vec<(u64, Vec<Record>, u64)> {
         let line = lines.next().expect("a line for each operation");
         if ![FRESH, MARK].contains(&record[0]) && record[1] == AGGREGATE {
             let refusal =
-                line.strip_prefix("refused ").and_then(|rest| rest.split(' ').next_back());
-            let refusal = refusal.map_or(0, |number| number.parse().expect("a number"));
+                common::refusal(line).map_or(0, |number| number.parse().expect("a number"));
             aggregates.push((record[2], Vec::new(), refusal));
         }
     }

@@ -239,8 +239,8 @@ fn named_parameters_leave_what_they_leave_on_a_sheet() {
                 let last = lines.last().expect("the fresh call has a line");
                 let left: Vec<String> = last.split(' ').skip(1).take(2).map(String::from).collect();
                 assert_eq!(left, [numbers[1], numbers[2]].map(|count| count.to_string()), "{last}");
-                let refused = lines.iter().filter(|line| line.starts_with("refused "));
-                refusals.extend(refused.map(|line| line[line.len() - 1..].to_string()));
+                let refused = lines.iter().filter_map(|line| common::refusal(line));
+                refusals.extend(refused.map(String::from));
             }
             _ => {}
         }

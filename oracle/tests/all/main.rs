@@ -3,6 +3,7 @@
 mod calls;
 mod common;
 mod coverage;
+mod edge;
 mod every_count;
 mod find;
 mod generate;
@@ -10,4 +11,5 @@ mod layouts;
 mod lists;
 mod shapes;
 mod sheet;
+mod stack;
 mod types;

@@ -5,7 +5,10 @@ use crate::common::{bytes, lines, printed};
 #[test]
 fn the_example() {
     let sheet: &[&[u64]] = &[&[0, 0], &[3, 2, 16, 8, 0, 2], &[5, 0, 8, 8, 0], &[5, 2, 8, 8, 8]];
-    assert_eq!(printed(&bytes(sheet)), "fresh 6 8 0 0 0 0\npieces 5 7 0 1 0 1 0:0:8 2:8:0\n");
+    assert_eq!(
+        printed(&bytes(sheet)),
+        "fresh 6 8 0 0 0 0 0 0\npieces 5 7 0 1 0 1 0:0:8 2:8:0 0 0\n"
+    );
 }
 
 #[test]
@@ -25,11 +28,11 @@ fn words_that_nobody_reads_may_hold_anything() {
         &[5, 0, 8, 8, 0, any],
     ];
     let expected = [
-        "fresh 8 8 0 0 0 0",
-        "marked 8 8 0 0 0 0",
-        "ignore 8 8 0 0 0 0",
-        "direct 7 8 0 1 0 0",
-        "pieces 6 8 0 1 0 0 0:0:8",
+        "fresh 8 8 0 0 0 0 0 0",
+        "marked 8 8 0 0 0 0 0 0",
+        "ignore 8 8 0 0 0 0 0 0",
+        "direct 7 8 0 1 0 0 0 0",
+        "pieces 6 8 0 1 0 0 0:0:8 0 0",
     ];
     assert_eq!(lines(sheet), expected);
 }
@@ -38,26 +41,36 @@ fn words_that_nobody_reads_may_hold_anything() {
 fn a_refused_fresh_closes_the_call() {
     for description in [30, 31, 256, 1 << 32, u64::MAX] {
         let sheet: &[&[u64]] = &[&[0, 0], &[0, description], &[1]];
-        assert_eq!(lines(sheet), ["fresh 6 8 0 0 0 0", "refused 0 0 0 0 0 0 1", "stop"]);
+        assert_eq!(lines(sheet), ["fresh 6 8 0 0 0 0 0 0", "refused 0 0 0 0 0 0 1 0 0", "stop"]);
     }
 }
 
 #[test]
 fn a_fresh_over_an_open_call_replaces_it() {
-    let sheet: &[&[u64]] = &[&[0, 0], &[3, 1, 0, 8, 8], &[0, 9], &[3, 1, 0, 4, 4]];
-    assert_eq!(lines(sheet)[2..], ["fresh 3 0 0 0 0 0", "direct 2 0 0 1 0 0"]);
+    // The x87 value is on the stack of the first call, the next on that of the second.
+    let x87: &[u64] = &[3, 1, 3, 16, 16];
+    let sheet: &[&[u64]] = &[&[0, 0], x87, &[0, 9], &[3, 1, 0, 4, 4], &[3, 1, 0, 16, 4]];
+    let expected = [
+        "fresh 6 8 0 0 0 0 0 0",
+        "direct 6 8 0 0 0 0 0 16",
+        "fresh 3 0 0 0 0 0 0 0",
+        "direct 2 0 0 1 0 0 0 0",
+        "direct 2 0 0 0 0 0 0 16",
+    ];
+    assert_eq!(lines(sheet), expected);
 }
 
-/// The refusal of one operation on row 0 with five integer registers left, which the operation
-/// after it still finds.
+/// The refusal of one operation on row 0 with five integer registers left and 16 bytes on the stack,
+/// which the operations after it still find.
 fn refusal(operation: &[&[u64]]) -> String {
-    let int8: &[u64] = &[3, 1, 0, 8, 8];
-    let mut sheet: Vec<&[u64]> = vec![&[0, 0], int8];
+    let (int8, x87): (&[u64], &[u64]) = (&[3, 1, 0, 8, 8], &[3, 1, 3, 16, 16]);
+    let mut sheet: Vec<&[u64]> = vec![&[0, 0], int8, x87];
     sheet.extend(operation);
-    sheet.push(int8);
+    sheet.extend([int8, x87]);
     let lines = lines(&sheet);
-    assert_eq!(lines[3], "direct 4 8 0 1 0 0");
-    lines[2].strip_prefix("refused 5 8 0 0 0 0 ").expect("a refusal").to_string()
+    assert_eq!(lines[4..], ["direct 4 8 0 1 0 0 16 16", "direct 4 8 0 0 0 0 16 32"]);
+    let refusal = lines[3].strip_prefix("refused 5 8 0 0 0 0 ").expect("a refusal");
+    refusal.strip_suffix(" 16 16").expect("the offset that it was").to_string()
 }
 
 #[test]
@@ -98,7 +111,9 @@ fn the_limits_themselves_pass() {
     sheet.push(&[3, 2, 16_777_216, 4_096, 3, 1_024]);
     sheet.extend(vec![&[5, 4, 64, 4_096, 16_777_152][..]; 512]);
     sheet.extend(vec![&[5, 4, 0, 4_096, 16_777_216][..]; 512]);
-    let expected = ["fresh 6 8 0 0 0 0", "direct 0 8 0 6 0 0", "memory 0 8 0 0 0 0"];
+    // Of the scalar 48 bytes are in registers, and the aggregate starts at the next 4,096.
+    let expected =
+        ["fresh 6 8 0 0 0 0 0 0", "direct 0 8 0 6 0 0 0 16", "memory 0 8 0 0 0 0 16 16781312"];
     assert_eq!(lines(&sheet), expected);
 }
 
@@ -135,18 +150,18 @@ fn a_piece_ends_inside_the_shape_or_is_refused() {
         &[5, 0, 0, 1, 1],
     ];
     let expected = [
-        "fresh 6 8 0 0 0 0",
-        "pieces 5 8 0 1 0 0 0:0:8",
-        "refused 5 8 0 0 0 0 9",
-        "refused 5 8 0 0 0 0 9",
-        "memory 5 8 0 0 0 0",
-        "refused 5 8 0 0 0 0 9",
-        "refused 5 8 0 0 0 0 9",
-        "memory 5 8 0 0 0 0",
-        "refused 5 8 0 0 0 0 9",
-        "ignore 5 8 0 0 0 0",
-        "refused 5 8 0 0 0 0 9",
-        "refused 5 8 0 0 0 0 9",
+        "fresh 6 8 0 0 0 0 0 0",
+        "pieces 5 8 0 1 0 0 0:0:8 0 0",
+        "refused 5 8 0 0 0 0 9 0 0",
+        "refused 5 8 0 0 0 0 9 0 0",
+        "memory 5 8 0 0 0 0 0 64",
+        "refused 5 8 0 0 0 0 9 64 64",
+        "refused 5 8 0 0 0 0 9 64 64",
+        "memory 5 8 0 0 0 0 64 72",
+        "refused 5 8 0 0 0 0 9 72 72",
+        "ignore 5 8 0 0 0 0 72 72",
+        "refused 5 8 0 0 0 0 9 72 72",
+        "refused 5 8 0 0 0 0 9 72 72",
     ];
     assert_eq!(lines(sheet), expected);
 }
@@ -168,12 +183,12 @@ fn at_the_last_offset_a_piece_has_no_size() {
         &[5, 0, 64, 1, 16_777_152],
     ];
     let expected = [
-        "fresh 6 8 0 0 0 0",
-        "memory 6 8 0 0 0 0",
-        "refused 6 8 0 0 0 0 9",
-        "refused 6 8 0 0 0 0 9",
-        "memory 6 8 0 0 0 0",
-        "memory 6 8 0 0 0 0",
+        "fresh 6 8 0 0 0 0 0 0",
+        "memory 6 8 0 0 0 0 0 16777216",
+        "refused 6 8 0 0 0 0 9 16777216 16777216",
+        "refused 6 8 0 0 0 0 9 16777216 16777216",
+        "memory 6 8 0 0 0 0 16777216 33554432",
+        "memory 6 8 0 0 0 0 33554432 50331648",
     ];
     assert_eq!(lines(sheet), expected);
 }
@@ -200,7 +215,8 @@ fn array(size: u64, count: u64) -> Vec<[u64; 6]> {
 
 #[test]
 fn the_last_of_1024_pieces() {
-    for (size, expected) in [(8_191, "refused 6 8 0 0 0 0 9"), (8_192, "memory 6 8 0 0 0 0")] {
+    let cases = [(8_191, "refused 6 8 0 0 0 0 9 0 0"), (8_192, "memory 6 8 0 0 0 0 0 8192")];
+    for (size, expected) in cases {
         let records = array(size, 1_024);
         let mut sheet: Vec<&[u64]> = vec![&[0, 0]];
         sheet.extend(records.iter().map(|record| &record[..]));
@@ -218,7 +234,8 @@ fn every_row_refuses_a_piece_past_the_shape() {
             // The first leaves the call as it was, marked or not, so that the second finds it.
             let without = lines(&[&[fresh], inside].concat());
             let with = lines(&[&[fresh], past, &[&[1]], past, inside].concat());
-            let refused = format!("{} 9", with[0].replace("fresh", "refused"));
+            let counts = with[0].strip_suffix(" 0 0").expect("a fresh call's offset");
+            let refused = format!("{} 9 0 0", counts.replace("fresh", "refused"));
             assert_eq!([&with[1], &with[3]], [&refused; 2], "row {row}, operation {operation}");
             assert_eq!(with[4], without[1], "row {row}, operation {operation}");
         }
@@ -264,7 +281,7 @@ fn stops(records: &[&[u64]]) {
     let mut sheet: Vec<&[u64]> = vec![&[0, 0]];
     sheet.extend(records);
     sheet.push(&[0, 1]);
-    assert_eq!(lines(&sheet), ["fresh 6 8 0 0 0 0", "stop"], "{records:?}");
+    assert_eq!(lines(&sheet), ["fresh 6 8 0 0 0 0 0 0", "stop"], "{records:?}");
 }
 
 #[test]
@@ -290,7 +307,7 @@ fn a_stray_or_missing_piece_stops() {
     stops(&[&[3, 2, 16, 8, 0, 2], piece]);
     assert_eq!(lines(&[piece]), ["stop"]);
     let one_more = lines(&[&[0, 0], &[3, 2, 8, 8, 0, 1], piece, piece]);
-    assert_eq!(one_more[1..], ["pieces 5 8 0 1 0 0 0:0:8", "stop"]);
+    assert_eq!(one_more[1..], ["pieces 5 8 0 1 0 0 0:0:8 0 0", "stop"]);
     assert_eq!(lines(&[&[0, 0], &[3, 2, 8, 8, 0, 1]])[1..], ["stop"]);
 }
 
@@ -314,7 +331,7 @@ fn a_stop_comes_before_a_refusal() {
     stops(&records.iter().map(|record| &record[..]).collect::<Vec<_>>());
     // Where no call is open, nothing is refused but the fresh one.
     let closed: &[&[u64]] = &[&[0, 30], &[3, 2, 8, 8, 0, 1], &[5, 0, 8, 8, 1]];
-    assert_eq!(lines(closed), ["refused 0 0 0 0 0 0 1", "stop"]);
+    assert_eq!(lines(closed), ["refused 0 0 0 0 0 0 1 0 0", "stop"]);
 }
 
 #[test]
@@ -331,8 +348,8 @@ fn a_short_record_stops() {
     for length in 1..sheet.len() {
         let expected = match length {
             0..48 => "stop\n",
-            48 => "fresh 6 8 0 0 0 0\n",
-            _ => "fresh 6 8 0 0 0 0\nstop\n",
+            48 => "fresh 6 8 0 0 0 0 0 0\n",
+            _ => "fresh 6 8 0 0 0 0 0 0\nstop\n",
         };
         assert_eq!(printed(&sheet[..length]), expected, "{length} bytes");
     }

@@ -1,6 +1,6 @@
--- `check_aggregate` checks what is left, then the shape.
+-- `check_aggregate` checks the call, then the shape.
 use borrow.Author.Needs.{needs}
-use Rattle.classify.proofs.Steps.{checked-left, checked-shape}
+use Rattle.classify.proofs.Steps.{checked-call, checked-shape}
 use Rattle.classify.proofs.check_aggregate.Statement.{statement}
 use Rattle.classify.proofs.check_aggregate.Tie as tie
 
@@ -9,6 +9,6 @@ check-aggregate-spec =
     tie.close
     (tie.spec
     (λ c κs. search needs)
-    (λ c. search (checked-left))
+    (λ c. search (checked-call))
     (λ c κs. search needs)
     (λ c. search (checked-shape)))

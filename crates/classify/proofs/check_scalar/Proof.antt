@@ -1,6 +1,6 @@
--- `check_scalar` checks what is left, then the scalar.
+-- `check_scalar` checks the call, then the scalar.
 use borrow.Author.Needs.{needs}
-use Rattle.classify.proofs.Steps.{checked-left, checked-scalar}
+use Rattle.classify.proofs.Steps.{checked-call, checked-scalar}
 use Rattle.classify.proofs.check_scalar.Statement.{statement}
 use Rattle.classify.proofs.check_scalar.Tie as tie
 
@@ -9,6 +9,6 @@ check-scalar-spec =
     tie.close
     (tie.spec
     (λ c κs. search needs)
-    (λ c. search (checked-left))
+    (λ c. search (checked-call))
     (λ c κs. search needs)
     (λ c. search (checked-scalar)))

@@ -1,6 +1,6 @@
--- `finish` refuses what doesn't fit, and else writes and answers.
+-- `finish` refuses what the stack has no room for, and else writes and answers.
 use borrow.Author.Needs.{needs}
-use Rattle.classify.proofs.Steps.{slots-short, slots-fit}
+use Rattle.classify.proofs.Steps.{stack-short, stack-fits}
 use Rattle.classify.proofs.finish.Statement.{statement}
 use Rattle.classify.proofs.finish.Tie as tie
 
@@ -9,9 +9,8 @@ finish-spec =
     tie.close
     (tie.spec
     (λ c κs. search needs)
-    (λ c κs. search needs)
-    (λ c. search (slots-short))
+    (λ c. search (stack-short))
     (λ c κs. search needs)
     (λ c κs. search needs)
     (λ c. search needs)
-    (λ c. search (slots-fit)))
+    (λ c. search (stack-fits)))

@@ -1,9 +1,9 @@
 -- `product` is the product within 64 bits.
 use native.Mathlib.Omega.{arith}
-use Rattle.types.proofs.Rows.{product-none, product-past, product-fits, product-is}
+use Rattle.shape.proofs.Rounding.{product-none, product-past, product-fits, product-is}
 use borrow.Author.Needs.{needs}
-use Rattle.types.proofs.product.Statement.{statement}
-use Rattle.types.proofs.product.Tie as tie
+use Rattle.shape.proofs.product.Statement.{statement}
+use Rattle.shape.proofs.product.Tie as tie
 
 pub product-spec : {M : Type 1} → statement M
 product-spec =

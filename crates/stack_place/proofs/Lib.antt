@@ -1,0 +1,3 @@
+pub mod Placing
+pub mod Standing
+mod Unique
