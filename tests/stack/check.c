@@ -20,8 +20,7 @@
 
 #include "barkpaddle.h"
 #include "check.h"
-
-#define COUNT(array) (sizeof(array) / sizeof((array)[0]))
+#include "compiled.h"
 
 /* How often each function is called, each time with other values, until something isn't found. */
 #define ROUNDS 16
@@ -344,7 +343,7 @@ void see(const void *bytes, uint64_t size)
 
 /* ---- what was seen ---- */
 
-static unsigned long calls, values, results, failed;
+static unsigned long calls, values, results;
 static unsigned long of_type[COUNT(types)];
 static unsigned long in_integers, in_floats, on_stack, holes, behind_dots, back_in_memory, back_in_st0;
 
@@ -682,14 +681,6 @@ static void make_calls(void)
     }
 }
 
-static void was_seen(const char *what, unsigned long count, unsigned long least)
-{
-    if (count >= least)
-        return;
-    failed++;
-    printf("FAILED %s: seen %lu times, and %lu are wanted\n", what, count, least);
-}
-
 /* Every type was passed, and something was in each place; or this finds less than it says. */
 static void check_counts(void)
 {
@@ -705,15 +696,6 @@ static void check_counts(void)
     was_seen("values behind the dots", behind_dots, 6 * ROUNDS);
     was_seen("a result in memory", back_in_memory, 6 * ROUNDS);
     was_seen("a result on the x87 stack", back_in_st0, 3 * ROUNDS);
-}
-
-static void print_compiler(void)
-{
-#ifdef __clang__
-    printf("clang %d.%d.%d", __clang_major__, __clang_minor__, __clang_patchlevel__);
-#else
-    printf("gcc %d.%d.%d", __GNUC__, __GNUC_MINOR__, __GNUC_PATCHLEVEL__);
-#endif
 }
 
 static void print_left_out(void)

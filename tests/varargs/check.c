@@ -18,8 +18,7 @@
 
 #include "barkpaddle.h"
 #include "check.h"
-
-#define COUNT(array) (sizeof(array) / sizeof((array)[0]))
+#include "compiled.h"
 
 static uint64_t round_up(uint64_t number, uint64_t to)
 {
@@ -273,7 +272,7 @@ static uint64_t end_of(int scalar)
 
 /* ---- what was seen ---- */
 
-static unsigned long calls, scalars, failed;
+static unsigned long calls, scalars;
 static unsigned long in_save_area[COUNT(types)], in_argument_area[COUNT(types)];
 static unsigned long from_gp_offset[7], from_fp_offset[9];
 static unsigned long wide_with_one_place, holes, named_on_stack, hidden_pointers, short_areas;
@@ -570,14 +569,6 @@ void note(const value *v, va_list list)
 
 /* ---- all of it ---- */
 
-static void was_seen(const char *what, unsigned long count, unsigned long least)
-{
-    if (count >= least)
-        return;
-    failed++;
-    printf("FAILED %s: seen %lu times, and %lu are wanted\n", what, count, least);
-}
-
 /* All calls were made, from every start; every type was often in each area that it can be in, and so was every odd place; or this compares
  * less than it says. */
 static void check_counts(void)
@@ -599,15 +590,6 @@ static void check_counts(void)
     was_seen("a named parameter on the stack", named_on_stack, 500);
     was_seen("a hidden pointer", hidden_pointers, 500);
     was_seen("an area that is a byte short", short_areas, 1000);
-}
-
-static void print_compiler(void)
-{
-#ifdef __clang__
-    printf("clang %d.%d.%d", __clang_major__, __clang_minor__, __clang_patchlevel__);
-#else
-    printf("gcc %d.%d.%d", __GNUC__, __GNUC_MINOR__, __GNUC_PATCHLEVEL__);
-#endif
 }
 
 static void print_departures(void)

@@ -1,6 +1,6 @@
 -- The laws of the parts of an operation: each way out of the code is one line of a definition. A law's premises are the tests and the callees'
 -- promises as the code has them.
-use Prim.Native.Nat.{ℕ, zero, suc, _/_, _≤_, _<_}
+use Prim.Native.Nat.{ℕ, zero, suc, _/_, _≤_, _<_, min}
 use mathlib.Core.Path.{_≡_, refl, sym, _∙_}
 use mathlib.Core.List.{List, []}
 use mathlib.Core.Bool.{Bool, true, false}
@@ -10,7 +10,7 @@ use Rattle.shape.specs.declared.Arg as args
 use Rattle.shape.specs.declared.Piece.{Piece}
 use Rattle.shape.specs.declared.Scalar.{Scalar}
 use Rattle.shape.specs.declared.Shape.{Shape}
-use Rattle.shape.specs.Numbers.{accepted, bad-abi, bad-call, no-room}
+use Rattle.shape.specs.Numbers.{most-word, accepted, bad-abi, bad-call, no-room}
 use Rattle.shape.specs.Words.{piecesOf}
 use Rattle.checks.specs.Check.{scalarRefusal, shapeRefusal}
 use Rattle.checks.proofs.Check.{else-first, left-alone}
@@ -37,7 +37,7 @@ use Rattle.stack_align.specs.InMemory.{inMemoryBy}
 use Rattle.stack_place.specs.declared.Area.{Area}
 use Rattle.stack_place.specs.declared.Placed.{Placed}
 use Rattle.stack_place.specs.Stacked.{most-stack, aggregateBytes, isHeld, aggregateRounding, stands, nowhere, placedOf, returnPlaced, scalarPlaced}
-use Rattle.stack_place.proofs.Placing.{held-none, place-none}
+use Rattle.stack_place.proofs.Placing.{held-none, place-none, place-capped}
 use Rattle.classify.specs.declared.Call.{Call}
 use Rattle.classify.specs.declared.Answer.{Answer}
 use Rattle.classify.specs.declared.InMemory.{InMemory}
@@ -189,14 +189,15 @@ module _ (T : Terms) (dots : Dots) (stack : ℕ) (d : Decision) (r : Placed) whe
       unfolding stackedOf scalarPlaced
       scalar-stands s er = let er′ : r ≡ scalarPlaced (areaOf T dots) stack (d .way) (d .spent) s = rw ea at er in rw h er′
 
-      pub aggregate-stands : (shape : Shape) (ps : List Piece) (n : ℕ) → n ≡ aggregateBytes (d .way) (d .spent) (d .count) (shape .size) (a .width)
+      pub aggregate-stands : (shape : Shape) (ps : List Piece) (n : ℕ) → n ≡ min (aggregateBytes (d .way) (d .spent) (d .count) (shape .size) (a .width)) most-word
           → (align : ℕ) → align ≡ inMemoryBy T rules shape ps → r ≡ placedOf a stack n (aggregateRounding (d .way) a align)
           → r ≡ stackedOf T rules returning dots stack (parts.aggregateArg shape) ps (d .way) (d .spent) (d .count)
       unfolding stackedOf
       aggregate-stands shape ps n en align el er =
-          let en′ : n ≡ aggregateBytes (d .way) (d .spent) (d .count) (shape .size) (T .banks .«integer_width») = rw ea at en in
+          let bytes : ℕ = aggregateBytes (d .way) (d .spent) (d .count) (shape .size) (T .banks .«integer_width») in
+          let en′ : n ≡ min bytes most-word = rw ea at en in
           let er′ : r ≡ placedOf (areaOf T dots) stack n (aggregateRounding (d .way) (areaOf T dots) align) = rw ea at er in
-          rw (h, ← en′, ← el) er′
+          rw (h, ← el) (er′ ∙ (rw en′ (place-capped (areaOf T dots) stack bytes _)))
 
 -- ---- the writing and the answer
 

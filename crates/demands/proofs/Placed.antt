@@ -13,7 +13,6 @@ use Rattle.shape.specs.declared.Arg.{Arg}
 use Rattle.shape.specs.declared.Arg.the-variants.{Void, Scalar, Aggregate}
 use Rattle.shape.specs.declared.Shape.{Shape}
 use Rattle.shape.specs.Numbers.{accepted, bad-call, no-room}
-use Rattle.shape.specs.Arithmetic.{times}
 use Rattle.shape.specs.Words.{piecesOf}
 use Rattle.checks.specs.Check.{refuse, orElse}
 use Rattle.slots.specs.Words.{slotSize}
@@ -62,28 +61,27 @@ module _ (T : Terms) (a : Answer) (spent : Spent) (es : a .outcome .spent ≡ sp
   held size true e h = inl (rw es (ltb-true _ _ e))
   held size false e h = inr (rw es (omega arith))
 
-  slots-held : rangeOf a .bytes ≤ most-stack → times w (a .outcome .slots - spent .«integers_given» - spent .«floats_given») ≤ rangeOf a .bytes → SlotsHeld w a
-  slots-held within h =
+  slots-held : w * (a .outcome .slots - spent .«integers_given» - spent .«floats_given») ≤ rangeOf a .bytes → SlotsHeld w a
+  slots-held h =
       let n : ℕ = a .outcome .slots in
       let g : ℕ = spent .«integers_given» + spent .«floats_given» in
       let beyond : ℕ = n - spent .«integers_given» - spent .«floats_given» in
-      let exact : w * beyond ≤ rangeOf a .bytes = omega arith in
       let split : w * (g + beyond) ≡ w * g + w * beyond = mul-comm w (g + beyond) ∙ add-mul g beyond w ∙ ap₂ _+_ (mul-comm g w) (mul-comm beyond w) in
       let most : w * n ≤ w * (g + beyond) = mul-le-mul-left w (omega arith) in
       rw es (omega arith)
 
-  held-by : (arg : Arg) (way : Way) → rangeOf a .bytes ≤ most-stack → bytesFor T false arg way spent (a .outcome .slots) ≤ rangeOf a .bytes → NothingLost arg way w a
-  held-by Void way within h = tt
-  held-by (Scalar s) Ignore within h = tt
-  held-by (Scalar s) Direct within h = held (s .size) _ refl h
-  held-by (Scalar s) Pieces within h = held (s .size) _ refl h
-  held-by (Scalar s) Reference within h = address _ refl h
-  held-by (Scalar s) Memory within h = h
-  held-by (Aggregate shape) Ignore within h = tt
-  held-by (Aggregate shape) Direct within h = h
-  held-by (Aggregate shape) Pieces within h = slots-held within h
-  held-by (Aggregate shape) Reference within h = address _ refl h
-  held-by (Aggregate shape) Memory within h = h
+  held-by : (arg : Arg) (way : Way) → bytesFor T false arg way spent (a .outcome .slots) ≤ rangeOf a .bytes → NothingLost arg way w a
+  held-by Void way h = tt
+  held-by (Scalar s) Ignore h = tt
+  held-by (Scalar s) Direct h = held (s .size) _ refl h
+  held-by (Scalar s) Pieces h = held (s .size) _ refl h
+  held-by (Scalar s) Reference h = address _ refl h
+  held-by (Scalar s) Memory h = h
+  held-by (Aggregate shape) Ignore h = tt
+  held-by (Aggregate shape) Direct h = h
+  held-by (Aggregate shape) Pieces h = slots-held h
+  held-by (Aggregate shape) Reference h = address _ refl h
+  held-by (Aggregate shape) Memory h = h
 
 -- of an answer that is accepted
 answer-held : (checks : ℕ) (T : Terms) (rules : List Rule) (dots : Dots) (c : Call) (arg : Arg) (words out : List ℕ) (p : Passed) (spent : Spent)
@@ -95,7 +93,7 @@ answer-held checks T rules dots c arg words out p spent z =
     let a = accepted-so checks c account out z in
     let stands = stacked-stands T rules false dots (c .stack) arg (piecesOf words) (wayOf (p .pass)) spent (length (passSlots (p .pass))) in
     rw (a .answer, back (wayOf (p .pass)))
-    (held-by T (answers.acceptedAnswer c account) spent refl arg (wayOf (p .pass)) (stands .bytes-within)
+    (held-by T (answers.acceptedAnswer c account) spent refl arg (wayOf (p .pass))
     (omega (arith, stands .whole (a .stands), length-least (areaOf T dots) (bytesFor T false arg (wayOf (p .pass)) spent (length (passSlots (p .pass)))))))
 
 pub nothing-is-lost : (source : ℕ) (D : Description) (arg : Arg) (op : Operation) → Asks arg op → (c : Call) → answerBy source D op c .outcome .refusal ≡ accepted

@@ -230,7 +230,7 @@ pub record LedgerBy (source : ℕ) (D : Description) (c : Call) (past : List Ans
       → (b : Bank) → (runAt b (D .banks) c past k .passes ≡ 0) × (runAt b (D .banks) c past k .gives ≡ 0)
   pub refused-keeps-call : (k : ℕ) (a : Answer) → getElem? past k ≡ some a → isRefused a ≡ true → a .next ≡ callAfter c (take k past)
   -- the call handed back has the number that the first had, and passes the checks of the next operation: no count left is above the bank's
-  -- start, and it is marked only where the description uses the mark
+  -- start, it is marked only where the description uses the mark, and its offset is within the limit (`below-limit`)
   pub same-abi : callAfter c past .abi ≡ c .abi
   pub acceptable : callRefusalBy source D (callAfter c past) ≡ accepted
   pub never-above : (b : Bank) → leftIn b (callAfter c past) ≤ startOf b (D .banks)

@@ -20,6 +20,7 @@ use Rattle.spend.specs.declared.Way.{Way}
 use Rattle.spend.specs.declared.Way.the-variants.{Ignore, Direct, Pieces, Reference, Memory}
 use Rattle.stack_place.specs.declared.Area.{Area}
 use Rattle.stack_place.specs.declared.Placed.{Placed}
+use Rattle.stack_place.proofs.Standing.{length-least}
 use Rattle.stack_place.specs.Stacked.{most-stack, pointerBytes, addressBytes, returnBytes, scalarRest, scalarBytes, slotsBeyond, aggregateBytes, isHeld, valueRounding, scalarRounding, aggregateRounding, roundingOf, inWords, lengthOf, stands, nowhere, noRoom, from, behind, placedOf, returnPlaced, scalarPlaced}
 
 -- ---- how many bytes
@@ -41,14 +42,29 @@ module _ (spent : Spent) (w : ℕ) where
     pub scalar-pointer : (way : Way) (size : ℕ) → way ≡ Reference → r ≡ scalarBytes way spent size w
     scalar-pointer way size e = rw e er
 
-    pub aggregate-pointer : (way : Way) (slots size : ℕ) → way ≡ Reference → r ≡ aggregateBytes way spent slots size w
-    aggregate-pointer way slots size e = rw e er
+    pub aggregate-pointer : (way : Way) (slots size : ℕ) → way ≡ Reference → w ≤ most-word → r ≡ min (aggregateBytes way spent slots size w) most-word
+    aggregate-pointer way slots size e l = rw (e, er) (go (eqb (spent .«integers_given») 0))
+      where
+        go : (b : Bool) → cond b w 0 ≡ min (cond b w 0) most-word
+        go true = omega arith
+        go false = refl
 
   pub return-address : (way : Way) (pointer : ReturnPointer) → way ≡ Reference → (r : ℕ) → r ≡ addressBytes pointer spent w → r ≡ returnBytes way pointer spent w
   return-address way pointer e r er = rw e er
 
-  pub aggregate-slots : (way : Way) (slots size : ℕ) → way ≡ Pieces → (b : ℕ) → b ≡ slotsBeyond spent slots → (r : ℕ) → r ≡ times w b → r ≡ aggregateBytes way spent slots size w
+  pub aggregate-slots : (way : Way) (slots size : ℕ) → way ≡ Pieces → (b : ℕ) → b ≡ slotsBeyond spent slots → (r : ℕ) → r ≡ times w b
+      → r ≡ min (aggregateBytes way spent slots size w) most-word
   aggregate-slots way slots size e b eb r er = rw (e, ← eb) er
+
+  pub aggregate-ignored : (way : Way) (slots size : ℕ) → way ≡ Ignore → 0 ≡ min (aggregateBytes way spent slots size w) most-word
+  aggregate-ignored way slots size e = rw e
+
+  module _ (way : Way) (slots size : ℕ) (l : size ≤ most-word) where
+    pub aggregate-direct : way ≡ Direct → size ≡ min (aggregateBytes way spent slots size w) most-word
+    aggregate-direct e = rw e (omega arith)
+
+    pub aggregate-memory : way ≡ Memory → size ≡ min (aggregateBytes way spent slots size w) most-word
+    aggregate-memory e = rw e (omega arith)
 
   module _ (size : ℕ) where
     pub rest-in-float : 0 < spent .«floats_given» → 0 ≡ scalarRest spent size w
@@ -180,18 +196,24 @@ module _ (stack bytes rounding : ℕ) (some : bytes ≡ 0 → ⊥) (at : ℕ) (e
       let f : next ≡ start + bytes = omega arith in
       rw (e, f, ne-eqb bytes 0 some, le-ltb most-stack (start + bytes) (omega arith))
 
--- a length that stops at 64 bits has no more room than the whole
-capped : (stack bytes rounding : ℕ) → behind stack (min bytes most-word) rounding ≡ behind stack bytes rounding
+-- what is as long as the largest number, or longer, has no room
+past : (stack rounding bytes : ℕ) → most-word ≤ bytes → behind stack bytes rounding ≡ noRoom stack
 unfolding behind
+past stack rounding bytes h = rw (ne-eqb bytes 0 (λ z. omega arith), lt-ltb most-stack (roundUp stack rounding + bytes) (omega arith))
+
+-- so a length that stops at 64 bits has no more room than the whole, nor have bytes that do
+capped : (stack bytes rounding : ℕ) → behind stack (min bytes most-word) rounding ≡ behind stack bytes rounding
 capped stack bytes rounding = ⊎-elim
     (λ (h : bytes ≤ most-word). let e : min bytes most-word ≡ bytes = omega arith in rw e)
+    (λ (h : most-word < bytes). past stack rounding (min bytes most-word) (omega arith) ∙ sym (past stack rounding bytes (omega arith)))
+    (at-most bytes most-word)
+
+pub place-capped : (area : Area) (stack bytes rounding : ℕ) → placedOf area stack (min bytes most-word) rounding ≡ placedOf area stack bytes rounding
+place-capped area stack bytes rounding = ⊎-elim
+    (λ (h : bytes ≤ most-word). let e : min bytes most-word ≡ bytes = omega arith in rw e)
     (λ (h : most-word < bytes).
-    rw (
-      ne-eqb (min bytes most-word) 0 (λ z. omega arith),
-      lt-ltb most-stack (roundUp stack rounding + min bytes most-word) (omega arith),
-      ne-eqb bytes 0 (λ z. omega arith),
-      lt-ltb most-stack (roundUp stack rounding + bytes) (omega arith),
-    ))
+    past stack (roundingOf area rounding) (lengthOf area (min bytes most-word)) (omega (arith, length-least area (min bytes most-word)))
+    ∙ sym (past stack (roundingOf area rounding) (lengthOf area bytes) (omega (arith, length-least area bytes))))
     (at-most bytes most-word)
 
 module _ (area : Area) (stack bytes rounding : ℕ) (r : Placed) where

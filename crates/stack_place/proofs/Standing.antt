@@ -25,7 +25,6 @@ pub record Stands (stack bytes rounding : ℕ) (p : Placed) : Type 0 where
   pub stays : p .stacked .bytes ≡ 0 → (p .stacked .at ≡ 0) × (p .next ≡ stack)
   pub grows : stack ≤ p .next
   pub within : stack ≤ most-stack → p .next ≤ most-stack
-  pub bytes-within : p .stacked .bytes ≤ most-stack
 
 module _ (stack bytes rounding : ℕ) (some : 0 < rounding) where
   abbrev start : ℕ
@@ -44,7 +43,6 @@ module _ (stack bytes rounding : ℕ) (some : 0 < rounding) where
         stays = λ x. (refl, refl);
         grows = omega arith;
         within = λ x. x;
-        bytes-within = omega arith;
       }
 
   there : (bytes ≡ 0 → ⊥) → start + bytes ≤ most-stack → Stands stack bytes rounding (from start bytes)
@@ -60,7 +58,6 @@ module _ (stack bytes rounding : ℕ) (some : 0 < rounding) where
         stays = λ x. absurd (z x);
         grows = omega (arith, round-least stack rounding some);
         within = λ x. h;
-        bytes-within = omega (arith, h);
       }
 
   pub behind-stands : Stands stack bytes rounding (behind stack bytes rounding)

@@ -6,7 +6,7 @@ use mathlib.Core.Bool.{Bool, true, false, _&&_, not, cond}
 use lib.Dec.{eqb, ltb}
 use Rattle.shape.specs.declared.Scalar.{Scalar}
 use Rattle.shape.specs.Numbers.{accepted, no-room}
-use Rattle.shape.specs.Arithmetic.{times, roundUp}
+use Rattle.shape.specs.Arithmetic.{roundUp}
 use Rattle.describe.specs.declared.ReturnPointer.{ReturnPointer}
 use Rattle.describe.specs.declared.ReturnPointer.the-variants.{FirstArgument, FirstArgumentPopped, Dedicated}
 use Rattle.describe.specs.declared.StackArgs.{StackArgs}
@@ -54,12 +54,12 @@ scalarBytes Pieces spent size w = scalarRest spent size w
 scalarBytes Reference spent size w = pointerBytes spent w
 scalarBytes Memory spent size w = size
 
--- of slots, each a word, those beyond the registers given in both banks (the product stops at the largest number, and no call has so many slots)
+-- of slots, each a word, those beyond the registers given in both banks
 abbrev pub slotsBeyond : Spent → ℕ → ℕ
 slotsBeyond spent slots = slots - spent .«integers_given» - spent .«floats_given»
 
 abbrev pub slotsBytes : Spent → ℕ → ℕ → ℕ
-slotsBytes spent slots w = times w (slotsBeyond spent slots)
+slotsBytes spent slots w = w * slotsBeyond spent slots
 
 -- an aggregate argument: in Memory whole, whatever was passed over. None travels as Direct; one that did would stand there whole
 abbrev pub aggregateBytes : Way → Spent → ℕ → ℕ → ℕ → ℕ

@@ -130,9 +130,9 @@ fn scalar_bytes(way: Way, spent: Spent, size: u64, width: u64) -> u64
     }
 }
 
-// Of an aggregate of this size, in so many slots where it travels in slots.
+// Of an aggregate of this size, in so many slots where it travels in slots; the largest number where that passes 64 bits.
 pub fn aggregate_bytes(way: Way, spent: Spent, slots: u64, size: u64, width: u64) -> u64
-    ensures { λ r. ⌜ r ≡ specs.aggregateBytes way spent slots size width ⌝ }
+    ensures { λ r. ⌜ r ≡ min (specs.aggregateBytes way spent slots size width) most-word ⌝ }
 {
     match way {
         Way::Ignore => 0,
