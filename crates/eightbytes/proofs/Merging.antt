@@ -1,4 +1,4 @@
--- The merge on codes, where no table is read.
+-- The merge on codes, where nothing stands yet, or the same.
 use Prim.Native.Nat.{ℕ, zero, suc, _<_}
 use mathlib.Core.Path.{_≡_, refl}
 use native.Mathlib.Omega.{arith}

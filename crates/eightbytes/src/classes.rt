@@ -8,13 +8,15 @@ use shape::Piece;
 // Classes.
 pub const NONE: u8 = 0;
 
-const INTEGER: u8 = 1;
+pub const INTEGER: u8 = 1;
 
 pub const SSE: u8 = 2;
 
 pub const SSE_UP: u8 = 3;
 
 pub const X87: u8 = 4;
+
+pub const MEMORY: u8 = 5;
 
 pub const EIGHTBYTE: u64 = 8;
 

@@ -15,6 +15,8 @@ ghost use Rattle.eightbytes.specs.Eightbytes.{eightbytesIn, mark as mark
 ghost use Rattle.eightbytes.specs.Reach.{lastOf};
 ghost use Rattle.eightbytes.specs.Eightbytes.{eightbytes as eightbytes·};
 pub use classes::EIGHTBYTE;
+use classes::INTEGER;
+use classes::MEMORY;
 use classes::NONE;
 pub use classes::SSE;
 pub use classes::SSE_UP;
@@ -26,18 +28,6 @@ pub use classes::mended;
 use shape::Piece;
 use shape::Shape;
 use slots::Found;
-
-// What two classes over one eightbyte make: the row is the class that stands there, the column the one that comes. An eightbyte goes in one
-// register, so an integer takes the float beside it along, and an x87 value beside anything leaves memory only; `merge` of specs/Class.antt
-// has the reasons rule by rule.
-const MERGE: [[u8; 6]; 6] = [
-    [0, 1, 2, 3, 4, 5],
-    [1, 1, 1, 1, 5, 5],
-    [2, 1, 2, 2, 5, 5],
-    [3, 1, 2, 3, 5, 5],
-    [4, 5, 5, 5, 4, 5],
-    [5, 5, 5, 5, 5, 5],
-];
 
 // The bytes of two eightbytes. Most shapes that come in registers have no more, so both the counting and the writing take these first.
 pub const PAIR: u64 = 16;
@@ -105,7 +95,7 @@ fn mark(classes: [u8; 8], p: Piece) -> [u8; 8]
     cs
 }
 
-// What two classes make. Where nothing stands yet, or the same, the one that comes goes in as it is, and no table is read.
+// What two classes make. Where nothing stands yet, or the same, the one that comes goes in as it is.
 fn joined(a: u8, b: u8) -> u8
     requires { ⌜ (a < 6) × (b < 6) ⌝ }
     ensures { λ r. ⌜ r ≡ code (merge· (classOf a) (classOf b)) ⌝ }
@@ -119,14 +109,29 @@ fn joined(a: u8, b: u8) -> u8
     merge(a, b)
 }
 
+// By the first rule that applies, in the order of `merge` in specs/Class.antt, which has the reasons rule by rule: an eightbyte goes in one
+// register, so an integer takes the float beside it along, and an x87 value beside anything leaves memory only. The codes from X87 on are its
+// own and MEMORY. Comparisons take no constant data, as a table would in every archive that classifies.
 fn merge(a: u8, b: u8) -> u8
     requires { ⌜ (a < 6) × (b < 6) ⌝ }
     ensures { λ r. ⌜ r ≡ code (merge· (classOf a) (classOf b)) ⌝ }
 {
-    let table = MERGE;
-    let row = a as usize;
-    let column = b as usize;
-    table[row][column]
+    if a == b {
+        return b;
+    }
+    if a == NONE {
+        return b;
+    }
+    if b == NONE {
+        return a;
+    }
+    if (a >= X87) | (b >= X87) {
+        return MEMORY;
+    }
+    if (a == INTEGER) | (b == INTEGER) {
+        return INTEGER;
+    }
+    SSE
 }
 
 // The rule after the merge, and the counts. At most two eightbytes whose classes come before SSE_UP stay as they are, a slot for each.

@@ -1,4 +1,4 @@
--- `joined` answers the class that comes where nothing or the same stands, and otherwise what the table says.
+-- `joined` answers the class that comes where nothing or the same stands, and otherwise what `merge` does.
 use borrow.Author.Needs.{needs}
 use Rattle.eightbytes.proofs.Merging.{merge-none, merge-same}
 use Rattle.eightbytes.proofs.joined.Statement.{statement}
