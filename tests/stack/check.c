@@ -21,6 +21,7 @@
 #include "barkpaddle.h"
 #include "check.h"
 #include "compiled.h"
+#include "departures.h"
 
 /* How often each function is called, each time with other values, until something isn't found. */
 #define ROUNDS 16
@@ -253,50 +254,8 @@ __asm__(".text\n"
 
 /* ---- where a compiler parts from the others ---- */
 
-/* With one register left it puts half of an __int128 in it, or gives it to nobody; on the stack it doesn't align one. Each has its name
- * from docs/COMPILERS.md. */
-enum departure { NONE, WIDE_IS_SPLIT, WIDE_SPENDS, WIDE_IS_UNALIGNED, DEPARTURES };
-
-static const char *const departure_names[] = {"", "amd64-int128", "amd64-int128-next", "varargs-int128"};
-
-static int departs[DEPARTURES];
+/* How many functions aren't called for each. */
 static unsigned long left_out[DEPARTURES];
-
-#ifdef __clang__
-/* The words of the stack behind five named integers. */
-static __attribute__((noinline)) void stack_words(long words[3], long b, long c, long d, long e, ...)
-{
-    struct {
-        uint32_t offsets[2];
-        const long *overflow_arg_area, *reg_save_area;
-    } copy;
-    va_list list;
-
-    (void)b, (void)c, (void)d;
-    va_start(list, e);
-    memcpy(&copy, list, sizeof copy);
-    memcpy(words, copy.overflow_arg_area, 3 * sizeof *words);
-    va_end(list);
-}
-
-/* An __int128 of the halves 1 and 2, with one register left, and with none and a long before it. By the psABI the stack has 1, 2 and 4,
- * then 3, a hole and 1. */
-static void find_departures(void)
-{
-    const __int128 wide = ((__int128)2 << 64) + 1;
-    long words[3];
-
-    stack_words(words, 0, 0, 0, 0, wide, 3L, 4L);
-    departs[WIDE_IS_SPLIT] = words[0] == 2;
-    departs[WIDE_SPENDS] = words[0] == 1 && words[2] == 3;
-    stack_words(words, 0, 0, 0, 0, 0L, 3L, wide);
-    departs[WIDE_IS_UNALIGNED] = words[2] == 2;
-}
-#else
-static void find_departures(void)
-{
-}
-#endif
 
 /* Whether this compiler has such a value elsewhere than the answer says, from this call on. */
 static enum departure departure_at(const type *t, const barkpaddle_call *c)
@@ -698,22 +657,10 @@ static void check_counts(void)
     was_seen("a result on the x87 stack", back_in_st0, 3 * ROUNDS);
 }
 
-static void print_left_out(void)
-{
-    const char *before = "; left out:";
-    int i;
-
-    for (i = NONE + 1; i < DEPARTURES; i++)
-        if (departs[i]) {
-            printf("%s %lu for %s", before, left_out[i], departure_names[i]);
-            before = ",";
-        }
-}
-
 int main(int count, char **words)
 {
     moved_by = count > 2 ? strtoull(words[2], NULL, 10) : 0;
-    find_departures();
+    try_wide();
     make_calls();
     if (failed == 0)
         check_counts();
@@ -723,7 +670,7 @@ int main(int count, char **words)
         printf("%lu things aren't where the answers say", failed);
     else
         printf("all where the answers say");
-    print_left_out();
+    print_departures("; left out:", "for", left_out);
     printf("\n");
     return failed != 0;
 }

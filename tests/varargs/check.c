@@ -19,6 +19,7 @@
 #include "barkpaddle.h"
 #include "check.h"
 #include "compiled.h"
+#include "departures.h"
 
 static uint64_t round_up(uint64_t number, uint64_t to)
 {
@@ -81,25 +82,7 @@ static const record *record_of(char letter)
 const pair a_pair = {1, 2.0};
 const triple a_triple = {{1, 2, 3}};
 
-/* ---- a va_list ---- */
-
-/* As the psABI has it (3.5.7). */
-typedef struct sysv_list {
-    uint32_t gp_offset;
-    uint32_t fp_offset;
-    const uint8_t *overflow_arg_area;
-    const uint8_t *reg_save_area;
-} sysv_list;
-
-_Static_assert(sizeof(sysv_list) == sizeof(va_list), "a va_list isn't the psABI's");
-
-static sysv_list copy_of(va_list list)
-{
-    sysv_list copy;
-
-    memcpy(&copy, list, sizeof copy);
-    return copy;
-}
+/* ---- offsets ---- */
 
 /* The library's three offsets, each counted from its area's start. */
 typedef struct offsets {
@@ -115,13 +98,7 @@ static offsets offsets_of(const sysv_list *list, const uint8_t *area)
 
 /* ---- where a compiler parts from itself ---- */
 
-/* What a caller does that its va_arg doesn't know of: with one register left it puts half of an __int128 in it, or gives it to nobody; on the
- * stack it doesn't align an __int128; it puts a __float128 in a register. Each has its name from docs/COMPILERS.md. */
-enum departure { NONE, WIDE_IS_SPLIT, WIDE_SPENDS, WIDE_IS_UNALIGNED, QUAD_IS_MISSED, DEPARTURES };
-
-static const char *const departure_names[] = {"", "amd64-int128", "amd64-int128-next", "varargs-int128", "varargs-float128"};
-
-static int departs[DEPARTURES];
+/* How often a list was moved by hand for each. */
 static unsigned long departed[DEPARTURES];
 
 static int meets(enum departure departure, char letter, const sysv_list *list)
@@ -166,30 +143,6 @@ static void move_by_hand(enum departure departure, va_list list)
 }
 
 #ifdef __clang__
-/* The words of the stack behind five named integers. */
-static __attribute__((noinline)) void stack_words(long words[3], long b, long c, long d, long e, ...)
-{
-    va_list list;
-
-    va_start(list, e);
-    memcpy(words, copy_of(list).overflow_arg_area, 3 * sizeof *words);
-    va_end(list);
-}
-
-/* An __int128 of the halves 1 and 2, with one register left, and with none and a long before it. By the psABI the stack has 1, 2 and 4,
- * then 3, a hole and 1. */
-static void try_wide(void)
-{
-    const __int128 wide = ((__int128)2 << 64) + 1;
-    long words[3];
-
-    stack_words(words, 0, 0, 0, 0, wide, 3L, 4L);
-    departs[WIDE_IS_SPLIT] = words[0] == 2;
-    departs[WIDE_SPENDS] = words[0] == 1 && words[2] == 3;
-    stack_words(words, 0, 0, 0, 0, 0L, 3L, wide);
-    departs[WIDE_IS_UNALIGNED] = words[2] == 2;
-}
-
 static __attribute__((noinline)) void try_quad(int named, ...)
 {
     va_list list;
@@ -204,17 +157,17 @@ static __attribute__((noinline)) void try_quad(int named, ...)
     (void)quad;
     departs[QUAD_IS_MISSED] = after.fp_offset == before.fp_offset;
 }
+#else
+static void try_quad(int named, ...)
+{
+}
+#endif
 
 static void find_departures(void)
 {
     try_wide();
     try_quad(0, (__float128)1);
 }
-#else
-static void find_departures(void)
-{
-}
-#endif
 
 /* ---- the call that is looked at ---- */
 
@@ -592,18 +545,6 @@ static void check_counts(void)
     was_seen("an area that is a byte short", short_areas, 1000);
 }
 
-static void print_departures(void)
-{
-    const char *before = "; its va_list moved by hand:";
-    int i;
-
-    for (i = NONE + 1; i < DEPARTURES; i++)
-        if (departs[i]) {
-            printf("%s %lu times %s", before, departed[i], departure_names[i]);
-            before = ",";
-        }
-}
-
 int main(int count, char **words)
 {
     find_departures();
@@ -615,7 +556,7 @@ int main(int count, char **words)
         printf("%lu things differ", failed);
     else
         printf("all as va_arg reads them");
-    print_departures();
+    print_departures("; its va_list moved by hand:", "times", departed);
     printf("\n");
     return failed != 0;
 }
