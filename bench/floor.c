@@ -31,9 +31,10 @@ enum { SAVE = 1 };
 
 enum { BAD_ABI = 1, BAD_CALL, BAD_LIST, BAD_KIND, BAD_SIZE, BAD_ALIGN, NO_ROOM, BAD_AREA, BAD_EXTENT };
 
-/* the registers that each of the thirty starts with, and the one that takes the mark */
-static const uint8_t integers[30] = {6, 8, 8, 8, 4, 8, 0, 1, 2, 3, 0, 1, 2, 3, 0, 1, 2, 3, 0, 1, 2, 3, 2, 2, 0, 0, 0, 2, 0, 2};
-static const uint8_t floats[30] = {8, 8, 8, 8, 0, 8};
+/* how many descriptions there are, the registers that each starts with, and the one that takes the mark */
+enum { DESCRIPTIONS = 33 };
+static const uint8_t integers[DESCRIPTIONS] = {6, 8, 8, 8, 4, 8, 0, 1, 2, 3, 0, 1, 2, 3, 0, 1, 2, 3, 0, 1, 2, 3, 2, 2, 0, 0, 0, 2, 0, 2, 8, 8, 8};
+static const uint8_t floats[DESCRIPTIONS] = {8, 8, 8, 8, 0, 8, [31] = 8, [32] = 8};
 static const u64 marked = 3;
 
 /* the most bytes on the stack */
@@ -44,11 +45,11 @@ static const u64 most_stack = (u64)1 << 40;
         return (answer){{abi, integer, float_, mark, stack}, {number}};
 
 #define CHECK_CALL                                                                                                                             \
-    REFUSE_IF(abi >= 30, BAD_ABI)                                                                                                              \
+    REFUSE_IF(abi >= DESCRIPTIONS, BAD_ABI)                                                                                                    \
     REFUSE_IF(integer > integers[abi] || float_ > floats[abi] || stack > most_stack || (mark && abi != marked), BAD_CALL)
 
 answer barkpaddle_fresh(u64 abi) {
-    if (abi >= 30)
+    if (abi >= DESCRIPTIONS)
         return (answer){{0}, {BAD_ABI}};
     return (answer){{abi, integers[abi], floats[abi]}, {0}};
 }

@@ -1,5 +1,5 @@
 /*
- * Barkpaddle: how each value of a call travels, on thirty calling conventions.
+ * Barkpaddle: how each value of a call travels, on thirty-three calling conventions.
  *
  * Everything comes in and goes out as 64-bit numbers, called words. docs/REFERENCE.md has the rules; its sections 13 to 15 are about
  * these entries. They are proved: every entry answers every input, traps on none, allocates nothing, keeps no state and touches no memory
@@ -39,8 +39,8 @@ extern "C" {
  * elsewhere compares it with barkpaddle_version() before it asks anything else. Where they differ the archive goes with another header: it
  * may lack what this one names, take other numbers, or answer what this one doesn't. Link the archive that tools/staticlib makes beside
  * this header. What entries take, and how structs are laid out, is promised from the first shipped version on; until then it may change
- * with this number, as it has with 6, where a call has a stack offset and an outcome a place on the stack. */
-#define BARKPADDLE_VERSION UINT64_C(6)
+ * with this number, as it has with 7, where a description has a field more. */
+#define BARKPADDLE_VERSION UINT64_C(7)
 
 /* The version of the header that the archive goes with. Refuses nothing. */
 uint64_t barkpaddle_version(void);
@@ -50,8 +50,9 @@ uint64_t barkpaddle_version(void);
 /* "None", from an entry that looks something up. */
 #define BARKPADDLE_NONE UINT64_MAX
 
-/* The descriptions, numbered from 0 (REFERENCE 5.5); barkpaddle_name answers their names in full. REG_STRUCT is -freg-struct-return. */
-#define BARKPADDLE_ABI_COUNT UINT64_C(30)
+/* The descriptions, numbered from 0 (REFERENCE 5.5); barkpaddle_name answers their names in full. REG_STRUCT is -freg-struct-return.
+ * Compilers for RISC-V follow the three of RISCV_PSABI, by their option -mabi, and not RISCV_LP64D (docs/DIFFERENCES.md). */
+#define BARKPADDLE_ABI_COUNT UINT64_C(33)
 #define BARKPADDLE_ABI_SYSV_AMD64 UINT64_C(0)
 #define BARKPADDLE_ABI_AAPCS64 UINT64_C(1)
 #define BARKPADDLE_ABI_DARWIN_ARM64 UINT64_C(2)
@@ -82,6 +83,9 @@ uint64_t barkpaddle_version(void);
 #define BARKPADDLE_ABI_I386_MINGW_FASTCALL UINT64_C(27)
 #define BARKPADDLE_ABI_I386_MSVC_STDCALL UINT64_C(28)
 #define BARKPADDLE_ABI_I386_MSVC_FASTCALL UINT64_C(29)
+#define BARKPADDLE_ABI_RISCV_PSABI_LP64 UINT64_C(30)
+#define BARKPADDLE_ABI_RISCV_PSABI_LP64F UINT64_C(31)
+#define BARKPADDLE_ABI_RISCV_PSABI_LP64D UINT64_C(32)
 
 /* Refusals. */
 #define BARKPADDLE_ACCEPTED UINT64_C(0)
@@ -211,6 +215,7 @@ uint64_t barkpaddle_version(void);
 #define BARKPADDLE_VARIADIC_BOTH_BANKS UINT64_C(2)
 #define BARKPADDLE_VARIADIC_INTEGERS_ONLY UINT64_C(3)
 #define BARKPADDLE_VARIADIC_UNNAMED_INTEGERS UINT64_C(4)
+#define BARKPADDLE_VARIADIC_UNNAMED_INTEGERS_EVEN UINT64_C(5) /* and aligned pairs of words start at an even register */
 
 #define BARKPADDLE_STACK_ARGS_REGISTER_SIZED UINT64_C(0)
 #define BARKPADDLE_STACK_ARGS_PACKED UINT64_C(1)
@@ -255,6 +260,7 @@ uint64_t barkpaddle_version(void);
 #define BARKPADDLE_SHORT_MEMORY UINT64_C(1)
 #define BARKPADDLE_SHORT_MEMORY_AND_DRAIN UINT64_C(2)
 #define BARKPADDLE_SHORT_TRY_NEXT_RULE UINT64_C(3)
+#define BARKPADDLE_SHORT_SPLIT UINT64_C(4) /* between the registers left and the stack; in memory, with no integer register left */
 
 /* ---- calls and answers ---- */
 
@@ -332,6 +338,7 @@ typedef struct barkpaddle_description_fields {
     uint64_t narrow;
     uint64_t bit_ints;
     uint64_t cleanup;
+    uint64_t float_falls_to_integers; /* a float that finds no float register left takes integer registers */
 } barkpaddle_description_fields;
 
 /* A refusal, or a rule for aggregates (REFERENCE 5.3). */
@@ -537,7 +544,8 @@ barkpaddle_told barkpaddle_wide_integer_returns_in(uint64_t abi, uint64_t size);
  * These refuse nothing: to a code that they don't know the lookups answer NONE, and barkpaddle_callee_pops answers no. `msvc` is yes or no.
  */
 
-/* The description that a target follows, or NONE. */
+/* The description that a target follows, or NONE. For RISC-V it is RISCV_LP64D, which isn't what compilers follow: to call what they
+ * compiled take RISCV_PSABI_LP64, RISCV_PSABI_LP64F or RISCV_PSABI_LP64D by the -mabi that it was compiled with. */
 uint64_t barkpaddle_for_target(uint64_t architecture, uint64_t system, uint64_t msvc);
 
 /* The description that a function of a convention follows on a target, or NONE. */

@@ -146,7 +146,7 @@ impl Refused {
 /// One refused operation for each number that an argument can be refused with.
 pub fn refused() -> Vec<Refused> {
     const CALL: Call = Call { abi: 0, integer: 6, float: 8, integers_only: 0, stack: 0 };
-    const NO_ABI: Call = Call { abi: 30, integer: 0, float: 0, integers_only: 0, stack: 0 };
+    const NO_ABI: Call = Call { abi: 33, integer: 0, float: 0, integers_only: 0, stack: 0 };
     const TOO_MANY: Call = Call { integer: 7, ..CALL };
     let make = |name, refusal, call, value, room| Refused { name, refusal, call, value, room };
     let two = |change: fn(&mut Vec<u64>)| {

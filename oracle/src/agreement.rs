@@ -1,7 +1,8 @@
 //! Whether the Rust and the rules can both be right about an operation of a sheet.
 
-use rucc_abi::{AbiDescription, Pass, ReturnPointer};
+use rucc_abi::{Pass, ReturnPointer};
 
+use crate::descriptions::{Description, Variadic};
 use crate::numbers;
 use crate::sheet::Asked;
 use crate::spending::{Before, Outcome, Spent, Way};
@@ -27,6 +28,13 @@ pub fn on_registers(before: Before, pass: &Pass, left: [u64; 2], outcome: Outcom
         && adds_up(before.floats, outcome.floats, left[1])
 }
 
+/// Whether the rules pass over what was passed over for an even start before the Rust was asked. Where
+/// a row has even starts after the dots nothing else is passed over; elsewhere the sum has to do.
+pub fn on_even_start(before: Before, even_start: u64, outcome: Outcome) -> bool {
+    numbers::row(before.row).variadic != Variadic::UnnamedIntegersEven
+        || outcome.integers.passed_over == even_start && outcome.floats.passed_over == 0
+}
+
 /// Whether the rules' place can be right by the Rust's answer: it is behind those before it, it has
 /// what no register given carries, and an aggregate in memory is at a multiple of the Rust's alignment
 /// of it. The Rust has no offsets: which of such places it is, the rules say alone.
@@ -45,6 +53,14 @@ pub fn on_the_stack(
         && (left_over == 0 || is_aligned(row, value, pass, stacked.at))
 }
 
+/// Whether registers come before the stack. On a row that splits none is left for integers once
+/// something is on the stack, so what is in registers in part, as a split is, is the first there, at 0.
+pub fn on_the_order(stack: Stack, left: [u64; 2], outcome: Outcome, stacked: Stacked) -> bool {
+    let is_in_part = outcome.integers.given > 0 && stacked.bytes > 0;
+    numbers::row(stack.row).unsplit.is_none()
+        || (stacked.next == 0 || left[0] == 0) && (!is_in_part || stacked.at == 0)
+}
+
 /// Whether a place is behind those before it, and the next offset where it ends; without one the
 /// offset stays.
 fn is_behind(before: u64, stacked: Stacked) -> bool {
@@ -53,7 +69,7 @@ fn is_behind(before: u64, stacked: Stacked) -> bool {
 }
 
 /// Whether so many bytes are there: as many as are left over, and less than a word that fills them up.
-fn has(row: &AbiDescription, left_over: u64, bytes: u64) -> bool {
+fn has(row: &Description, left_over: u64, bytes: u64) -> bool {
     match left_over {
         0 => bytes == 0,
         _ => (left_over..left_over + row.banks.integer_width).contains(&bytes),
@@ -62,7 +78,7 @@ fn has(row: &AbiDescription, left_over: u64, bytes: u64) -> bool {
 
 /// Whether an aggregate in memory is at a multiple of its alignment. Where that is less than a word it
 /// may be at a word instead, and a word need be no multiple of it.
-fn is_aligned(row: &'static AbiDescription, value: &Value, pass: &Pass, at: u64) -> bool {
+fn is_aligned(row: &Description, value: &Value, pass: &Pass, at: u64) -> bool {
     match (pass, value) {
         (Pass::Memory, Value::Aggregate(shape)) => {
             let align = stack::in_memory(row, shape);
@@ -75,13 +91,7 @@ fn is_aligned(row: &'static AbiDescription, value: &Value, pass: &Pass, at: u64)
 /// How many bytes of what travels by the Rust's answer the registers given don't carry: of a pointer
 /// that has no register of its own, of words for slots, or of the value. What comes back is in other
 /// registers, and a float register has room for all of a scalar.
-fn left_over(
-    row: &AbiDescription,
-    asked: Asked,
-    value: &Value,
-    pass: &Pass,
-    outcome: Outcome,
-) -> u64 {
+fn left_over(row: &Description, asked: Asked, value: &Value, pass: &Pass, outcome: Outcome) -> u64 {
     let width = row.banks.integer_width;
     let (integers, floats) = (outcome.integers.given, outcome.floats.given);
     let returns = asked == Asked::Return;
@@ -146,6 +156,24 @@ mod tests {
         assert!(!on_registers(BEFORE, &slots(1), [6, 8], OUTCOME));
         assert!(!on_registers(BEFORE, &slots(1), [4, 8], OUTCOME));
         assert!(!on_registers(BEFORE, &slots(1), [5, 7], OUTCOME));
+    }
+
+    #[test]
+    fn where_a_row_has_even_starts_nothing_else_is_passed_over() {
+        let spent = |passed_over| Spent { passed_over, given: 1 };
+        let agrees = |row, even_start, integers, floats| {
+            let (before, way) = (Before { row, ..BEFORE }, Way::Direct);
+            let outcome = Outcome { way, integers: spent(integers), floats: spent(floats) };
+            on_even_start(before, even_start, outcome)
+        };
+        for row in 30..=32 {
+            assert!(agrees(row, 0, 0, 0) && agrees(row, 1, 1, 0));
+            assert!(!agrees(row, 0, 1, 0) && !agrees(row, 1, 0, 0) && !agrees(row, 1, 2, 0));
+            assert!(!agrees(row, 0, 0, 1));
+        }
+        for row in [1, 5] {
+            assert!(agrees(row, 0, 1, 1));
+        }
     }
 
     // ---- the stack
@@ -244,5 +272,32 @@ mod tests {
         };
         assert!(agrees(0, 12));
         assert!(!agrees(12, 12) && !agrees(0, 16) && !agrees(0, 0));
+    }
+
+    /// Whether what was given so many integers may be here on this row, so many being left.
+    fn is_in_order(row: usize, left: u64, given_integers: u64, stacked: [u64; 3]) -> bool {
+        let [offset, at, next] = stacked;
+        let stacked = Stacked { at, bytes: next - at, next };
+        on_the_order(Stack { row, offset }, [left, 8], given(given_integers, 0), stacked)
+    }
+
+    #[test]
+    fn a_row_that_splits_has_no_register_left_once_something_is_there() {
+        for row in 30..=32 {
+            assert!(is_in_order(row, 0, 0, [0, 0, 16]) && is_in_order(row, 0, 0, [8, 16, 32]));
+            assert!(is_in_order(row, 1, 1, [0, 0, 0]) && is_in_order(row, 0, 1, [0, 0, 0]));
+            assert!(!is_in_order(row, 1, 0, [0, 0, 16]) && !is_in_order(row, 7, 1, [8, 8, 8]));
+        }
+        // On others a register may be left, for what comes later.
+        assert!(is_in_order(0, 1, 0, [0, 0, 16]) && is_in_order(5, 7, 1, [8, 8, 8]));
+    }
+
+    #[test]
+    fn the_half_of_a_split_is_the_first_there() {
+        for row in 30..=32 {
+            assert!(is_in_order(row, 0, 1, [0, 0, 8]));
+            assert!(!is_in_order(row, 0, 1, [8, 8, 16]) && !is_in_order(row, 0, 1, [0, 8, 16]));
+        }
+        assert!(is_in_order(5, 0, 1, [8, 8, 16]));
     }
 }

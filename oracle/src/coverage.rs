@@ -1,19 +1,21 @@
 //! `oracle coverage`: which rules a sheet decides by, and how often.
 //!
-//! What can decide is read off the original's descriptions: each rule of both lists of each row,
-//! with what it comes to, each line for scalars that the row's fields let apply, and the same after
-//! the dots and behind the mark where these change the answer; and each line of the table that says
-//! what goes to the stack, with each rounding that can be seen there. A sheet covers them if each
-//! decides at least once, and if nothing else does: then this list is the right one.
+//! What can decide is read off the descriptions: each rule of both lists of each row, with what it
+//! comes to, each line for scalars that the row's fields let apply, and the same after the dots and
+//! behind the mark where these change the answer; each even start that passes a register over; and
+//! each line of the table that says what goes to the stack, with each rounding that can be seen there.
+//! A sheet covers them if each decides at least once, and if nothing else does: then this list is the
+//! right one.
 
 use std::collections::HashMap;
 use std::io::{self, Write};
 
-use rucc_abi::{AbiDescription, ReturnPointer, Rule, Short, StackArgs, Travel, Variadic};
+use rucc_abi::{ReturnPointer, StackArgs, Travel};
 
+use crate::descriptions::{Description, Rule, Short, Variadic};
 use crate::numbers;
 use crate::sheet::{self, Asked, Decided, Ending, REFUSED};
-use crate::spending::{DARWIN_ARM64, End, Point, RISCV_LP64D, WINDOWS_ARM64};
+use crate::spending::{End, Point};
 use crate::stack::MOVED_TO_WIDTH;
 use crate::values::LARGEST_SCALAR;
 
@@ -72,17 +74,19 @@ impl Rules {
     }
 
     /// Those that a row has. Elsewhere an argument after the dots is an argument.
-    fn of(row: usize) -> &'static [Self] {
-        match row {
-            WINDOWS_ARM64 => &[
+    fn of(row: &Description) -> &'static [Self] {
+        match row.variadic {
+            Variadic::IntegersOnly => &[
                 Self::Return,
                 Self::Argument,
                 Self::Marked,
                 Self::VariadicArgument,
                 Self::MarkedVariadicArgument,
             ],
-            DARWIN_ARM64 | RISCV_LP64D => &[Self::Return, Self::Argument, Self::VariadicArgument],
-            _ => &[Self::Return, Self::Argument],
+            Variadic::AlwaysMemory | Variadic::UnnamedIntegers | Variadic::UnnamedIntegersEven => {
+                &[Self::Return, Self::Argument, Self::VariadicArgument]
+            }
+            Variadic::SameAsFixed | Variadic::BothBanks => &[Self::Return, Self::Argument],
         }
     }
 }
@@ -101,7 +105,7 @@ fn operation(decided: &Decided) -> Option<String> {
 
 fn name(decided: &Decided, point: Point) -> String {
     let row = decided.row.expect("only an open call decides");
-    let apart = Rules::of(row).contains(&Rules::VariadicArgument);
+    let apart = Rules::of(numbers::row(row)).contains(&Rules::VariadicArgument);
     let rules = match (decided.asked, decided.integers_only) {
         (Asked::Return, _) => Rules::Return,
         (Asked::VariadicArgument, false) if apart => Rules::VariadicArgument,
@@ -128,10 +132,13 @@ fn place(row: usize, rules: Rules, point: Point) -> String {
                 (End::Short, Short::Memory) => "short, memory",
                 (End::Short, Short::MemoryAndDrain) => "short, memory and drain",
                 (End::Short, Short::TryNextRule) => "short, the next rule",
+                (End::Short, Short::Split) => "short, split",
+                (End::NoneLeft, _) => "short, none left",
                 (End::NoFloats, _) => "found floats, the next rule",
             };
             format!("row {row} {list} rule {at} {end}")
         }
+        Point::EvenStart(of, way) => format!("row {row} {list} even start: {of}, {way}"),
         Point::Stack(of, how) => on_the_stack(row, rules, of, how),
     }
 }
@@ -175,12 +182,13 @@ fn expected() -> Vec<String> {
         for what in ["fresh", "mark", "an argument after the dots"] {
             expected.push(format!("row {row} {what}"));
         }
-        for &rules in Rules::of(row) {
-            let description = numbers::row(row);
+        let description = numbers::row(row);
+        for &rules in Rules::of(description) {
             let points = [
                 vec![Point::Void],
                 scalars(description, rules),
                 aggregates(description, rules),
+                even_starts(description, rules),
                 stacked(description, rules),
             ];
             expected.extend(points.concat().iter().map(|point| place(row, rules, *point)));
@@ -190,28 +198,32 @@ fn expected() -> Vec<String> {
 }
 
 /// Whether an argument by these rules may use integer registers alone.
-fn integers_only(row: &AbiDescription, rules: Rules) -> bool {
+fn integers_only(row: &Description, rules: Rules) -> bool {
     match row.variadic {
         Variadic::IntegersOnly => matches!(rules, Rules::Marked | Rules::MarkedVariadicArgument),
-        Variadic::UnnamedIntegers => rules == Rules::VariadicArgument,
-        _ => false,
+        Variadic::UnnamedIntegers | Variadic::UnnamedIntegersEven => {
+            rules == Rules::VariadicArgument
+        }
+        Variadic::SameAsFixed | Variadic::AlwaysMemory | Variadic::BothBanks => false,
     }
 }
 
 /// Whether an argument by these rules finds both banks empty.
-fn nothing_left(row: &AbiDescription, rules: Rules) -> bool {
+fn nothing_left(row: &Description, rules: Rules) -> bool {
     row.variadic == Variadic::AlwaysMemory && rules == Rules::VariadicArgument
 }
 
 /// The lines by which a scalar can be decided (REFERENCE 9.2, 9.4 and 9.5).
-fn scalars(row: &AbiDescription, rules: Rules) -> Vec<Point> {
+fn scalars(row: &Description, rules: Rules) -> Vec<Point> {
     let fields = row.scalars;
-    let by_reference = (0..=LARGEST_SCALAR).any(|size| row.scalar_returns_by_reference(size));
+    let by_reference =
+        (0..=LARGEST_SCALAR).any(|size| row.in_rust.scalar_returns_by_reference(size));
     let in_float = fields.wide_integer_returns_in.is_some();
     let integers_only = integers_only(row, rules);
     let (apart, all_or_none) = (!row.banks.shared, fields.wide_integer_is_all_or_nothing);
     let wide = fields.wide_integer_starts_even || fields.wide_integer_drains;
     let floats = apart && !integers_only;
+    let falls = row.float_falls_to_integers;
     let lines: &[(&'static str, bool)] = match rules {
         Rules::Return => &[
             ("itself", true),
@@ -225,7 +237,9 @@ fn scalars(row: &AbiDescription, rules: Rules) -> Vec<Point> {
             ("line 3", fields.wide_integer_in_memory),
             ("line 4", integers_only),
             ("line 5", row.banks.shared),
-            ("line 6", floats),
+            ("line 6", floats && (row.banks.float > 0 || !falls)),
+            ("line 6, fallen", floats && falls),
+            ("line 6, fallen, none left", floats && falls),
             ("line 7", floats && row.banks.float_width < LARGEST_SCALAR),
             ("line 8, all", apart && all_or_none),
             ("line 8, none", apart && all_or_none),
@@ -243,9 +257,9 @@ fn scalars(row: &AbiDescription, rules: Rules) -> Vec<Point> {
 }
 
 /// What each rule can come to for an aggregate (REFERENCE 9.3 to 9.5).
-fn aggregates(row: &AbiDescription, rules: Rules) -> Vec<Point> {
+fn aggregates(row: &Description, rules: Rules) -> Vec<Point> {
     let returns = rules == Rules::Return;
-    let list = if returns { row.returns } else { row.arguments };
+    let list = if returns { &row.returns } else { &row.arguments };
     let mut points = Vec::new();
     for (at, rule) in list.iter().enumerate() {
         let ends: &[End] = match rule.then {
@@ -255,7 +269,9 @@ fn aggregates(row: &AbiDescription, rules: Rules) -> Vec<Point> {
             }
             // The two tests of such rows find a float in all that they match.
             Travel::AsFound if integers_only(row, rules) => &[End::NoFloats],
+            Travel::AsFound if row.banks.float == 0 => &[End::Short],
             _ if nothing_left(row, rules) => &[End::Short],
+            _ if rule.short == Short::Split => &[End::Fits, End::Short, End::NoneLeft],
             _ => &[End::Fits, End::Short],
         };
         points.extend(ends.iter().map(|end| Point::Rule(at, *end)));
@@ -263,8 +279,23 @@ fn aggregates(row: &AbiDescription, rules: Rules) -> Vec<Point> {
     points
 }
 
+/// What can be behind a register that is passed over for an even start, and how it travels. It has two
+/// words at most, so no aggregate goes by reference; and one that is ignored passes nothing over.
+fn even_starts(row: &Description, rules: Rules) -> Vec<Point> {
+    if row.variadic != Variadic::UnnamedIntegersEven || rules != Rules::VariadicArgument {
+        return vec![];
+    }
+    let ways = [
+        ("scalar", "direct"),
+        ("scalar", "pieces"),
+        ("aggregate", "pieces"),
+        ("aggregate", "memory"),
+    ];
+    ways.map(|(of, way)| Point::EvenStart(of, way)).to_vec()
+}
+
 /// What can go to the stack, and how (REFERENCE 9.9).
-fn stacked(row: &AbiDescription, rules: Rules) -> Vec<Point> {
+fn stacked(row: &Description, rules: Rules) -> Vec<Point> {
     let lines = match rules {
         Rules::Return => stacked_returns(row),
         Rules::Argument => stacked_arguments(row, false),
@@ -279,7 +310,7 @@ fn stacked(row: &AbiDescription, rules: Rules) -> Vec<Point> {
 /// What is of a value there, how, and whether a row can reach that.
 type StackLines = Vec<(&'static str, &'static str, bool)>;
 
-fn stacked_returns(row: &AbiDescription) -> StackLines {
+fn stacked_returns(row: &Description) -> StackLines {
     let dedicated = row.return_pointer == ReturnPointer::Dedicated;
     vec![
         ("pointer", "none", true),
@@ -290,7 +321,7 @@ fn stacked_returns(row: &AbiDescription) -> StackLines {
 }
 
 /// Those of a fixed argument, or of one after dots behind which all is in memory.
-fn stacked_arguments(row: &AbiDescription, dots: bool) -> StackLines {
+fn stacked_arguments(row: &Description, dots: bool) -> StackLines {
     let integers = row.banks.integer > 0 && !dots;
     let floats = row.banks.float > 0 && !dots;
     let packed = row.stack_args == StackArgs::Packed;
@@ -299,6 +330,7 @@ fn stacked_arguments(row: &AbiDescription, dots: bool) -> StackLines {
     let by_reference = wide_by_reference || has_rule(row, |rule| rule.then == Travel::ByReference);
     let in_slots = has_rule(row, is_in_slots);
     let short_in_slots = has_rule(row, |rule| is_in_slots(rule) && rule.short == Short::Unchanged);
+    let splits = has_rule(row, |rule| rule.short == Short::Split);
     let in_memory = has_rule(row, may_be_in_memory);
     vec![
         ("nothing", "travels", true),
@@ -317,6 +349,7 @@ fn stacked_arguments(row: &AbiDescription, dots: bool) -> StackLines {
         ("scalar", "of a length as it is", !whole_words),
         ("aggregate", "given", in_slots && integers),
         ("aggregate", "in slots, placed whole", short_in_slots),
+        ("aggregate", "in slots, placed in part", splits),
         ("aggregate", "in memory", in_memory),
         ("aggregate", "moved on to in_memory", in_memory || short_in_slots),
         ("aggregate", "moved on to in_memory, less than the width", packed && !dots),
@@ -326,7 +359,7 @@ fn stacked_arguments(row: &AbiDescription, dots: bool) -> StackLines {
     ]
 }
 
-fn has_rule(row: &AbiDescription, is_such: impl Fn(&Rule) -> bool) -> bool {
+fn has_rule(row: &Description, is_such: impl Fn(&Rule) -> bool) -> bool {
     row.arguments.iter().any(is_such)
 }
 
@@ -337,5 +370,5 @@ fn is_in_slots(rule: &Rule) -> bool {
 /// Whether an argument is in memory by this rule, or for want of registers.
 fn may_be_in_memory(rule: &Rule) -> bool {
     matches!(rule.then, Travel::InMemory | Travel::InMemoryAndSpend)
-        || matches!(rule.short, Short::Memory | Short::MemoryAndDrain)
+        || matches!(rule.short, Short::Memory | Short::MemoryAndDrain | Short::Split)
 }

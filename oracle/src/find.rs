@@ -33,7 +33,7 @@ pub struct Probe {
 impl Probe {
     /// A probe for this test, among registers of these widths. It is never given back.
     pub fn new(test: Test, integer_width: u64, float_width: u64) -> Self {
-        let like = numbers::row(0);
+        let like = numbers::row(0).in_rust;
         let returns = Box::new([
             Rule::new(test, Travel::AsFound),
             Rule::new(Test::Anything, Travel::ByReference),

@@ -3,16 +3,18 @@
 //! A good sheet never stops. Its calls follow a habit each, so that one runs a bank dry and
 //! another meets a full one; some begin with a run-up to a few registers left, where the rules
 //! part. Between their operations stand some that are refused. 50,000 operations are to decide by
-//! every rule of every row (`oracle coverage`), so what only one test in many rows asks for, and
-//! calls that are marked first, are given a share of their own; and the shapes, many of which are
-//! drawn with a piece past them and would be refused, grow to their pieces for the most part.
+//! every rule of every row (`oracle coverage`), so what only one test in many rows asks for, what
+//! rows 30 to 32 have otherwise than row 5, and calls that are marked first, are given a share of their
+//! own; and the shapes, many of which are drawn with a piece past them and would be refused, grow to
+//! their pieces for the most part.
 
 use std::io::{self, Write};
 
+use crate::descriptions::{Description, OF_THE_RUST, Variadic};
 use crate::numbers::{self, ROWS};
 use crate::random::Random;
 use crate::records::{self, ARGUMENT, FRESH, MARK, RETURN, Record, VARIADIC_ARGUMENT};
-use crate::shapes;
+use crate::shapes::{self, shape_of};
 use crate::values::{
     LARGEST_ALIGN, LARGEST_KIND, LARGEST_OFFSET, LARGEST_SCALAR, LARGEST_SHAPE, MOST_PIECES, Piece,
     Scalar, Shape, Value,
@@ -32,6 +34,10 @@ enum Habit {
     WideIntegers,
     Floats,
     Aggregates,
+    /// What moves a stack's offset on by more than its bytes, where no register is left.
+    Stacked,
+    /// What splits, starts evenly or falls to integers, where few registers are left.
+    Departures,
 }
 
 pub struct Generator {
@@ -45,13 +51,22 @@ pub struct Generator {
     /// How many more operations the open call gets then.
     more: u64,
     habit: Habit,
+    /// Whether the dots or the mark change something on the row of the open call, so that more stands
+    /// behind them.
+    dots: bool,
 }
 
 impl Generator {
     pub fn new(seed: u64) -> Self {
-        let random = Random::new(seed);
-        let run_up = Vec::new();
-        Self { random, open: false, mark: false, run_up, more: 0, habit: Habit::Anything }
+        Self {
+            random: Random::new(seed),
+            open: false,
+            mark: false,
+            run_up: Vec::new(),
+            more: 0,
+            habit: Habit::Anything,
+            dots: false,
+        }
     }
 
     /// The records of the next operation, which the call that is open allows.
@@ -82,8 +97,9 @@ impl Generator {
         if !self.open {
             return vec![[FRESH, bad_description(random), 0, 0, 0, 0]];
         }
-        let last_row = if random.once_in(3) { 5 } else { ROWS as u64 - 1 };
-        let row = random.between(0, last_row);
+        let number = any_row(random);
+        let row = numbers::row(number as usize);
+        self.dots = !matches!(row.variadic, Variadic::SameAsFixed | Variadic::BothBanks);
         self.mark = random.once_in(4);
         self.more = random.pick(&[1, 2, 4, 8, 12, 20]);
         self.habit = random.pick(&[
@@ -94,11 +110,18 @@ impl Generator {
             Habit::Floats,
             Habit::Aggregates,
         ]);
-        if random.once_in(3) {
-            self.run_up = run_up(random, row as usize);
+        // Rows that have even starts have the other departures, too.
+        if row.variadic == Variadic::UnnamedIntegersEven && random.once_in(2) {
+            self.run_up = run_up(random, row, &[0, 1, 1, 3, 5, 7], &[0, ALL, ALL]);
+            self.habit = Habit::Departures;
+        } else if random.once_in(16) {
+            self.run_up = run_up(random, row, &[0], &[0]);
+            self.habit = Habit::Stacked;
+        } else if random.once_in(3) {
+            self.run_up = run_up(random, row, &[0, 1, 1, 2, 3, ALL], &[0, 1, 1, 2, 3, ALL]);
             self.habit = random.pick(&[Habit::WideIntegers, Habit::Aggregates, Habit::Aggregates]);
         }
-        vec![[FRESH, row, 0, 0, 0, 0]]
+        vec![[FRESH, number, 0, 0, 0, 0]]
     }
 
     /// An operation on the open call: an argument mostly; marks and returns come late and twice.
@@ -107,6 +130,7 @@ impl Generator {
             0 | 1 => return vec![[MARK, 0, 0, 0, 0, 0]],
             2..=9 => RETURN,
             10..=14 => VARIADIC_ARGUMENT,
+            15..=20 if self.dots => VARIADIC_ARGUMENT,
             _ => ARGUMENT,
         };
         let value = match self.random.between(0, 63) {
@@ -130,6 +154,8 @@ impl Generator {
                     random.pick(&[(1, 4), (2, 8), (2, 8), (3, 12), (3, 16), (4, 16)]);
                 natural(kind, size)
             }
+            Habit::Stacked => stacked(random),
+            Habit::Departures => departing(random),
             Habit::Anything if random.once_in(2) => Value::Scalar(any_scalar(random)),
             Habit::Anything | Habit::Aggregates => Value::Aggregate(any_shape(random)),
         }
@@ -171,12 +197,26 @@ impl Generator {
     }
 }
 
-/// Arguments that leave up to three registers of a bank, in any order.
-fn run_up(random: &mut Random, row: usize) -> Vec<Value> {
-    let banks = numbers::row(row).banks;
+/// A row: any, but the first six and the last three more often.
+fn any_row(random: &mut Random) -> u64 {
+    let last = ROWS as u64 - 1;
+    match random.between(0, 11) {
+        0..=2 => random.between(0, 5),
+        3 => random.between(OF_THE_RUST as u64, last),
+        _ => random.between(0, last),
+    }
+}
+
+/// As many registers left as there are.
+const ALL: u32 = u32::MAX;
+
+/// Arguments, in any order, that leave one of these numbers of integers and one of these of floats.
+/// Each row that has float registers holds a Single in one, and not each a Double.
+fn run_up(random: &mut Random, row: &Description, integers: &[u32], floats: &[u32]) -> Vec<Value> {
+    let banks = [(row.banks.integer, integers, 0), (row.banks.float, floats, 1)];
     let mut run_up = Vec::new();
-    for (all, value) in [(banks.integer, natural(0, 4)), (banks.float, natural(2, 8))] {
-        let left = random.pick(&[0, 1, 1, 2, 3, all]).min(all);
+    for (all, lefts, kind) in banks {
+        let (left, value) = (random.pick(lefts).min(all), natural(kind, 4));
         run_up.extend((left..all).map(|_| value.clone()));
     }
     for at in 1..run_up.len() {
@@ -184,6 +224,54 @@ fn run_up(random: &mut Random, row: usize) -> Vec<Value> {
         run_up.swap(at, other);
     }
     run_up
+}
+
+/// Sizes and alignments that no start is a multiple of for long, and scalars without a byte.
+fn stacked(random: &mut Random) -> Value {
+    let align = random.pick(&[1, 4, 8, 12, 16, 20]);
+    match random.between(0, 3) {
+        0 | 1 => {
+            let size = random.pick(&[0, 1, 1, 8, 12, 16]);
+            Value::Scalar(Scalar { kind: random.between(0, LARGEST_KIND), size, align })
+        }
+        2 => Value::Aggregate(shape_of(random.pick(&[1, 2, 4, 8, 13, 24]), align, vec![])),
+        _ => Value::Aggregate(complex_of_singles()),
+    }
+}
+
+/// What departs from row 5 if few registers are left: values that are aligned to two words, or to more
+/// or less, shapes that take two words, and floats of no size, which alone are no wider than a float
+/// register of LP64.
+fn departing(random: &mut Random) -> Value {
+    let align = random.pick(&[8, 16, 16, 32]);
+    let scalar = |kind, size| Value::Scalar(Scalar { kind, size, align });
+    match random.between(0, 7) {
+        0 => scalar(0, random.pick(&[0, 1, 8, 16, 16, 17])),
+        1 => scalar(random.between(1, LARGEST_KIND), random.pick(&[0, 4, 8, 16, 16, 17])),
+        2 => natural(1, 4),
+        3 => natural(1, 0),
+        4..=6 => Value::Aggregate(two_words(random, align)),
+        _ => Value::Aggregate(beside_a_float_of_no_size(random, align)),
+    }
+}
+
+/// A shape of two words, now and then of none, one or three, with integers in it or nothing.
+fn two_words(random: &mut Random, align: u64) -> Shape {
+    let size = if random.once_in(8) { random.pick(&[0, 8, 17]) } else { random.between(9, 16) };
+    let words = if random.once_in(2) { 0 } else { size / 8 };
+    let integer = |at| Piece { scalar: Scalar { kind: 0, size: 8, align: 8 }, offset: 8 * at };
+    shape_of(size, align, (0..words).map(integer).collect())
+}
+
+/// A shape of up to two words with a float in it that has no size, and perhaps an integer before that.
+fn beside_a_float_of_no_size(random: &mut Random, align: u64) -> Shape {
+    let size = random.between(1, 16);
+    let piece = |kind, size, offset| Piece { scalar: Scalar { kind, size, align: 1 }, offset };
+    let mut pieces = vec![piece(random.between(1, LARGEST_KIND), 0, size)];
+    if random.once_in(2) {
+        pieces.insert(0, piece(0, size.min(8), 0));
+    }
+    shape_of(size, align, pieces)
 }
 
 /// A scalar aligned to its size.
@@ -232,7 +320,7 @@ fn grow(random: &mut Random, shape: &mut Shape) {
 fn up_to_a_word(random: &mut Random) -> Shape {
     let size = random.between(0, 4);
     let piece = Piece { scalar: Scalar { kind: 0, size, align: 1 }, offset: 0 };
-    Shape { size, align: 1, complex: false, floating: false, pieces: vec![piece] }
+    shape_of(size, 1, vec![piece])
 }
 
 fn complex_of_singles() -> Shape {
@@ -253,8 +341,9 @@ pub fn past(random: &mut Random, limit: u64) -> u64 {
 }
 
 pub fn bad_description(random: &mut Random) -> u64 {
-    // 30 and 31 are the rows of wasm, 256 would be row 0 in a byte.
-    if random.once_in(2) { random.pick(&[30, 31, 32, 256]) } else { past(random, ROWS as u64 - 1) }
+    // 33 is the first that there isn't, for the two rows of wasm have no number; 256 would be row 0 in
+    // a byte.
+    if random.once_in(2) { random.pick(&[33, 34, 35, 256]) } else { past(random, ROWS as u64 - 1) }
 }
 
 fn bad_kind(random: &mut Random) -> u64 {

@@ -1,8 +1,11 @@
-//! The original Rust, unchanged, answering questions about the thirty calling conventions.
+//! The original Rust, unchanged, answering questions about its thirty calling conventions, and about
+//! three more by questions that stand for theirs.
 
 pub mod agreement;
+pub mod asking;
 pub mod coverage;
 pub mod damage;
+pub mod descriptions;
 pub mod edge;
 pub mod find;
 pub mod generate;

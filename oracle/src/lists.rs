@@ -11,6 +11,7 @@ use std::io::{self, Write};
 
 use rucc_abi::{Call, Pass};
 
+use crate::asking::{self, left};
 use crate::generate::{Generator, past};
 use crate::numbers;
 use crate::random::Random;
@@ -83,10 +84,6 @@ impl List {
     }
 }
 
-fn left(call: &Call) -> [u64; 2] {
-    [u64::from(call.integer_left()), u64::from(call.float_left())]
-}
-
 /// The offsets at which a function finds the registers that a call has left.
 fn offsets([integers, floats]: [u64; 2], overflow: u64) -> Offsets {
     let integer = INTEGER_PLACE * (INTEGER_PLACES - integers);
@@ -95,12 +92,9 @@ fn offsets([integers, floats]: [u64; 2], overflow: u64) -> Offsets {
 
 /// A call that has left what these offsets say.
 fn call_at(at: Offsets) -> Call {
-    let mut call = numbers::row(ROW).call();
-    let integers = vec![integer(8); (at.integer / INTEGER_PLACE) as usize];
-    let floats = vec![DOUBLE; ((at.float - FLOAT_START) / FLOAT_PLACE) as usize];
-    for scalar in [integers, floats].concat() {
-        Value::Scalar(scalar).ask(|arg| call.argument(arg));
-    }
+    let integers = INTEGER_PLACES - at.integer / INTEGER_PLACE;
+    let floats = FLOAT_PLACES - (at.float - FLOAT_START) / FLOAT_PLACE;
+    let call = asking::led_to(numbers::row(ROW).in_rust, [integers, floats]);
     assert_eq!(offsets(left(&call), at.overflow), at, "a call is led to where it is to be");
     call
 }

@@ -9,7 +9,7 @@ use oracle::{
 };
 
 const USAGE: &str = "\
-usage: oracle rows                         every fact of the thirty descriptions
+usage: oracle rows                         every fact of the thirty-three descriptions
        oracle lookups                      every lookup over its whole domain
        oracle find SEED COUNT              random shapes, and what each test finds in them
        oracle shapes SEED COUNT            the same shapes as records of a sheet

@@ -1,20 +1,24 @@
 //! The numbers that stand for the Rust's types (REFERENCE 1, 5 and 6), in both directions.
 
-use rucc_abi::{AbiDescription, Format, Kind, Pass, Short, Slot, Test, Travel, abis};
+use rucc_abi::{AbiDescription, Format, Kind, Pass, Slot, Test, Travel, abis};
 
-/// How many descriptions are ported: all but the two of wasm, which stand last.
-pub const ROWS: usize = 30;
+use crate::descriptions::{self, Description, OF_THE_RUST, Short};
+
+/// How many descriptions there are: the Rust's, and the three of RISC-V's own book.
+pub const ROWS: usize = OF_THE_RUST + 3;
 
 /// The description of this number.
-pub fn row(number: usize) -> &'static AbiDescription {
+pub fn row(number: usize) -> &'static Description {
     assert!(number < ROWS, "there is no row {number}");
-    abis::DESCRIBED[number]
+    &descriptions::all()[number]
 }
 
 /// The number of this description, which is one of the Rust's own statics.
 pub fn row_number(description: &AbiDescription) -> usize {
     let found = abis::DESCRIBED.iter().position(|known| std::ptr::eq(*known, description));
-    found.filter(|number| *number < ROWS).expect("a lookup answers with one of the thirty rows")
+    found
+        .filter(|number| *number < OF_THE_RUST)
+        .expect("a lookup answers with one of the Rust's thirty rows")
 }
 
 pub fn flag(yes: bool) -> u64 {
@@ -100,6 +104,7 @@ pub fn short(short: Short) -> u64 {
         Short::Memory => 1,
         Short::MemoryAndDrain => 2,
         Short::TryNextRule => 3,
+        Short::Split => 4,
     }
 }
 

@@ -20,7 +20,7 @@ pub const NO_ROOM: u64 = 7;
 pub const BAD_AREA: u64 = 8;
 pub const BAD_EXTENT: u64 = 9;
 
-/// A fresh call: the description has to be one of the thirty.
+/// A fresh call: the description has to be one of those that there are.
 pub fn of_fresh(description: u64) -> Option<u64> {
     first(&[(description >= ROWS as u64, BAD_ABI)])
 }

@@ -1,9 +1,8 @@
-//! `oracle rows`: every fact of the thirty descriptions, one to a line (REFERENCE 5).
+//! `oracle rows`: every fact of the thirty-three descriptions, one to a line (REFERENCE 5).
 
 use std::io::{self, Write};
 
-use rucc_abi::{AbiDescription, Rule};
-
+use crate::descriptions::{Description, Rule};
 use crate::numbers::{self, flag, optional_format};
 
 pub fn print(out: &mut impl Write) -> io::Result<()> {
@@ -13,14 +12,14 @@ pub fn print(out: &mut impl Write) -> io::Result<()> {
         banks(out, number, row)?;
         scalars(out, number, row)?;
         others(out, number, row)?;
-        rules(out, number, "returns", row.returns)?;
-        rules(out, number, "arguments", row.arguments)?;
+        rules(out, number, "returns", &row.returns)?;
+        rules(out, number, "arguments", &row.arguments)?;
         questions(out, number, row)?;
     }
     Ok(())
 }
 
-fn banks(out: &mut impl Write, number: usize, row: &AbiDescription) -> io::Result<()> {
+fn banks(out: &mut impl Write, number: usize, row: &Description) -> io::Result<()> {
     let banks = row.banks;
     let numbers = [
         u64::from(banks.integer),
@@ -32,7 +31,7 @@ fn banks(out: &mut impl Write, number: usize, row: &AbiDescription) -> io::Resul
     writeln!(out, "row {number} banks {}", words(&numbers))
 }
 
-fn scalars(out: &mut impl Write, number: usize, row: &AbiDescription) -> io::Result<()> {
+fn scalars(out: &mut impl Write, number: usize, row: &Description) -> io::Result<()> {
     let scalars = row.scalars;
     let numbers = [
         optional_format(scalars.in_memory),
@@ -44,12 +43,14 @@ fn scalars(out: &mut impl Write, number: usize, row: &AbiDescription) -> io::Res
         flag(scalars.wide_integer_in_memory),
         flag(scalars.decimal_in_integers),
         flag(scalars.quad_returns_by_reference),
+        // The Rust has no such field, so it is no on its rows.
+        flag(row.float_falls_to_integers),
     ];
     writeln!(out, "row {number} scalars {}", words(&numbers))
 }
 
-/// The fields that are choices, each as its place in the Rust's declaration.
-fn others(out: &mut impl Write, number: usize, row: &AbiDescription) -> io::Result<()> {
+/// The fields that are choices, each as its place in its declaration.
+fn others(out: &mut impl Write, number: usize, row: &Description) -> io::Result<()> {
     let numbers = [
         row.return_pointer as u64,
         row.variadic as u64,
@@ -72,13 +73,13 @@ fn rules(out: &mut impl Write, number: usize, list: &str, rules: &[Rule]) -> io:
     Ok(())
 }
 
-fn questions(out: &mut impl Write, number: usize, row: &AbiDescription) -> io::Result<()> {
+fn questions(out: &mut impl Write, number: usize, row: &Description) -> io::Result<()> {
     for size in 0..=64 {
         let numbers = [
             size,
-            flag(row.scalar_is_by_reference(size)),
-            flag(row.scalar_returns_by_reference(size)),
-            optional_format(row.wide_integer_returns_in(size)),
+            flag(row.in_rust.scalar_is_by_reference(size)),
+            flag(row.in_rust.scalar_returns_by_reference(size)),
+            optional_format(row.in_rust.wide_integer_returns_in(size)),
         ];
         writeln!(out, "row {number} questions {}", words(&numbers))?;
     }

@@ -286,6 +286,7 @@ fn around(random: &mut Random, pieces: Vec<Piece>) -> Shape {
     shape_of(end.next_multiple_of(align.max(1)), align, pieces)
 }
 
-fn shape_of(size: u64, align: u64, pieces: Vec<Piece>) -> Shape {
+/// A shape that is neither complex nor floating.
+pub fn shape_of(size: u64, align: u64, pieces: Vec<Piece>) -> Shape {
     Shape { size, align, complex: false, floating: false, pieces }
 }

@@ -1,8 +1,8 @@
 //! `oracle sheet`: reads a sheet and prints its lines (REFERENCE 11).
 //!
-//! Ways, slots and counts left come from the Rust. Refusals, stops, the split into passed over and
-//! given, and where on the stack the rest stands come from the rules; where they and the Rust can't
-//! both be right, the run ends.
+//! Ways, slots and counts left come from the Rust (asking.rs). Refusals, stops, what of it is passed
+//! over and what given, and where on the stack the rest stands come from the rules; where they and the
+//! Rust can't both be right, the run ends.
 
 use std::fmt;
 use std::io::{self, Write};
@@ -10,6 +10,7 @@ use std::io::{self, Write};
 use rucc_abi::{Call, Pass};
 
 use crate::agreement;
+use crate::asking::{self, Answer};
 use crate::numbers;
 use crate::records::{
     self, AGGREGATE, ARGUMENT, BYTES, FRESH, MARK, PIECE, RETURN, Record, SCALAR,
@@ -209,7 +210,7 @@ impl Open {
     }
 
     fn left(&self) -> [u64; 2] {
-        [u64::from(self.call.integer_left()), u64::from(self.call.float_left())]
+        asking::left(&self.call)
     }
 
     fn before(&self) -> Before {
@@ -261,21 +262,18 @@ impl Open {
         points: &mut Points,
     ) -> Result<(Pass, Outcome), Ending> {
         let before = self.before();
-        let call = &mut self.call;
-        let (pass, outcome) = match asked {
-            Asked::Return => {
-                (value.ask(|arg| call.returns(arg)), spending::returned(before, value, points))
-            }
-            Asked::VariadicArgument => (
-                value.ask(|arg| call.variadic_argument(arg)),
-                spending::variadic_argument(before, value, points),
-            ),
-            _ => (value.ask(|arg| call.argument(arg)), spending::argument(before, value, points)),
+        let answer = asking::ask(numbers::row(self.row), &mut self.call, asked, value);
+        let outcome = match asked {
+            Asked::Return => spending::returned(before, value, points),
+            Asked::VariadicArgument => spending::variadic_argument(before, value, points),
+            _ => spending::argument(before, value, points),
         };
-        if !agreement::on_registers(before, &pass, self.left(), outcome) {
-            let left = self.left();
+        let (left, Answer { pass, even_start }) = (self.left(), answer);
+        if !agreement::on_registers(before, &pass, left, outcome)
+            || !agreement::on_even_start(before, even_start, outcome)
+        {
             return Err(Ending::Contradiction(format!(
-                "on {asked:?} {value:?} of {before:?}\nthe Rust: {pass:?}, left {left:?}\nthe rules: {outcome:?}"
+                "on {asked:?} {value:?} of {before:?}\nthe Rust: {pass:?}, left {left:?}, even start {even_start}\nthe rules: {outcome:?}"
             )));
         }
         Ok((pass, outcome))
@@ -296,12 +294,14 @@ impl Open {
             Asked::VariadicArgument => stack::variadic_argument(stack, value, outcome, points),
             _ => stack::argument(stack, value, outcome, points),
         };
+        let left = self.left();
         let agreed = |stacked: &Stacked| {
             agreement::on_the_stack(stack, asked, value, pass, outcome, *stacked)
+                && agreement::on_the_order(stack, left, outcome, *stacked)
         };
         if !stacked.iter().all(agreed) {
             return Err(Ending::Contradiction(format!(
-                "on {asked:?} {value:?} of {stack:?}\nthe Rust: {pass:?}\nthe rules: {outcome:?}, {stacked:?}"
+                "on {asked:?} {value:?} of {stack:?}\nthe Rust: {pass:?}, left {left:?}\nthe rules: {outcome:?}, {stacked:?}"
             )));
         }
         Ok(stacked)
@@ -393,6 +393,9 @@ mod tests {
             (9, 1, "2 0", &aggregate(12)),
             (22, 0, "2 0", &integer(8)),
             (22, 0, "2 0", &aggregate(6)),
+            (30, 7, "1 0", &integer(16)),
+            (31, 7, "1 8", &aggregate(16)),
+            (32, 7, "1 8", &aggregate(9)),
         ];
         for (row, integers, left, value) in cases {
             let mut call = open(row, integers, most);

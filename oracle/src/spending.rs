@@ -2,12 +2,14 @@
 //!
 //! The Rust keeps only what is left, so the sheet can hold no more than the sum against it: whether
 //! a register was passed over or given rests on this reading. From the Rust come a row's fields,
-//! which sizes return by reference, and what a test finds in a shape; all spending is done here.
+//! which sizes return by reference, and what a test finds in a shape; all spending is done here. The
+//! fields that the Rust has no words for are descriptions.rs's.
 
 use std::sync::OnceLock;
 
-use rucc_abi::{AbiDescription, ReturnPointer, Rule, Short, Travel};
+use rucc_abi::{ReturnPointer, Travel};
 
+use crate::descriptions::{Description, Rule, Short, Variadic};
 use crate::find::Probe;
 use crate::numbers;
 use crate::values::{Scalar, Shape, Value};
@@ -54,6 +56,8 @@ pub enum Point {
     Scalar(&'static str),
     /// An aggregate, by the rule of this place in its list.
     Rule(usize, End),
+    /// A register was passed over for an even start: of what, and how that travels then.
+    EvenStart(&'static str, &'static str),
     /// What of it goes to the stack, and how (stack.rs).
     Stack(&'static str, &'static str),
 }
@@ -67,6 +71,8 @@ pub enum End {
     Fits,
     /// There were too few registers, so it did what it says for that.
     Short,
+    /// There were too few registers, and for a split none at all.
+    NoneLeft,
     /// It found floats for a call that may use integer registers alone, so the next one was tried.
     NoFloats,
 }
@@ -74,15 +80,10 @@ pub enum End {
 /// The points of one operation, those of `oracle coverage`.
 pub type Points = Vec<Point>;
 
-/// The rows that the rules give by number.
-pub const DARWIN_ARM64: usize = 2;
-pub const WINDOWS_ARM64: usize = 3;
-pub const RISCV_LP64D: usize = 5;
-
 /// Whether a call is integers-only once it is marked variadic (REFERENCE 9.6): the mark changes
 /// a call of row 3 and no other.
 pub fn marked(before: Before) -> bool {
-    before.integers_only || before.row == WINDOWS_ARM64
+    before.integers_only || numbers::row(before.row).variadic == Variadic::IntegersOnly
 }
 
 /// A fixed argument (REFERENCE 9.2 and 9.3).
@@ -105,11 +106,13 @@ pub fn returned(before: Before, value: &Value, points: &mut Points) -> Outcome {
 
 /// An argument after the dots (REFERENCE 9.5).
 pub fn variadic_argument(before: Before, value: &Value, points: &mut Points) -> Outcome {
-    match before.row {
-        // For this argument alone, the call is integers-only.
-        RISCV_LP64D => argument(Before { integers_only: true, ..before }, value, points),
+    // For this argument alone, the call is integers-only.
+    let in_integers = Before { integers_only: true, ..before };
+    match numbers::row(before.row).variadic {
+        Variadic::UnnamedIntegers => argument(in_integers, value, points),
+        Variadic::UnnamedIntegersEven => from_an_even_register(in_integers, value, points),
         // Nothing changes the call. A scalar is itself; an aggregate finds both banks empty.
-        DARWIN_ARM64 => match value {
+        Variadic::AlwaysMemory => match value {
             Value::Void => void(points),
             Value::Scalar(_) => {
                 points.push(Point::Scalar("itself"));
@@ -120,8 +123,35 @@ pub fn variadic_argument(before: Before, value: &Value, points: &mut Points) -> 
                 nothing(argument(empty, value, points).way)
             }
         },
-        _ => argument(before, value, points),
+        Variadic::SameAsFixed | Variadic::BothBanks | Variadic::IntegersOnly => {
+            argument(before, value, points)
+        }
     }
+}
+
+/// An argument of which the registers start at an even one if it is aligned to two words and no
+/// larger: with an odd number used, one is passed over first, if one is left. Only then is its way
+/// decided, and where that is to be ignored, nothing was passed over.
+fn from_an_even_register(before: Before, value: &Value, points: &mut Points) -> Outcome {
+    let (of, size, align) = match value {
+        Value::Void => return void(points),
+        Value::Scalar(scalar) => ("scalar", scalar.size, scalar.align),
+        Value::Aggregate(shape) => ("aggregate", shape.size, shape.align),
+    };
+    let banks = numbers::row(before.row).banks;
+    let two_words = 2 * banks.integer_width;
+    let used = u64::from(banks.integer) - before.integers;
+    if align != two_words || size > two_words || used.is_multiple_of(2) || before.integers == 0 {
+        return argument(before, value, points);
+    }
+    let next = Before { integers: before.integers - 1, ..before };
+    let outcome = argument(next, value, points);
+    if outcome.way == Way::Ignore {
+        return outcome;
+    }
+    points.push(Point::EvenStart(of, word(outcome.way)));
+    let Spent { passed_over, given } = outcome.integers;
+    Outcome { integers: Spent { passed_over: passed_over + 1, given }, ..outcome }
 }
 
 fn void(points: &mut Points) -> Outcome {
@@ -154,8 +184,7 @@ fn scalar_argument(before: Before, scalar: Scalar, points: &mut Points) -> Outco
         // Both banks are one sequence of places, and every value takes the next.
         ("line 5", integers(Way::Direct, gives(1, left)))
     } else if scalar.is_float() && scalar.size <= banks.float_width {
-        // A float that a float register holds takes one.
-        ("line 6", floats(Way::Direct, gives(1, before.floats)))
+        float_argument(before, want)
     } else if scalar.is_float() {
         // A wider float takes integer registers.
         ("line 7", integers(Way::Direct, gives(want, left)))
@@ -165,6 +194,16 @@ fn scalar_argument(before: Before, scalar: Scalar, points: &mut Points) -> Outco
     };
     points.push(Point::Scalar(line));
     outcome
+}
+
+/// The sixth line for a scalar argument: a float that a float register holds takes one, and where none
+/// is left and it falls to integers, as many of these as it wants.
+fn float_argument(before: Before, want: u64) -> (&'static str, Outcome) {
+    if before.floats > 0 || !numbers::row(before.row).float_falls_to_integers {
+        return ("line 6", floats(Way::Direct, gives(1, before.floats)));
+    }
+    let line = if before.integers > 0 { "line 6, fallen" } else { "line 6, fallen, none left" };
+    (line, integers(Way::Direct, gives(want, before.integers)))
 }
 
 /// The last three lines for a scalar argument: an integer that none of the others applies to.
@@ -199,7 +238,7 @@ fn integer_argument(before: Before, want: u64) -> (&'static str, Spent) {
 /// A scalar return (REFERENCE 9.4).
 fn scalar_return(before: Before, scalar: Scalar, points: &mut Points) -> Outcome {
     let row = numbers::row(before.row);
-    let (line, outcome) = if !row.scalar_returns_by_reference(scalar.size) {
+    let (line, outcome) = if !row.in_rust.scalar_returns_by_reference(scalar.size) {
         ("itself", nothing(Way::Direct))
     } else if !scalar.is_float() && row.scalars.wide_integer_returns_in.is_some() {
         // It comes back in one float register, which isn't one of the call's.
@@ -212,7 +251,7 @@ fn scalar_return(before: Before, scalar: Scalar, points: &mut Points) -> Outcome
 }
 
 /// What the pointer to a return takes: one integer register, unless it has one of its own.
-fn return_pointer(before: Before, row: &AbiDescription) -> Spent {
+fn return_pointer(before: Before, row: &Description) -> Spent {
     if row.return_pointer == ReturnPointer::Dedicated {
         Spent::default()
     } else {
@@ -312,24 +351,27 @@ fn in_slots(before: Before, short: Short, slots: Slots) -> (End, Option<Outcome>
     if fits_i && fits_f {
         return (End::Fits, Some(taken));
     }
-    let outcome = match short {
+    match short {
         // It gives what is left, up to the cost.
-        Short::Unchanged => Some(taken),
+        Short::Unchanged => (End::Short, Some(taken)),
         // It goes to memory and leaves both banks alone.
-        Short::Memory => Some(nothing(Way::Memory)),
+        Short::Memory => (End::Short, Some(nothing(Way::Memory))),
         // It goes to memory, and a bank that was short is passed over whole.
-        Short::MemoryAndDrain => Some(Outcome {
-            way: Way::Memory,
-            integers: drains(!fits_i, before.integers),
-            floats: drains(!fits_f, before.floats),
-        }),
-        Short::TryNextRule => None,
-    };
-    (End::Short, outcome)
+        Short::MemoryAndDrain => {
+            let integers = drains(!fits_i, before.integers);
+            let floats = drains(!fits_f, before.floats);
+            (End::Short, Some(Outcome { way: Way::Memory, integers, floats }))
+        }
+        Short::TryNextRule => (End::Short, None),
+        // Its first slots are in registers if any integer is left. If none is, it goes to memory and
+        // leaves both banks alone.
+        Short::Split if before.integers > 0 => (End::Short, Some(taken)),
+        Short::Split => (End::NoneLeft, Some(nothing(Way::Memory))),
+    }
 }
 
 /// How many integer registers a size is worth, at least one.
-fn want(size: u64, row: &AbiDescription) -> u64 {
+fn want(size: u64, row: &Description) -> u64 {
     size.div_ceil(row.banks.integer_width).max(1)
 }
 
@@ -346,6 +388,17 @@ fn passes(count: u64, left: u64) -> Spent {
 /// Passes a bank over whole if it was short.
 fn drains(short: bool, left: u64) -> Spent {
     Spent { passed_over: if short { left } else { 0 }, given: 0 }
+}
+
+/// A way, in the word that a sheet's line has for it.
+fn word(way: Way) -> &'static str {
+    match way {
+        Way::Ignore => "ignore",
+        Way::Direct => "direct",
+        Way::Pieces(_) => "pieces",
+        Way::Reference => "reference",
+        Way::Memory => "memory",
+    }
 }
 
 fn nothing(way: Way) -> Outcome {
@@ -372,11 +425,11 @@ fn probed_rules() -> &'static [ProbedRules] {
     ROWS.get_or_init(|| (0..numbers::ROWS).map(|number| probe_row(numbers::row(number))).collect())
 }
 
-fn probe_row(row: &AbiDescription) -> ProbedRules {
+fn probe_row(row: &Description) -> ProbedRules {
     let probed = |rules: &[Rule]| {
         let widths = row.banks;
         let probe = |test| Probe::new(test, widths.integer_width, widths.float_width);
         rules.iter().map(|rule| (*rule, probe(rule.when))).collect()
     };
-    ProbedRules { returns: probed(row.returns), arguments: probed(row.arguments) }
+    ProbedRules { returns: probed(&row.returns), arguments: probed(&row.arguments) }
 }

@@ -4,8 +4,9 @@
 //! aligned to in the argument area. The way, its slots and the registers given come with the outcome,
 //! which the sheet holds against the Rust; where they lead to rests on this reading.
 
-use rucc_abi::{AbiDescription, Arg, ReturnPointer, StackArgs, Variadic};
+use rucc_abi::{Arg, ReturnPointer, StackArgs};
 
+use crate::descriptions::{Description, Variadic};
 use crate::numbers;
 use crate::refusals::{self, BAD_CALL, NO_ROOM};
 use crate::spending::{Outcome, Point, Points, Way};
@@ -91,7 +92,7 @@ struct Rounding {
 
 /// Of a return: only the pointer to where it goes, unless that has a register of its own or was given
 /// one.
-fn rest_of_return(row: &AbiDescription, outcome: Outcome) -> Rest {
+fn rest_of_return(row: &Description, outcome: Outcome) -> Rest {
     match outcome.way {
         Way::Reference if row.return_pointer == ReturnPointer::Dedicated => {
             nothing("pointer", "in a register of its own")
@@ -103,7 +104,7 @@ fn rest_of_return(row: &AbiDescription, outcome: Outcome) -> Rest {
 }
 
 /// Of an argument: what the registers that it was given don't hold. Those passed over hold nothing.
-fn rest_of_argument(row: &'static AbiDescription, value: &Value, outcome: Outcome) -> Rest {
+fn rest_of_argument(row: &Description, value: &Value, outcome: Outcome) -> Rest {
     let (integers, floats) = (outcome.integers.given, outcome.floats.given);
     match (value, outcome.way) {
         (Value::Void, _) | (_, Way::Ignore) => nothing("nothing", "travels"),
@@ -129,14 +130,14 @@ fn rest_of_argument(row: &'static AbiDescription, value: &Value, outcome: Outcom
 }
 
 /// A pointer that was given no register: a word.
-fn pointer(row: &AbiDescription) -> Rest {
+fn pointer(row: &Description) -> Rest {
     let width = row.banks.integer_width;
     let rounding = Rounding { to: width, moved: MOVED_TO_WIDTH };
     Rest { of: "pointer", how: "placed", bytes: width, rounding }
 }
 
 /// The bytes of a scalar beyond the integer registers that it was given. One of size 0 has none.
-fn rest_of_scalar(row: &AbiDescription, scalar: Scalar, integers: u64) -> Rest {
+fn rest_of_scalar(row: &Description, scalar: Scalar, integers: u64) -> Rest {
     let bytes = scalar.size.saturating_sub(row.banks.integer_width * integers);
     let how = match (bytes, integers) {
         (0, 0) => "without a byte",
@@ -148,7 +149,7 @@ fn rest_of_scalar(row: &AbiDescription, scalar: Scalar, integers: u64) -> Rest {
 }
 
 /// What the start of a scalar is rounded to, or of what is left of it.
-fn scalar_rounding(row: &AbiDescription, scalar: Scalar) -> Rounding {
+fn scalar_rounding(row: &Description, scalar: Scalar) -> Rounding {
     if scalar.align == 16 {
         Rounding { to: 16, moved: "moved on to 16" }
     } else if is_packed(row) {
@@ -159,7 +160,7 @@ fn scalar_rounding(row: &AbiDescription, scalar: Scalar) -> Rounding {
 }
 
 /// A word for each slot beyond the registers that were given in both banks.
-fn rest_of_slots(row: &'static AbiDescription, shape: &Shape, slots: u64, given: u64) -> Rest {
+fn rest_of_slots(row: &Description, shape: &Shape, slots: u64, given: u64) -> Rest {
     let beyond = slots - given;
     let how = match (beyond, given) {
         (0, _) => return nothing("aggregate", "given"),
@@ -172,7 +173,7 @@ fn rest_of_slots(row: &'static AbiDescription, shape: &Shape, slots: u64, given:
 
 /// What the start of an aggregate is rounded to: `in_memory`, and a word at least unless arguments
 /// are packed.
-fn aggregate_rounding(row: &'static AbiDescription, shape: &Shape) -> Rounding {
+fn aggregate_rounding(row: &Description, shape: &Shape) -> Rounding {
     let (own, width) = (in_memory(row, shape), row.banks.integer_width);
     if is_packed(row) && own < width {
         Rounding { to: own, moved: "moved on to in_memory, less than the width" }
@@ -184,14 +185,14 @@ fn aggregate_rounding(row: &'static AbiDescription, shape: &Shape) -> Rounding {
 }
 
 /// What the Rust aligns an aggregate to in the argument area.
-pub fn in_memory(row: &'static AbiDescription, shape: &Shape) -> u64 {
+pub fn in_memory(row: &Description, shape: &Shape) -> u64 {
     ask_shape(shape, |arg| match arg {
         Arg::Aggregate(shape) => row.call().in_memory(shape),
         _ => panic!("a shape is an aggregate"),
     })
 }
 
-fn is_packed(row: &AbiDescription) -> bool {
+fn is_packed(row: &Description) -> bool {
     row.stack_args == StackArgs::Packed
 }
 
@@ -237,7 +238,7 @@ fn place(stack: Stack, rest: Rest, dots: bool, points: &mut Points) -> Result<St
 
 /// How long it is there: as many bytes as it has where arguments are packed, but not after the dots;
 /// else whole words.
-fn length(row: &AbiDescription, bytes: u64, dots: bool) -> u64 {
+fn length(row: &Description, bytes: u64, dots: bool) -> u64 {
     if is_packed(row) && !dots { bytes } else { bytes.next_multiple_of(row.banks.integer_width) }
 }
 

@@ -17,7 +17,7 @@ pub struct Abi(pub u64);
 
 impl Abi {
     /// How many there are, numbered from 0.
-    pub const COUNT: u64 = 30;
+    pub const COUNT: u64 = 33;
     /// SysV AMD64.
     pub const SYSV_AMD64: Self = Self(0);
     /// AAPCS64.
@@ -28,7 +28,7 @@ impl Abi {
     pub const WINDOWS_ARM64: Self = Self(3);
     /// Windows x64.
     pub const WINDOWS_X64: Self = Self(4);
-    /// RISC-V LP64D.
+    /// RISC-V LP64D, as the original has it. Compilers follow [`Self::RISCV_PSABI_LP64D`].
     pub const RISCV_LP64D: Self = Self(5);
     /// i386 SysV.
     pub const I386_SYSV: Self = Self(6);
@@ -78,6 +78,12 @@ impl Abi {
     pub const I386_MSVC_STDCALL: Self = Self(28);
     /// i386 Windows fastcall (MSVC).
     pub const I386_MSVC_FASTCALL: Self = Self(29);
+    /// RISC-V LP64 psABI: what compilers follow with -mabi=lp64.
+    pub const RISCV_PSABI_LP64: Self = Self(30);
+    /// RISC-V LP64F psABI: what compilers follow with -mabi=lp64f.
+    pub const RISCV_PSABI_LP64F: Self = Self(31);
+    /// RISC-V LP64D psABI: what compilers follow with -mabi=lp64d.
+    pub const RISCV_PSABI_LP64D: Self = Self(32);
 
     /// Its fields.
     ///
@@ -108,6 +114,7 @@ impl Abi {
             narrow: Narrow::from_number(fields.narrow),
             bit_ints: BitInts::from_number(fields.bit_ints),
             cleanup: Cleanup::from_number(fields.cleanup),
+            float_falls_to_integers: fields.float_falls_to_integers != 0,
         })
     }
 
@@ -235,6 +242,8 @@ pub struct Description {
     pub bit_ints: BitInts,
     /// Who takes the argument area off the stack.
     pub cleanup: Cleanup,
+    /// A float that a float register would hold, and that finds none left, takes integer registers.
+    pub float_falls_to_integers: bool,
 }
 
 /// What an aggregate has to look like for a rule to apply (REFERENCE 5.3).

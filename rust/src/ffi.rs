@@ -109,6 +109,7 @@ pub struct DescriptionFields {
     pub narrow: u64,
     pub bit_ints: u64,
     pub cleanup: u64,
+    pub float_falls_to_integers: u64,
 }
 
 /// A refusal, or a rule.
@@ -165,7 +166,7 @@ laid_out!(What, 48 { form: 0, kind: 8, size: 16, align: 24, complex: 32, floatin
 laid_out!(Told, 16 { refusal: 0, value: 8 });
 laid_out!(RecordShape, 40 { refusal: 0, size: 8, align: 16, complex: 24, floating: 32 });
 laid_out!(Flat, 32 { refusal: 0, pieces: 8, size: 16, align: 24 });
-laid_out!(DescriptionFields, 168 {
+laid_out!(DescriptionFields, 176 {
     refusal: 0,
     integer: 8,
     float: 16,
@@ -187,6 +188,7 @@ laid_out!(DescriptionFields, 168 {
     narrow: 144,
     bit_ints: 152,
     cleanup: 160,
+    float_falls_to_integers: 168,
 });
 laid_out!(Rule, 40 { refusal: 0, test: 8, number: 16, travel: 24, short: 32 });
 laid_out!(Part, 56 {

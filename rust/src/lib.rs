@@ -1,4 +1,4 @@
-//! How each value of a call travels, on thirty calling conventions.
+//! How each value of a call travels, on thirty-three calling conventions.
 //!
 //! Start a [`Call`] on an [`Abi`], then ask for its return value and its arguments in order. Each
 //! answer has the next call and the [`Outcome`]: the way, the slots, the registers spent, and where on

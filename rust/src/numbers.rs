@@ -238,6 +238,9 @@ numbered! {
         IntegersOnly = 3,
         /// Those after the dots alone so.
         UnnamedIntegers = 4,
+        /// The same, and one that is aligned to two registers' width, and no larger, starts at an
+        /// even register.
+        UnnamedIntegersEven = 5,
     }
 }
 
@@ -315,5 +318,8 @@ numbered! {
         MemoryAndDrain = 2,
         /// The rule doesn't apply after all.
         TryNextRule = 3,
+        /// It keeps its slots, and takes what is left; with no integer register left it goes to the
+        /// argument area.
+        Split = 4,
     }
 }

@@ -7,7 +7,7 @@ use crate::ffi;
 
 /// The version of include/barkpaddle.h that this crate goes with. Each change of the header raises
 /// it.
-pub const VERSION: u64 = 6;
+pub const VERSION: u64 = 7;
 
 /// The version of include/barkpaddle.h that the linked library goes with.
 #[must_use]

@@ -132,7 +132,7 @@ fn kinds_ways_and_descriptions_are_shown_by_name() {
         let name = Abi(number).name(&mut room).expect("there is room");
         assert_eq!(Abi(number).to_string().as_bytes(), name);
     }
-    assert_eq!(Abi(Abi::COUNT).to_string(), "description 30");
+    assert_eq!(Abi(Abi::COUNT).to_string(), "description 33");
     assert_eq!(Abi(u64::MAX).to_string(), format!("description {}", u64::MAX));
 }
 

@@ -459,6 +459,7 @@ fn print_row(out: &mut String, number: u64) -> Result<(), Refusal> {
         u64::from(said.wide_integer_in_memory),
         u64::from(said.decimal_in_integers),
         u64::from(said.quad_returns_by_reference),
+        u64::from(said.float_falls_to_integers),
     ];
     line(format!("scalars {}", words(&scalars)));
     let others = [

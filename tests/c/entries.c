@@ -66,7 +66,7 @@ WORD(flat, pieces, 1);
 WORD(flat, size, 2);
 WORD(flat, align, 3);
 
-WORDS(description_fields, 21);
+WORDS(description_fields, 22);
 WORD(description_fields, refusal, 0);
 WORD(description_fields, integer, 1);
 WORD(description_fields, float_, 2);
@@ -88,6 +88,7 @@ WORD(description_fields, stack_args, 17);
 WORD(description_fields, narrow, 18);
 WORD(description_fields, bit_ints, 19);
 WORD(description_fields, cleanup, 20);
+WORD(description_fields, float_falls_to_integers, 21);
 
 WORDS(rule, 5);
 WORD(rule, refusal, 0);
@@ -617,6 +618,138 @@ static void carries_nothing(void)
         }
 }
 
+/* ---- RISC-V by its own book, rows 30 to 32 ---- */
+
+/* the float registers and the float width of a row */
+static const uint64_t riscv_floats[] = {0, 8, 8};
+static const uint64_t riscv_widths[] = {0, 4, 8};
+
+static barkpaddle_call riscv_call(uint64_t row, uint64_t integer)
+{
+    return call_of(row, integer, riscv_floats[row - 30], 0);
+}
+
+/* Two words are split between the last register and the stack; with none left they are in memory, and so is one word. */
+static void riscv_split(uint64_t row)
+{
+    static const uint64_t two[] = {0, 0, 8, 0, 8, 8}, nine[] = {0, 0, 8, 0, 8, 1}, one[] = {0, 0, 8};
+    uint64_t f = riscv_floats[row - 30];
+    const uint64_t fits[NUMBERS] = {0, f, 0, 2, 0, 0, 0, 0, 0}, half[NUMBERS] = {0, f, 0, 1, 0, 0, 0, 8, 8};
+    const uint64_t none[NUMBERS] = {0, f, 0, 0, 0, 0, 0, 16, 16}, word[NUMBERS] = {0, f, 0, 1, 0, 0, 0, 0, 0};
+    const uint64_t no_word[NUMBERS] = {0, f, 0, 0, 0, 0, 0, 8, 8};
+    static const enum operation arguments[] = {ARGUMENT, VARIADIC_ARGUMENT};
+    size_t i;
+
+    for (i = 0; i < COUNT(arguments); i++) {
+        LINE("two words fit", arguments[i], riscv_call(row, 2), aggregate(16, 8, two_int8, 8), BARKPADDLE_WAY_PIECES, fits, two);
+        LINE("two words, split", arguments[i], riscv_call(row, 1), aggregate(16, 8, two_int8, 8), BARKPADDLE_WAY_PIECES, half, two);
+        LINE("nine bytes, split", arguments[i], riscv_call(row, 1), aggregate(9, 1, NULL, 0), BARKPADDLE_WAY_PIECES, half, nine);
+        BARE("two words, none left", arguments[i], riscv_call(row, 0), aggregate(16, 8, two_int8, 8), BARKPADDLE_WAY_MEMORY, none);
+        LINE("one word", arguments[i], riscv_call(row, 1), aggregate(8, 8, NULL, 0), BARKPADDLE_WAY_PIECES, word, one);
+        BARE("one word, none left", arguments[i], riscv_call(row, 0), aggregate(8, 8, NULL, 0), BARKPADDLE_WAY_MEMORY, no_word);
+        check_refused("room for one of two", arguments[i], riscv_call(row, 1), aggregate(16, 8, two_int8, 8), 1 * BARKPADDLE_SLOT_WORDS, BARKPADDLE_NO_ROOM);
+    }
+}
+
+/* A float that a float register holds takes an integer register where no float register is left. A wider one always takes integer registers. */
+static void riscv_floats_fall(uint64_t row)
+{
+    uint64_t width = riscv_widths[row - 30];
+    uint64_t f = riscv_floats[row - 30];
+    const uint64_t held[NUMBERS] = {8, f - 1, 0, 0, 0, 1}, fallen[NUMBERS] = {7, 0, 0, 1, 0, 0}, wider[NUMBERS] = {7, f, 0, 1, 0, 0};
+    const uint64_t on_the_stack[NUMBERS] = {0, 0, 0, 0, 0, 0, 0, 8, 8}, quad[NUMBERS] = {6, f, 0, 2, 0, 0};
+    static const uint64_t sizes[] = {4, 8};
+    size_t i;
+
+    for (i = 0; i < COUNT(sizes); i++) {
+        value v = scalar(i + 1, sizes[i], sizes[i]);
+
+        if (sizes[i] > width) {
+            BARE("a wider float", ARGUMENT, riscv_call(row, 8), v, BARKPADDLE_WAY_DIRECT, wider);
+            continue;
+        }
+        BARE("a float", ARGUMENT, riscv_call(row, 8), v, BARKPADDLE_WAY_DIRECT, held);
+        BARE("a float that falls", ARGUMENT, call_of(row, 8, 0, 0), v, BARKPADDLE_WAY_DIRECT, fallen);
+        BARE("a float that finds nothing", ARGUMENT, call_of(row, 0, 0, 0), v, BARKPADDLE_WAY_DIRECT, on_the_stack);
+    }
+    BARE("a Quad", ARGUMENT, riscv_call(row, 8), scalar(4, 16, 16), BARKPADDLE_WAY_DIRECT, quad);
+}
+
+/* After the dots a value that is aligned to two words, and no larger, starts at an even register, unless nothing travels. */
+static void riscv_even_start(uint64_t row)
+{
+    static const uint64_t two[] = {0, 0, 8, 0, 8, 8}, one[] = {0, 0, 8};
+    uint64_t f = riscv_floats[row - 30];
+    const uint64_t even[NUMBERS] = {4, f, 1, 2, 0, 0}, odd[NUMBERS] = {5, f, 0, 2, 0, 0}, at_once[NUMBERS] = {4, f, 0, 2, 0, 0};
+    const uint64_t last[NUMBERS] = {0, f, 1, 0, 0, 0, 0, 16, 16}, kept[NUMBERS] = {7, f, 0, 0, 0, 0}, half[NUMBERS] = {0, f, 0, 1, 0, 0, 0, 8, 8};
+    const uint64_t address[NUMBERS] = {6, f, 0, 1, 0, 0}, word[NUMBERS] = {5, f, 1, 1, 0, 0};
+    value aligned = aggregate(16, 16, two_int8, 8);
+
+    BARE("16, aligned to 16", VARIADIC_ARGUMENT, riscv_call(row, 7), scalar(0, 16, 16), BARKPADDLE_WAY_DIRECT, even);
+    BARE("the same, from an even one", VARIADIC_ARGUMENT, riscv_call(row, 6), scalar(0, 16, 16), BARKPADDLE_WAY_DIRECT, at_once);
+    BARE("16, aligned to 32", VARIADIC_ARGUMENT, riscv_call(row, 7), scalar(0, 16, 32), BARKPADDLE_WAY_DIRECT, odd);
+    BARE("16, aligned to 8", VARIADIC_ARGUMENT, riscv_call(row, 7), scalar(0, 16, 8), BARKPADDLE_WAY_DIRECT, odd);
+    BARE("16, named", ARGUMENT, riscv_call(row, 7), scalar(0, 16, 16), BARKPADDLE_WAY_DIRECT, odd);
+    LINE("a Quad there", VARIADIC_ARGUMENT, riscv_call(row, 7), scalar(4, 16, 16), BARKPADDLE_WAY_PIECES, even, two);
+    LINE("a record there", VARIADIC_ARGUMENT, riscv_call(row, 7), aligned, BARKPADDLE_WAY_PIECES, even, two);
+    LINE("a word aligned to 16", VARIADIC_ARGUMENT, riscv_call(row, 7), aggregate(8, 16, NULL, 0), BARKPADDLE_WAY_PIECES, word, one);
+    LINE("a record, named", ARGUMENT, riscv_call(row, 7), aligned, BARKPADDLE_WAY_PIECES, odd, two);
+    BARE("a record, one left", VARIADIC_ARGUMENT, riscv_call(row, 1), aligned, BARKPADDLE_WAY_MEMORY, last);
+    BARE("16, one left", VARIADIC_ARGUMENT, riscv_call(row, 1), scalar(0, 16, 16), BARKPADDLE_WAY_DIRECT, last);
+    LINE("a record, one left, aligned to 8", VARIADIC_ARGUMENT, riscv_call(row, 1), aggregate(16, 8, two_int8, 8), BARKPADDLE_WAY_PIECES, half, two);
+    BARE("a large record", VARIADIC_ARGUMENT, riscv_call(row, 7), aggregate(32, 16, NULL, 0), BARKPADDLE_WAY_REFERENCE, address);
+    BARE("nothing, aligned to 16", VARIADIC_ARGUMENT, riscv_call(row, 7), aggregate(0, 16, NULL, 0), BARKPADDLE_WAY_IGNORE, kept);
+    BARE("void", VARIADIC_ARGUMENT, riscv_call(row, 7), nothing, BARKPADDLE_WAY_IGNORE, kept);
+}
+
+/* What isn't said of these rows is as on row 5. */
+static void riscv_as_row_5(uint64_t row)
+{
+    static const uint64_t empty_single[] = {1, 0, 0, 0}, of_nothing[] = {1, 0, 0}, four_words[] = {0, 0, 8};
+    uint64_t f = riscv_floats[row - 30];
+    const uint64_t whole[NUMBERS] = {8, f, 0, 0, 0, 0}, wide[NUMBERS] = {4, f, 0, 4, 0, 0}, address[NUMBERS] = {7, f, 0, 1, 0, 0};
+    const uint64_t word[NUMBERS] = {7, f, 0, 1, 0, 0}, pair[NUMBERS] = {7, f - 1, 0, 1, 0, 1};
+    static const uint64_t found[] = {1, 0, 0, 0, 4, 4};
+
+    BARE("an integer of 32", ARGUMENT, riscv_call(row, 8), scalar(0, 32, 32), BARKPADDLE_WAY_DIRECT, wide);
+    BARE("a record of 17", ARGUMENT, riscv_call(row, 8), aggregate(17, 1, NULL, 0), BARKPADDLE_WAY_REFERENCE, address);
+    BARE("a record of 17 back", RETURN, riscv_call(row, 8), aggregate(17, 1, NULL, 0), BARKPADDLE_WAY_REFERENCE, address);
+    BARE("an empty record", ARGUMENT, riscv_call(row, 8), aggregate(0, 1, NULL, 0), BARKPADDLE_WAY_IGNORE, whole);
+    LINE("a Single of no bytes back", RETURN, riscv_call(row, 8), aggregate(1, 1, empty_single, 4), BARKPADDLE_WAY_PIECES, whole, of_nothing);
+    if (f == 0)
+        LINE("a Single and an int", ARGUMENT, riscv_call(row, 8), aggregate(8, 4, single_int4, 8), BARKPADDLE_WAY_PIECES, word, four_words);
+    else
+        LINE("a Single and an int", ARGUMENT, riscv_call(row, 8), aggregate(8, 4, single_int4, 8), BARKPADDLE_WAY_PIECES, pair, found);
+}
+
+static void riscv_refusals(enum operation operation, uint64_t row)
+{
+    uint64_t f = riscv_floats[row - 30];
+
+    check_refused("nine integers left", operation, call_of(row, 9, 0, 0), scalar(0, 8, 8), ROOM, BARKPADDLE_BAD_CALL);
+    check_refused("a float too many left", operation, call_of(row, 8, f + 1, 0), scalar(0, 8, 8), ROOM, BARKPADDLE_BAD_CALL);
+    check_refused("the mark", operation, call_of(row, 8, f, 1), scalar(0, 8, 8), ROOM, BARKPADDLE_BAD_CALL);
+    check_refused("a kind", operation, call_of(row, 8, f, 0), scalar(5, 65, 4097), ROOM, BARKPADDLE_BAD_KIND);
+    check_refused("a size", operation, call_of(row, 8, f, 0), scalar(0, 65, 4097), ROOM, BARKPADDLE_BAD_SIZE);
+    check_refused("an alignment", operation, call_of(row, 8, f, 0), scalar(0, 64, 4097), ROOM, BARKPADDLE_BAD_ALIGN);
+    check_refused("a shape's size", operation, call_of(row, 8, f, 0), aggregate(16777217, 16, NULL, 0), ROOM, BARKPADDLE_BAD_SIZE);
+}
+
+static void riscv_psabi(void)
+{
+    uint64_t row;
+
+    for (row = BARKPADDLE_ABI_RISCV_PSABI_LP64; row <= BARKPADDLE_ABI_RISCV_PSABI_LP64D; row++) {
+        riscv_split(row);
+        riscv_floats_fall(row);
+        riscv_even_start(row);
+        riscv_as_row_5(row);
+        riscv_refusals(RETURN, row);
+        riscv_refusals(ARGUMENT, row);
+        riscv_refusals(VARIADIC_ARGUMENT, row);
+    }
+}
+
 /* ---- refused operations ---- */
 
 /* numbers of no description: the next two, and what would be row 0 in a byte and in four, and the last */
@@ -728,13 +861,13 @@ static barkpaddle_answer mark(barkpaddle_call c)
 
 static void starts(void)
 {
-    /* registers of the thirty rows */
-    static const uint64_t integers[] = {6, 8, 8, 8, 4, 8, 0, 1, 2, 3, 0, 1, 2, 3, 0, 1, 2, 3, 0, 1, 2, 3, 2, 2, 0, 0, 0, 2, 0, 2};
-    static const uint64_t floats[] = {8, 8, 8, 8, 0, 8};
+    /* registers of the rows */
+    static const uint64_t integers[] = {6, 8, 8, 8, 4, 8, 0, 1, 2, 3, 0, 1, 2, 3, 0, 1, 2, 3, 0, 1, 2, 3, 2, 2, 0, 0, 0, 2, 0, 2, 8, 8, 8};
+    static const uint64_t floats[] = {8, 8, 8, 8, 0, 8, 0, 0, 0, 0, 0, 0, 0, 0, 0, 0, 0, 0, 0, 0, 0, 0, 0, 0, 0, 0, 0, 0, 0, 0, 0, 8, 8};
     uint64_t i;
 
     for (i = 0; i < BARKPADDLE_ABI_COUNT; i++) {
-        barkpaddle_call c = call_of(i, integers[i], i < COUNT(floats) ? floats[i] : 0, 0);
+        barkpaddle_call c = call_of(i, integers[i], floats[i], 0);
         barkpaddle_call marked = c;
 
         check_answer("fresh", barkpaddle_fresh(i), 0, 0, c, no_spending, 0);
@@ -1849,10 +1982,10 @@ static void ends_past(void)
 
 /* ---- descriptions ---- */
 
-static void check_fields(const char *place, uint64_t abi, const uint64_t expected[21])
+static void check_fields(const char *place, uint64_t abi, const uint64_t expected[22])
 {
     barkpaddle_description_fields fields = barkpaddle_description(abi);
-    uint64_t got[21];
+    uint64_t got[22];
     size_t i;
 
     memcpy(got, &fields, sizeof got);
@@ -1870,14 +2003,17 @@ static void check_rule(
     check_number(place, "short_", short_, rule.short_);
 }
 
-/* Rows 0, 3, 4 and 22 by REFERENCE 5.5; lines.c has all thirty. */
+/* Rows 0, 3, 4, 22 and 30 to 32 by REFERENCE 5.5; lines.c has all. */
 static void descriptions(void)
 {
-    static const uint64_t row_0[] = {0, 6, 8, 0, 8, 16, 3, 1, 0, 0, 0, 0, 0, 0, 0, 0, 0, 0, 2, 0, 0};
-    static const uint64_t row_3[] = {0, 8, 8, 0, 8, 16, 0, 0, 1, 1, 0, 0, 0, 0, 0, 2, 3, 0, 0, 1, 0};
-    static const uint64_t row_4[] = {0, 4, 0, 1, 8, 16, 0, 0, 0, 0, 1, 4, 0, 1, 0, 0, 2, 0, 0, 1, 0};
-    static const uint64_t row_22[] = {0, 2, 0, 0, 4, 8, 0, 0, 0, 0, 0, 0, 1, 0, 1, 0, 0, 0, 0, 1, 1};
-    static const uint64_t none[] = {1, 0, 0, 0, 0, 0, 0, 0, 0, 0, 0, 0, 0, 0, 0, 0, 0, 0, 0, 0, 0};
+    static const uint64_t row_0[] = {0, 6, 8, 0, 8, 16, 3, 1, 0, 0, 0, 0, 0, 0, 0, 0, 0, 0, 2, 0, 0, 0};
+    static const uint64_t row_3[] = {0, 8, 8, 0, 8, 16, 0, 0, 1, 1, 0, 0, 0, 0, 0, 2, 3, 0, 0, 1, 0, 0};
+    static const uint64_t row_4[] = {0, 4, 0, 1, 8, 16, 0, 0, 0, 0, 1, 4, 0, 1, 0, 0, 2, 0, 0, 1, 0, 0};
+    static const uint64_t row_22[] = {0, 2, 0, 0, 4, 8, 0, 0, 0, 0, 0, 0, 1, 0, 1, 0, 0, 0, 0, 1, 1, 0};
+    static const uint64_t row_30[] = {0, 8, 0, 0, 8, 0, 0, 0, 0, 0, 0, 0, 0, 0, 0, 0, 5, 0, 1, 1, 0, 1};
+    static const uint64_t row_31[] = {0, 8, 8, 0, 8, 4, 0, 0, 0, 0, 0, 0, 0, 0, 0, 0, 5, 0, 1, 1, 0, 1};
+    static const uint64_t row_32[] = {0, 8, 8, 0, 8, 8, 0, 0, 0, 0, 0, 0, 0, 0, 0, 0, 5, 0, 1, 1, 0, 1};
+    static const uint64_t none[] = {1, 0, 0, 0, 0, 0, 0, 0, 0, 0, 0, 0, 0, 0, 0, 0, 0, 0, 0, 0, 0, 0};
     static const uint64_t past_end[] = {4, 5, 255, UINT64_C(1) << 32, UINT64_MAX / 3, UINT64_MAX};
     static const uint64_t sizes[] = {1, 2, 4, 8};
     uint64_t i;
@@ -1887,6 +2023,9 @@ static void descriptions(void)
     check_fields("row 3", 3, row_3);
     check_fields("row 4", 4, row_4);
     check_fields("row 22", 22, row_22);
+    check_fields("row 30", 30, row_30);
+    check_fields("row 31", 31, row_31);
+    check_fields("row 32", 32, row_32);
 
     check_rule("row 0, return 0", barkpaddle_return_rule(0, 0), 0, BARKPADDLE_TEST_EMPTY, 0, BARKPADDLE_TRAVEL_IGNORE, 0);
     check_rule("row 0, return 1", barkpaddle_return_rule(0, 1), 0, BARKPADDLE_TEST_X87_STACK, 0, BARKPADDLE_TRAVEL_AS_FOUND, 0);
@@ -1901,6 +2040,12 @@ static void descriptions(void)
     check_rule(
         "row 5, argument 1", barkpaddle_argument_rule(5, 1), 0, BARKPADDLE_TEST_FLOAT_PAIR, 0, BARKPADDLE_TRAVEL_AS_FOUND,
         BARKPADDLE_SHORT_TRY_NEXT_RULE);
+    for (abi = BARKPADDLE_ABI_RISCV_PSABI_LP64; abi <= BARKPADDLE_ABI_RISCV_PSABI_LP64D; abi++)
+        check_rule(
+            "RISC-V, argument 2", barkpaddle_argument_rule(abi, 2), 0, BARKPADDLE_TEST_SIZE_AT_MOST, 16, BARKPADDLE_TRAVEL_AS_INTEGERS,
+            BARKPADDLE_SHORT_SPLIT);
+    check_number("row 5, after the dots", "variadic", BARKPADDLE_VARIADIC_UNNAMED_INTEGERS, barkpaddle_description(5).variadic);
+    check_number("row 32, after the dots", "variadic", BARKPADDLE_VARIADIC_UNNAMED_INTEGERS_EVEN, barkpaddle_description(32).variadic);
     check_number("row 4, argument 0", "test", BARKPADDLE_TEST_SIZE_ONE_OF, barkpaddle_argument_rule(4, 0).test);
     for (i = 0; i < 4; i++)
         check_number("row 4, argument 0", "a size", sizes[i], BARKPADDLE_TEST_SIZE(barkpaddle_argument_rule(4, 0).number, i));
@@ -1971,6 +2116,9 @@ static void names(void)
     check_name(BARKPADDLE_ABI_WINDOWS_ARM64, "Windows arm64");
     check_name(BARKPADDLE_ABI_WINDOWS_X64, "Windows x64");
     check_name(BARKPADDLE_ABI_RISCV_LP64D, "RISC-V LP64D");
+    check_name(BARKPADDLE_ABI_RISCV_PSABI_LP64, "RISC-V LP64 psABI");
+    check_name(BARKPADDLE_ABI_RISCV_PSABI_LP64F, "RISC-V LP64F psABI");
+    check_name(BARKPADDLE_ABI_RISCV_PSABI_LP64D, "RISC-V LP64D psABI");
     check_name(BARKPADDLE_ABI_I386_SYSV, "i386 SysV");
     check_name(BARKPADDLE_ABI_I386_SYSV_REGPARM_1, "i386 SysV regparm(1)");
     check_name(BARKPADDLE_ABI_I386_SYSV_REGPARM_2, "i386 SysV regparm(2)");
@@ -2537,6 +2685,7 @@ int main(void)
     twelve();
     beside_the_twelve();
     carries_nothing();
+    riscv_psabi();
     refusals_of(RETURN);
     refusals_of(ARGUMENT);
     refusals_of(VARIADIC_ARGUMENT);

@@ -45,7 +45,7 @@ static void print_row(uint64_t row)
     printf(" %llu %llu", (shown)d.wide_integer_starts_even, (shown)d.wide_integer_drains);
     printf(" %llu %llu", (shown)d.wide_is_by_reference, (shown)d.wide_integer_returns_in);
     printf(" %llu %llu", (shown)d.wide_integer_in_memory, (shown)d.decimal_in_integers);
-    printf(" %llu\n", (shown)d.quad_returns_by_reference);
+    printf(" %llu %llu\n", (shown)d.quad_returns_by_reference, (shown)d.float_falls_to_integers);
     printf("row %llu others %llu %llu", (shown)row, (shown)d.return_pointer, (shown)d.variadic);
     printf(" %llu %llu %llu %llu\n", (shown)d.stack_args, (shown)d.narrow, (shown)d.bit_ints, (shown)d.cleanup);
     for (i = 0; (rule = barkpaddle_return_rule(row, i)).test != BARKPADDLE_TEST_NO_RULE; i++)

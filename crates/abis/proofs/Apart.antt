@@ -3,20 +3,20 @@ use mathlib.Core.Path.{_≡_, refl, sym, ap, _∙_}
 use mathlib.Core.Bool.{Bool, true, false, _&&_, _||_, not, false≢true}
 use mathlib.Core.List.{List, [], _∷_}
 use mathlib.Core.Logic.{_⊎_, inl, inr}
-use Prim.Native.Nat.{ℕ, zero, suc, _+_}
+use Prim.Native.Nat.{ℕ, zero, suc, _+_, _<_}
 use native.Mathlib.Omega.{arith}
-use borrow.Author.Tests.{eq-eqb}
+use borrow.Author.Tests.{eq-eqb, ne-eqb}
 use lib.Dec.{T, eqb, eqb→eq}
 use lib.ListN.{getD}
 use Rattle.shape.proofs.Bools.{and-left, and-right, or-cases}
 use Rattle.shape.specs.Numbers.{oneIf}
 use Rattle.shape.specs.Lists.{any}
-use Rattle.describe.specs.declared.Variadic.the-variants.{AlwaysMemory, IntegersOnly, UnnamedIntegers}
+use Rattle.describe.specs.declared.Variadic.the-variants.{AlwaysMemory, IntegersOnly, UnnamedIntegers, UnnamedIntegersEven}
 use Rattle.describe.specs.declared.StackArgs.the-variants.{Packed}
 use Rattle.describe.specs.Description.{Description}
 use Rattle.rows.specs.Codes.{variadicCode, stackArgsCode}
 use Rattle.abis.specs.Abis.{described, descriptions, blank}
-use Rattle.abis.specs.Apart.{fastcallRows, isFastcall, spendsInMemory}
+use Rattle.abis.specs.Apart.{fastcallRows, isFastcall, spendsInMemory, rust-count, riscvPsabiRows, isRiscvPsabi, splits, pairsStartEven, isBeyondRust}
 
 -- Of the rows from i on, none but those within has the number n.
 abbrev onlyWithin : (Description → ℕ) → ℕ → (ℕ → Bool) → ℕ → List Description → Bool
@@ -103,3 +103,36 @@ in-memory-and-spend = (
       (each-among (λ (d : ℕ). spendsInMemory (described d .arguments) ≡ true) fastcallRows (refl, (refl, (refl, (refl, tt))))),
   exactly (λ (D : Description). spendsInMemory (D .returns)) (λ d. false) refl tt (λ d t. absurd t),
 )
+
+-- The rows that say what the Rust can't are those of RISC-V's own book, and each of them says all of it: rules for arguments that split, an even start
+-- after the dots, floats that fall to the integers. So rows 0 to 29 say nothing of it.
+pub record RiscvPsabi (d : ℕ) : Type 0 where
+  pub beyond : isBeyondRust (described d) ≡ isRiscvPsabi d
+  pub splitting : splits (described d .arguments) ≡ isRiscvPsabi d
+  pub coming-back : splits (described d .returns) ≡ false
+  pub even : pairsStartEven (described d) ≡ isRiscvPsabi d
+  pub falling : described d .scalars .«float_falls_to_integers» ≡ isRiscvPsabi d
+
+pub riscv-psabi : (d : ℕ) → RiscvPsabi d
+unfolding described descriptions any
+riscv-psabi d =
+    record {
+      beyond = exactly isBeyondRust isRiscvPsabi refl tt (each-among (λ (d : ℕ). isBeyondRust (described d) ≡ true) riscvPsabiRows (refl, (refl, (refl, tt)))) d;
+      splitting =
+          exactly (λ (D : Description). splits (D .arguments)) isRiscvPsabi refl tt
+          (each-among (λ (d : ℕ). splits (described d .arguments) ≡ true) riscvPsabiRows (refl, (refl, (refl, tt)))) d;
+      coming-back = exactly (λ (D : Description). splits (D .returns)) (λ d. false) refl tt (λ d t. absurd t) d;
+      even =
+          exactly pairsStartEven isRiscvPsabi refl tt
+          (each-among (λ (d : ℕ). pairsStartEven (described d) ≡ true) riscvPsabiRows (refl, (refl, (refl, tt)))) d;
+      falling =
+          exactly (λ (D : Description). D .scalars .«float_falls_to_integers») isRiscvPsabi refl tt
+          (each-among (λ (d : ℕ). described d .scalars .«float_falls_to_integers» ≡ true) riscvPsabiRows (refl, (refl, (refl, tt)))) d;
+    }
+
+-- A row that the Rust has is none of these.
+pub nothing-beyond : (d : ℕ) → d < rust-count → isBeyondRust (described d) ≡ false
+unfolding any
+nothing-beyond d h =
+    riscv-psabi d .beyond
+    ∙ (rw (ne-eqb d 30 (λ (e : d ≡ 30). omega arith), ne-eqb d 31 (λ (e : d ≡ 31). omega arith), ne-eqb d 32 (λ (e : d ≡ 32). omega arith)))

@@ -1,4 +1,4 @@
--- The thirty descriptions (REFERENCE 5.5), in the order of their numbers. What several share is written once. Comments say why a
+-- The descriptions (REFERENCE 5.5), in the order of their numbers: thirty that the Rust has, and behind them three that it hasn't. What several share is written once. Comments say why a
 -- description is as it is; where compilers or a standard part from it, docs/COMPILERS.md and docs/DIFFERENCES.md say so.
 use Prim.Native.Nat.{ℕ}
 use mathlib.Core.Bool.{Bool, true, false}
@@ -8,11 +8,11 @@ use Rattle.shape.specs.Numbers.{integer, x87-extended, quad}
 use Rattle.describe.specs.declared.Rule.{Rule}
 use Rattle.describe.specs.declared.Test.the-variants.{Anything, Empty, SizeOneOf, SizeAtMost, Homogeneous, FloatPair, X87Stack, LoneFloat, FloatingMode, ComplexFloat, Eightbytes}
 use Rattle.describe.specs.declared.Travel.the-variants.{Ignore, AsFound, AsIntegers, AsOneInteger, ByReference, InMemory, InMemoryAndSpend}
-use Rattle.describe.specs.declared.Short.the-variants.{Memory, MemoryAndDrain, TryNextRule}
+use Rattle.describe.specs.declared.Short.the-variants.{Memory, MemoryAndDrain, TryNextRule, Split}
 use Rattle.describe.specs.declared.ReturnPointer.{ReturnPointer}
 use Rattle.describe.specs.declared.ReturnPointer.the-variants.{FirstArgument, FirstArgumentPopped, Dedicated}
 use Rattle.describe.specs.declared.Variadic.{Variadic}
-use Rattle.describe.specs.declared.Variadic.the-variants.{SameAsFixed, AlwaysMemory, BothBanks, IntegersOnly, UnnamedIntegers}
+use Rattle.describe.specs.declared.Variadic.the-variants.{SameAsFixed, AlwaysMemory, BothBanks, IntegersOnly, UnnamedIntegers, UnnamedIntegersEven}
 use Rattle.describe.specs.declared.StackArgs.{StackArgs}
 use Rattle.describe.specs.declared.StackArgs.the-variants.{RegisterSized, Packed}
 use Rattle.describe.specs.declared.Narrow.{Narrow}
@@ -47,6 +47,7 @@ sysv-amd64 =
         «wide_integer_in_memory» = false;
         «decimal_in_integers» = false;
         «quad_returns_by_reference» = false;
+        «float_falls_to_integers» = false;
       };
       -- An x87 value comes back on the x87's own stack, which holds its 80 bits: in st0, the second part of a complex one in st1.
       returns = rule Empty Ignore ∷ rule X87Stack AsFound ∷ rule (Eightbytes 16) AsFound ∷ rule Anything ByReference ∷ [];
@@ -83,6 +84,7 @@ aapcs64With name starts-even variadic stack-args narrow =
         «wide_integer_in_memory» = false;
         «decimal_in_integers» = false;
         «quad_returns_by_reference» = false;
+        «float_falls_to_integers» = false;
       };
       returns = rule Empty Ignore ∷ rule (Homogeneous 4) AsFound ∷ rule (SizeAtMost 16) AsIntegers ∷ rule Anything ByReference ∷ [];
       -- What finds too few registers goes to memory and takes the rest of its bank along (C.3, C.13): no later argument may fill the
@@ -143,6 +145,7 @@ win64 =
         -- gcc keeps the vector registers for float and double.
         «decimal_in_integers» = true;
         «quad_returns_by_reference» = false;
+        «float_falls_to_integers» = false;
       };
       returns = rule Empty Ignore ∷ rule (SizeOneOf 4 1 2 4 8) AsOneInteger ∷ rule Anything ByReference ∷ [];
       -- No rule for an empty one, though there is one for what comes back: its size is none of the four, so gcc passes an address, and
@@ -176,6 +179,7 @@ riscv-lp64d =
         «wide_integer_in_memory» = false;
         «decimal_in_integers» = false;
         «quad_returns_by_reference» = false;
+        «float_falls_to_integers» = false;
       };
       returns = rule Empty Ignore ∷ rule FloatPair AsFound ∷ rule (SizeAtMost 16) AsIntegers ∷ rule Anything ByReference ∷ [];
       -- FloatPair is a bonus: where its registers aren't left, the size's rule may still find integer registers. The draining is the
@@ -225,6 +229,7 @@ i386 registers name returns pointer cleanup =
         «decimal_in_integers» = false;
         -- No register holds a result of 16: st0 is for the 80-bit format, and edx:eax ends at 8.
         «quad_returns_by_reference» = true;
+        «float_falls_to_integers» = false;
       };
       returns = returns;
       arguments = registers .arguments;
@@ -379,6 +384,54 @@ i386-msvc-stdcall = i386 cdecl (bytes "i386 Windows stdcall (MSVC)") msvc-return
 abbrev pub i386-msvc-fastcall : Description
 i386-msvc-fastcall = i386 fastcall (bytes "i386 Windows fastcall (MSVC)") msvc-returns FirstArgument Callee
 
+-- RISC-V by its own book, for three kinds of board: no float registers, those that hold a float, those that hold a double. Each has eight of its
+-- width, or none. They go as row 5 does but for what the Rust has otherwise: each of the three comments here says one.
+
+abbrev pub riscvWith : List ℕ → ℕ → ℕ → Description
+riscvWith name float-registers float-width =
+    record {
+      name = name;
+      banks = record { integer = 8; float = float-registers; shared = false; «integer_width» = 8; «float_width» = float-width };
+      scalars = record {
+        «in_memory» = none;
+        «wide_integer_is_all_or_nothing» = false;
+        «wide_integer_starts_even» = false;
+        «wide_integer_drains» = false;
+        «wide_is_by_reference» = false;
+        «wide_integer_returns_in» = none;
+        «wide_integer_in_memory» = false;
+        «decimal_in_integers» = false;
+        «quad_returns_by_reference» = false;
+        -- Behind the last float register a float is passed by the integer convention.
+        «float_falls_to_integers» = true;
+      };
+      returns = rule Empty Ignore ∷ rule FloatPair AsFound ∷ rule (SizeAtMost 16) AsIntegers ∷ rule Anything ByReference ∷ [];
+      -- Two words with one register left are split between it and the stack: no register is skipped, so none is drained.
+      arguments =
+          rule Empty Ignore
+          ∷ ruleShort FloatPair AsFound TryNextRule
+          ∷ ruleShort (SizeAtMost 16) AsIntegers Split
+          ∷ rule Anything ByReference
+          ∷ [];
+      «return_pointer» = FirstArgument;
+      -- An unnamed value of two words that is aligned to both is in an aligned pair of registers.
+      variadic = UnnamedIntegersEven;
+      «stack_args» = RegisterSized;
+      narrow = ToInt;
+      «bit_ints» = Untaught;
+      cleanup = Caller;
+    }
+
+-- No register holds a float, of a width of 0 none but an empty one.
+abbrev pub riscv-psabi-lp64 : Description
+riscv-psabi-lp64 = riscvWith (bytes "RISC-V LP64 psABI") 0 0
+
+abbrev pub riscv-psabi-lp64f : Description
+riscv-psabi-lp64f = riscvWith (bytes "RISC-V LP64F psABI") 8 4
+
+abbrev pub riscv-psabi-lp64d : Description
+riscv-psabi-lp64d = riscvWith (bytes "RISC-V LP64D psABI") 8 8
+
 unfoldable pub descriptions : List Description
 descriptions =
     sysv-amd64
@@ -411,6 +464,9 @@ descriptions =
     ∷ i386-mingw-fastcall
     ∷ i386-msvc-stdcall
     ∷ i386-msvc-fastcall
+    ∷ riscv-psabi-lp64
+    ∷ riscv-psabi-lp64f
+    ∷ riscv-psabi-lp64d
     ∷ []
 
 -- What stands past the last: nothing in any field, so that readers of rows need no refusal.
@@ -429,6 +485,7 @@ blank =
         «wide_integer_in_memory» = false;
         «decimal_in_integers» = false;
         «quad_returns_by_reference» = false;
+        «float_falls_to_integers» = false;
       };
       returns = [];
       arguments = [];
@@ -442,7 +499,7 @@ blank =
 
 -- How many there are.
 abbrev pub description-count : ℕ
-description-count = 30
+description-count = 33
 
 -- The description of a number.
 unfoldable pub described : ℕ → Description

@@ -1,4 +1,4 @@
-// The thirty descriptions, read by number (REFERENCE 5.5): what classification reads of one, its row and its name; and the questions of
+// The descriptions, read by number (REFERENCE 5.5): what classification reads of one, its row and its name; and the questions of
 // REFERENCE 5.7 asked of a number. The table is the one place that has their order.
 ghost use mathlib.Core.Path.{_≡_};
 ghost use Rattle.rows.specs.Row.{encode};
@@ -17,7 +17,7 @@ use rows::WIDTH;
 use table::*;
 use text::Written;
 
-pub const DESCRIPTIONS: u64 = 30;
+pub const DESCRIPTIONS: u64 = 33;
 
 // Yes or no, unless refused.
 pub struct Asked {
@@ -75,6 +75,9 @@ pub fn read(d: u64) -> Brief
         27 => read_of(table[27]),
         28 => read_of(table[28]),
         29 => read_of(table[29]),
+        30 => read_of(table[30]),
+        31 => read_of(table[31]),
+        32 => read_of(table[32]),
         _ => read_of([0; WIDTH]),
     }
 }

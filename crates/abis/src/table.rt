@@ -1,5 +1,5 @@
-// The thirty descriptions, a row each, in the order of their numbers. A row's lines: integer and float registers, integer and float
-// width; flags; formats; return pointer and variadic; stack arguments, narrow and bit-precise integers, cleanup; then four rules
+// The descriptions, a row each, in the order of their numbers. A row's lines: integer and float registers, integer and float
+// width; flags; formats, with the last flag; return pointer and variadic; stack arguments, narrow and bit-precise integers, cleanup; then four rules
 // for returns and four for arguments, each its test, the test's number, and the way of travel with what happens when short.
 // Above a row stands what sets it apart from the others; specs/Abis.antt says why each field and list is as it is.
 use crate::DESCRIPTIONS;
@@ -23,6 +23,7 @@ pub const TABLE: [[u8; WIDTH]; DESCRIPTIONS as usize] = [
     I386_MINGW, I386_MSVC,
     I386_MINGW_STDCALL, I386_MINGW_FASTCALL,
     I386_MSVC_STDCALL, I386_MSVC_FASTCALL,
+    RISCV_PSABI_LP64, RISCV_PSABI_LP64F, RISCV_PSABI_LP64D,
 ];
 
 // x87 values have no argument register, and come back on the x87's stack. An aggregate that falls short leaves its registers to later
@@ -525,6 +526,58 @@ pub const I386_MSVC_FASTCALL: [u8; WIDTH] = [
     NO_RULE, 0, 0,
 ];
 
+// RISC-V by its own book: what finds one register of two is split, a float that finds none falls to the integers, and unnamed pairs start at an
+// even register. Here no register holds a float.
+pub const RISCV_PSABI_LP64: [u8; WIDTH] = [
+    8, 0, 8, 0,
+    NO_FLAG,
+    NO_FORMAT + FLOAT_FALLS_TO_INTEGERS,
+    FIRST_ARGUMENT + UNNAMED_INTEGERS_EVEN,
+    REGISTER_SIZED + TO_INT + UNTAUGHT + CALLER,
+    EMPTY, 0, IGNORE + UNCHANGED,
+    FLOAT_PAIR, 0, AS_FOUND + UNCHANGED,
+    SIZE_AT_MOST, 16, AS_INTEGERS + UNCHANGED,
+    ANYTHING, 0, BY_REFERENCE + UNCHANGED,
+    EMPTY, 0, IGNORE + UNCHANGED,
+    FLOAT_PAIR, 0, AS_FOUND + TRY_NEXT_RULE,
+    SIZE_AT_MOST, 16, AS_INTEGERS + SPLIT,
+    ANYTHING, 0, BY_REFERENCE + UNCHANGED,
+];
+
+// The same, with registers for floats of 4.
+pub const RISCV_PSABI_LP64F: [u8; WIDTH] = [
+    8, 8, 8, 4,
+    NO_FLAG,
+    NO_FORMAT + FLOAT_FALLS_TO_INTEGERS,
+    FIRST_ARGUMENT + UNNAMED_INTEGERS_EVEN,
+    REGISTER_SIZED + TO_INT + UNTAUGHT + CALLER,
+    EMPTY, 0, IGNORE + UNCHANGED,
+    FLOAT_PAIR, 0, AS_FOUND + UNCHANGED,
+    SIZE_AT_MOST, 16, AS_INTEGERS + UNCHANGED,
+    ANYTHING, 0, BY_REFERENCE + UNCHANGED,
+    EMPTY, 0, IGNORE + UNCHANGED,
+    FLOAT_PAIR, 0, AS_FOUND + TRY_NEXT_RULE,
+    SIZE_AT_MOST, 16, AS_INTEGERS + SPLIT,
+    ANYTHING, 0, BY_REFERENCE + UNCHANGED,
+];
+
+// And for floats of 8, as on row 5.
+pub const RISCV_PSABI_LP64D: [u8; WIDTH] = [
+    8, 8, 8, 8,
+    NO_FLAG,
+    NO_FORMAT + FLOAT_FALLS_TO_INTEGERS,
+    FIRST_ARGUMENT + UNNAMED_INTEGERS_EVEN,
+    REGISTER_SIZED + TO_INT + UNTAUGHT + CALLER,
+    EMPTY, 0, IGNORE + UNCHANGED,
+    FLOAT_PAIR, 0, AS_FOUND + UNCHANGED,
+    SIZE_AT_MOST, 16, AS_INTEGERS + UNCHANGED,
+    ANYTHING, 0, BY_REFERENCE + UNCHANGED,
+    EMPTY, 0, IGNORE + UNCHANGED,
+    FLOAT_PAIR, 0, AS_FOUND + TRY_NEXT_RULE,
+    SIZE_AT_MOST, 16, AS_INTEGERS + SPLIT,
+    ANYTHING, 0, BY_REFERENCE + UNCHANGED,
+];
+
 // The names, in the same order: each with blanks behind it up to the length of the longest, and its own length.
 pub const LONGEST_NAME: usize = 48;
 pub const NAMES: [[u8; LONGEST_NAME]; DESCRIPTIONS as usize] = [
@@ -558,6 +611,9 @@ pub const NAMES: [[u8; LONGEST_NAME]; DESCRIPTIONS as usize] = [
     *b"i386 Windows fastcall (mingw)                   ",
     *b"i386 Windows stdcall (MSVC)                     ",
     *b"i386 Windows fastcall (MSVC)                    ",
+    *b"RISC-V LP64 psABI                               ",
+    *b"RISC-V LP64F psABI                              ",
+    *b"RISC-V LP64D psABI                              ",
 ];
 pub const LENGTHS: [usize; DESCRIPTIONS as usize] = [
     10,
@@ -576,4 +632,5 @@ pub const LENGTHS: [usize; DESCRIPTIONS as usize] = [
     20, 19,
     28, 29,
     27, 28,
+    17, 18, 18,
 ];

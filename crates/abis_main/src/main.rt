@@ -1,4 +1,4 @@
-// Prints every field, rule and question of the thirty descriptions, a fact to a line, each as its number (REFERENCE 5). The original's own
+// Prints every field, rule and question of the descriptions, a fact to a line, each as its number (REFERENCE 5). The original's own
 // answers are printed in the same form, and the two are compared.
 use describe::Rule;
 use describe::Short;
@@ -68,6 +68,7 @@ fn scalars(out: &mut [u8], at: usize, d: u64) -> usize {
         scalars.wide_integer_in_memory as u64,
         scalars.decimal_in_integers as u64,
         scalars.quad_returns_by_reference as u64,
+        scalars.float_falls_to_integers as u64,
     ];
     let a = begin(out, at, d, b" scalars");
     line(out, a, &numbers)
@@ -208,6 +209,7 @@ fn short(short: Short) -> u64 {
         Short::Memory => 1,
         Short::MemoryAndDrain => 2,
         Short::TryNextRule => 3,
+        Short::Split => 4,
     }
 }
 

@@ -1,5 +1,5 @@
 // Performs one long history of operations twice, on a call by value and on a call that is lent, and compares call, outcome and slot buffer after
-// each operation. The history is drawn from a fixed seed: all thirty descriptions, late and repeated marks, stack offsets up to the limit and
+// each operation. The history is drawn from a fixed seed: all descriptions, late and repeated marks, stack offsets up to the limit and
 // above it, and every refusal, which the line that is printed counts.
 use bridge::What;
 use classify::Answer;
@@ -26,6 +26,9 @@ const NO_KIND: u64 = shape::QUAD + 1;
 const TOO_LARGE: u64 = checks::MOST_OFFSET * 2;
 
 const TOO_ALIGNED: u64 = checks::MOST_ALIGN * 2;
+
+// A call of any numbers may have the two behind the last description.
+const PAST_THE_LAST: u64 = abis::DESCRIPTIONS + 2;
 
 // The tally: a place for each refusal, at its number, and behind them one for each way.
 const REFUSALS: usize = 10;
@@ -162,7 +165,7 @@ fn renewed(call: Call, drawn: Drawn) -> Call {
     }
     if (a >> 20) % 128 == 0 {
         return Call {
-            abi: b % 32,
+            abi: b % PAST_THE_LAST,
             left: Left {
                 integer: (b >> 8) % 12,
                 float: (b >> 16) % 12,

@@ -1,7 +1,7 @@
 -- An operation is refused, and then its call and its buffer are as they were; or it is accepted, and then nothing refuses it, its slots have room,
 -- and its answer is the accepted one. A call is accepted where what it has left is sound. Each case split stands here alone.
 use Prim.Native.Nat.{ℕ, zero, suc, _/_, _≤_}
-use mathlib.Core.Path.{_≡_, refl, subst}
+use mathlib.Core.Path.{_≡_, refl, sym, subst}
 use mathlib.Core.List.{List}
 use mathlib.Core.Bool.{Bool, true, false, _&&_, _||_, not}
 use native.Mathlib.Omega.{arith}
@@ -14,7 +14,10 @@ use Rattle.shape.specs.Numbers.{accepted}
 use Rattle.checks.proofs.Accepted.{refuse-none, else-none}
 use Rattle.checks.specs.Check.{unlessRefused}
 use Rattle.slots.specs.Words.{slotSize, written}
+use Rattle.describe.specs.declared.Variadic.{Variadic}
+use Rattle.describe.specs.declared.Variadic.the-variants.{SameAsFixed, AlwaysMemory, BothBanks, IntegersOnly, UnnamedIntegers, UnnamedIntegersEven}
 use Rattle.describe.specs.Description.{Description, termsOf}
+use Rattle.describe.specs.Dots.{dotsOf}
 use Rattle.spend.specs.Ways.{no-mark, marked}
 use Rattle.stack_place.specs.Stacked.{most-stack}
 use Rattle.classify.specs.declared.Call.{Call}
@@ -98,3 +101,12 @@ unmarked D c s e = go (eqb (c .left .«integers_only») no-mark) refl (rw e at (
     go : (b : Bool) → eqb (c .left .«integers_only») no-mark ≡ b → not b && true ≡ false → c .left .«integers_only» ≡ no-mark
     go true t x = eqb-true _ _ t
     go false t x = absurd (subst T x tt)
+
+-- a description whose unnamed arguments alone go in integers marks no call
+pub alone-unmarked : (v : Variadic) → dotsOf v .«integers_only» ≡ true → isIntegersOnly v ≡ false
+alone-unmarked SameAsFixed e = refl
+alone-unmarked AlwaysMemory e = refl
+alone-unmarked BothBanks e = refl
+alone-unmarked IntegersOnly e = absurd (subst T (sym e) tt)
+alone-unmarked UnnamedIntegers e = refl
+alone-unmarked UnnamedIntegersEven e = refl

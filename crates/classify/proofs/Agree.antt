@@ -2,7 +2,7 @@
 -- the value travels and its slots as the Rust does, and the counts that the Rust leaves are those before, less those passed over and given.
 -- Assumes nothing but this: after the dots of a description whose unnamed arguments alone go in integers, the mark isn't set. A call that has it
 -- there is refused.
-use Prim.Native.Nat.{ℕ, _+_, _-_, _%_, _≤_, min}
+use Prim.Native.Nat.{ℕ, _+_, _*_, _-_, _%_, _≤_, min}
 use mathlib.Core.Path.{_≡_, refl, sym, ap}
 use mathlib.Core.List.{List, [], _∷_}
 use mathlib.Core.Bool.{Bool, true, false, _&&_, _||_, not, cond}
@@ -26,11 +26,11 @@ use Rattle.describe.specs.declared.Test.the-variants.{Anything}
 use Rattle.describe.specs.declared.Travel.{Travel}
 use Rattle.describe.specs.declared.Travel.the-variants.{Ignore, AsFound, AsIntegers, AsOneInteger, ByReference, InMemory, InMemoryAndSpend}
 use Rattle.describe.specs.declared.Short.{Short}
-use Rattle.describe.specs.declared.Short.the-variants.{Unchanged, Memory, MemoryAndDrain, TryNextRule}
+use Rattle.describe.specs.declared.Short.the-variants.{Unchanged, Memory, MemoryAndDrain, TryNextRule, Split}
 use Rattle.describe.specs.declared.ReturnPointer.{ReturnPointer}
 use Rattle.describe.specs.declared.ReturnPointer.the-variants.{FirstArgument, FirstArgumentPopped, Dedicated}
 use Rattle.describe.specs.declared.Variadic.{Variadic}
-use Rattle.describe.specs.declared.Variadic.the-variants.{SameAsFixed, AlwaysMemory, BothBanks, IntegersOnly, UnnamedIntegers}
+use Rattle.describe.specs.declared.Variadic.the-variants.{SameAsFixed, AlwaysMemory, BothBanks, IntegersOnly, UnnamedIntegers, UnnamedIntegersEven}
 use Rattle.describe.specs.Description.{Description, termsOf}
 use Rattle.describe.specs.Dots.{dots, dotsOf}
 use Rattle.describe.specs.Questions.{isByReference, returnsByReference}
@@ -38,14 +38,16 @@ use Rattle.spend.specs.declared.Left.{Left}
 use Rattle.spend.specs.declared.Way.{Way}
 use Rattle.spend.specs.declared.Wanted.{Wanted}
 use Rattle.spend.specs.declared.Decision.{Decision}
+use Rattle.spend.specs.declared.Spent.{Spent}
 use Rattle.spend.specs.declared.Tried as tries
 use Rattle.spend.specs.Ways as made
 use Rattle.spend.specs.Ways.{no-mark, marked, withMark, bankAfter, leftAfter}
 use Rattle.spend.specs.Spending as rules
 use Rattle.spend_scalar.specs.Spending as lone
+use Rattle.after_dots.specs.AfterDots.{skippedFor, isIgnored, spentBehind, settledFor}
 use Rattle.find.specs.Matches.{matches, sourceOf}
 use Rattle.slot_writing.specs.Sources.{sourceSlots}
-use Rattle.classify.specs.Pass.{Pass, ignore, direct, pieces, reference, memory, wayOf, passSlots}
+use Rattle.classify.specs.Pass.{Pass, ignore, direct, pieces, reference, memory, wayOf, isIgnore, passSlots}
 use Rattle.classify.specs.Classify as rust
 use Rattle.classify.specs.Classify.{Passed, passed, leaves, less, lessBoth, returns, argument, variadicArgument}
 use Rattle.classify.specs.Spending as spending
@@ -142,6 +144,9 @@ module _ (arg : args.Arg) (ps : List Piece) (left : Left) where
     spends-nothing : (p : Pass) (way : Way) → wayOf p ≡ way → passSlots p ≡ [] → Chooses (passed p left) (chosen (made.plain way made.nothing) when)
     spends-nothing p way ew es = plainly p way _ _ 0 0 0 0 ew es (omega arith)
 
+    takes-a-float : Chooses (passed direct (lessBoth 0 1 left)) (chosen (rules.direct 0 0 0 (min 1 (left .float))) when)
+    takes-a-float = plainly direct _ _ _ 0 0 0 (min 1 (left .float)) refl refl (omega arith)
+
     all-passed : Chooses (passed direct (leaves 0 (left .float) (left .«integers_only»))) (chosen (rules.direct I 0 0 0) when)
     all-passed = plainly direct _ _ _ I 0 0 0 refl refl (omega arith)
 
@@ -201,7 +206,8 @@ module _ (arg : args.Arg) (ps : List Piece) (left : Left) where
       in-registers s want =
           directly (D .banks .shared) _ _ _ _ (λ _. takes-integers direct _ 1 refl refl)
           (λ _. directly (isFloat (s .kind) && leb (s .size) (D .banks .«float_width»)) _ _ _ _
-          (λ _. plainly direct _ _ _ 0 0 0 (min 1 (left .float)) refl refl (omega arith))
+          (λ _. directly (D .scalars .«float_falls_to_integers») _ _ _ _
+          (λ _. directly (eqb (left .float) 0) _ _ _ _ (λ _. takes-integers direct _ want refl refl) (λ _. takes-a-float)) (λ _. takes-a-float))
           (λ _. directly (isFloat (s .kind)) _ _ _ _ (λ _. takes-integers direct _ want refl refl) (λ _. an-integer want)))
 
       scalar-argument : (s : Scalar) → Chooses (rust.scalar D left s) (chosen (lone.scalarArgument (D .banks) (D .scalars) left s) when)
@@ -241,6 +247,9 @@ module _ (arg : args.Arg) (ps : List Piece) (left : Left) where
           plainly when memory _ _ _ _ 0 _ 0 refl refl
           (record { integers-left = x .0; floats-left = y .0; integers-spent = x .1; floats-spent = y .1 })
       when-short TryNextRule i f = later
+      when-short Split i f =
+          by-test when (eqb (left .integer) 0) _ _ _ _ (λ _. spends-nothing when memory _ refl refl)
+          (λ _. in-pieces when ss slots _ _ (min i (left .integer)) (min f (left .float)) es en (omega arith))
 
       where-fits : (short : Short) (returning : Bool) (i f : ℕ) (x y : Bool) → leb i (left .integer) ≡ x → leb f (left .float) ≡ y
           → Chooses
@@ -316,9 +325,9 @@ module _ (D : Description) (returning : Bool) (left : Left) (shape : Shape) (ps 
 
 -- a fixed argument, and one after the dots of a kind that has it go as a fixed one, whether that marks the call or not
 fixed-agrees : (mark : Bool) (D : Description) (left : Left) (arg : args.Arg) (ps : List Piece)
-    → Agrees left (argument D left arg ps) (spending.choice (termsOf D) (D .arguments) false (dots mark false false) left arg ps .decision)
-    (slotsFor (spending.choice (termsOf D) (D .arguments) false (dots mark false false) left arg ps) arg ps)
-unfolding argument spending.scalarBy spending.aggregateBy
+    → Agrees left (argument D left arg ps) (spending.choice (termsOf D) (D .arguments) false (dots mark false false false) left arg ps .decision)
+    (slotsFor (spending.choice (termsOf D) (D .arguments) false (dots mark false false false) left arg ps) arg ps)
+unfolding argument spending.scalarBy spending.aggregateBy settledFor
 fixed-agrees mark D left args.the-variants.Void ps = spends-nothing args.the-variants.Void ps left Anything ignore _ refl refl
 fixed-agrees mark D left (args.the-variants.Scalar s) ps = scalar-argument (args.the-variants.Scalar s) ps left Anything D s
 fixed-agrees mark D left (args.the-variants.Aggregate shape) ps = aggregate-agrees D false left shape ps (D .arguments)
@@ -330,13 +339,17 @@ argument-agrees = fixed-agrees false
 
 pub returns-agrees : (D : Description) (left : Left) (arg : args.Arg) (ps : List Piece)
     → Agrees left (returns D left arg ps) (returnChoice D left arg ps .decision) (slotsFor (returnChoice D left arg ps) arg ps)
-unfolding returns returnChoice spending.scalarBy spending.aggregateBy
+unfolding returns returnChoice spending.scalarBy spending.aggregateBy settledFor
 returns-agrees D left args.the-variants.Void ps = spends-nothing args.the-variants.Void ps left Anything ignore _ refl refl
 returns-agrees D left (args.the-variants.Scalar s) ps = scalar-return (args.the-variants.Scalar s) ps left Anything D s
 returns-agrees D left (args.the-variants.Aggregate shape) ps = aggregate-agrees D true left shape ps (D .returns)
 
+-- a decision that spends this instead
+abbrev spending-instead : Decision → Spent → Decision
+spending-instead d spent = record { way = d .way; source = d .source; count = d .count; spent = spent }
+
 -- the same pass, where neither side spends
-freely-agrees : (left emptied : Left) (p : Passed) (d : Decision) (ss : List Slot) → Agrees emptied p d ss → Agrees left (passed (p .pass) left) (spending.freely d) ss
+freely-agrees : (left emptied : Left) (p : Passed) (d : Decision) (ss : List Slot) → Agrees emptied p d ss → Agrees left (passed (p .pass) left) (spending-instead d made.nothing) ss
 freely-agrees left emptied p d ss a =
     record {
       way = a .way;
@@ -360,6 +373,55 @@ unmark-agrees left e p d ss a =
       floats = a .floats;
     }
 
+-- an even start: as many left on both sides, and what was passed over for it is counted, unless nothing travels
+module _ (left : Left) where
+  abbrev skip-of : Bool → ℕ
+  skip-of odd = cond odd (min 1 (left .integer)) 0
+
+  abbrev behind : Bool → Left
+  behind odd = leaves (left .integer - skip-of odd) (left .float) (left .«integers_only»)
+
+  skip-fits : (odd : Bool) → skip-of odd ≤ left .integer
+  skip-fits true = omega arith
+  skip-fits false = omega arith
+
+  start-is : (odd : Bool) → cond odd (less 1 left) left ≡ behind odd
+  start-is true = let e : left .integer - 1 ≡ left .integer - min 1 (left .integer) = omega arith in rw e
+  start-is false = let e : left .integer - 0 ≡ left .integer = omega arith in rw e
+
+  ignored-is : (p : Pass) → isIgnored (wayOf p) ≡ isIgnore p
+  ignored-is ignore = refl
+  ignored-is direct = refl
+  ignored-is (pieces ss) = refl
+  ignored-is reference = refl
+  ignored-is memory = refl
+
+  module _ (e : left .«integers_only» ≡ no-mark) (n : ℕ) (fits : n ≤ left .integer) (p : Passed) (d : Decision) (ss : List Slot)
+      (a : Agrees (withMark (leaves (left .integer - n) (left .float) (left .«integers_only»))) p d ss) where
+    from-even-agrees : Agrees left (cond (isIgnore (p .pass)) (passed (p .pass) left) (passed (p .pass) (leaves (p .left .integer) (p .left .float) no-mark)))
+        (spending-instead d (spentBehind (left .integer) n d)) ss
+    from-even-agrees = go (isIgnore (p .pass)) (rw (← a .way) (ignored-is (p .pass)))
+      where
+        integers-are : p .left .integer ≡ bankAfter (left .integer) (min (n + d .spent .«integers_passed») (left .integer)) (d .spent .«integers_given»)
+        integers-are = omega (arith, ap (λ (l : Left). l .integer) (a .left-is), a .integers)
+
+        floats-are : p .left .float ≡ bankAfter (left .float) (d .spent .«floats_passed») (d .spent .«floats_given»)
+        floats-are = ap (λ (l : Left). l .float) (a .left-is)
+
+        go : (b : Bool) → isIgnored (d .way) ≡ b
+            → Agrees left (cond b (passed (p .pass) left) (passed (p .pass) (leaves (p .left .integer) (p .left .float) no-mark))) (spending-instead d (spentBehind (left .integer) n d)) ss
+        go true i = rw i (freely-agrees left _ p d ss a)
+        go false i =
+            rw i
+            (record {
+              way = a .way;
+              slots = a .slots;
+              count = a .count;
+              left-is = rw (integers-are, floats-are, e);
+              integers = omega (arith, a .integers);
+              floats = a .floats;
+            })
+
 module _ (D : Description) (left : Left) (arg : args.Arg) (ps : List Piece) where
   -- the choice after the dots, by what a variadic kind comes to
   abbrev chosenAfter : Variadic → Chosen
@@ -369,7 +431,7 @@ module _ (D : Description) (left : Left) (arg : args.Arg) (ps : List Piece) wher
   Dotted v = Agrees left (rust.variadicBy v D left arg ps) (chosenAfter v .decision) (slotsFor (chosenAfter v) arg ps)
 
   as-integers-agrees : left .«integers_only» ≡ no-mark → Dotted UnnamedIntegers
-  unfolding argumentChoice spending.scalarBy spending.aggregateBy
+  unfolding argumentChoice spending.scalarBy spending.aggregateBy settledFor
   as-integers-agrees e = go arg (argument-agrees D (withMark left) arg ps)
     where
       go : (x : args.Arg) → Agrees (withMark left) (argument D (withMark left) x ps) (argumentChoice D (withMark left) x ps .decision) (slotsFor (argumentChoice D (withMark left) x ps) x ps)
@@ -379,22 +441,50 @@ module _ (D : Description) (left : Left) (arg : args.Arg) (ps : List Piece) wher
       go (args.the-variants.Scalar s) a = unmark-agrees left e _ _ _ a
       go (args.the-variants.Aggregate shape) a = unmark-agrees left e _ _ _ a
 
+  -- behind an even start both find as many left
+  as-integers-even-agrees : left .«integers_only» ≡ no-mark → Dotted UnnamedIntegersEven
+  unfolding argumentChoice spending.scalarBy spending.aggregateBy settledFor skippedFor lone.skipOf
+  as-integers-even-agrees e = rw (start-is left (odd arg)) (go arg (from-even-agrees left e (skip-of left (odd arg)) (skip-fits left (odd arg)) _ _ _ (argument-agrees D (withMark (behind left (odd arg))) arg ps)))
+    where
+      odd : args.Arg → Bool
+      odd x = rust.isAlignedPair D x && eqb ((D .banks .integer - left .integer) % 2) 1
+
+      evenly : args.Arg → Left → Passed
+      evenly x l =
+          let p : Passed = argument D (withMark l) x ps in
+          cond (isIgnore (p .pass)) (passed (p .pass) left) (passed (p .pass) (leaves (p .left .integer) (p .left .float) no-mark))
+
+      evenly-spent : args.Arg → Decision
+      evenly-spent x =
+          let d : Decision = argumentChoice D (withMark (behind left (odd x))) x ps .decision in
+          spending-instead d (spentBehind (left .integer) (skip-of left (odd x)) d)
+
+      go : (x : args.Arg)
+          → Agrees left (evenly x (behind left (odd x))) (evenly-spent x)
+          (slotsFor (argumentChoice D (withMark (behind left (odd x))) x ps) x ps)
+          → Agrees left (evenly x (behind left (odd x))) (spending.choice (termsOf D) (D .arguments) false (dotsOf UnnamedIntegersEven) left x ps .decision)
+          (slotsFor (spending.choice (termsOf D) (D .arguments) false (dotsOf UnnamedIntegersEven) left x ps) x ps)
+      go args.the-variants.Void a = a
+      go (args.the-variants.Scalar s) a = a
+      go (args.the-variants.Aggregate shape) a = a
+
 in-memory-agrees : (D : Description) (left : Left) (arg : args.Arg) (ps : List Piece) → Dotted D left arg ps AlwaysMemory
-unfolding spending.scalarBy spending.aggregateBy
+unfolding spending.scalarBy spending.aggregateBy settledFor
 in-memory-agrees D left args.the-variants.Void ps = spends-nothing args.the-variants.Void ps left Anything ignore _ refl refl
 in-memory-agrees D left (args.the-variants.Scalar s) ps = spends-nothing (args.the-variants.Scalar s) ps left Anything direct _ refl refl
 in-memory-agrees D left (args.the-variants.Aggregate shape) ps =
     let emptied : Left = leaves 0 0 (left .«integers_only») in
     freely-agrees left emptied _ _ _ (aggregate-agrees D false emptied shape ps (D .arguments))
 
-pub variadic-argument-agrees : (D : Description) (left : Left) (arg : args.Arg) (ps : List Piece) → (D .variadic ≡ UnnamedIntegers → left .«integers_only» ≡ no-mark)
+pub variadic-argument-agrees : (D : Description) (left : Left) (arg : args.Arg) (ps : List Piece) → (dotsOf (D .variadic) .«integers_only» ≡ true → left .«integers_only» ≡ no-mark)
     → Agrees left (variadicArgument D left arg ps) (variadicArgumentChoice D left arg ps .decision) (slotsFor (variadicArgumentChoice D left arg ps) arg ps)
 unfolding variadicArgument variadicArgumentChoice
 variadic-argument-agrees D left arg ps mark = go (D .variadic) mark
   where
-    go : (v : Variadic) → (v ≡ UnnamedIntegers → left .«integers_only» ≡ no-mark) → Dotted D left arg ps v
+    go : (v : Variadic) → (dotsOf v .«integers_only» ≡ true → left .«integers_only» ≡ no-mark) → Dotted D left arg ps v
     go SameAsFixed h = fixed-agrees false D left arg ps
     go AlwaysMemory h = in-memory-agrees D left arg ps
     go BothBanks h = fixed-agrees false D left arg ps
     go IntegersOnly h = fixed-agrees true D left arg ps
     go UnnamedIntegers h = as-integers-agrees D left arg ps (h refl)
+    go UnnamedIntegersEven h = as-integers-even-agrees D left arg ps (h refl)

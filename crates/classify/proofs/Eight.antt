@@ -1,6 +1,6 @@
 -- No value that a call accepts travels in more than eight slots: one test that antt computes over all descriptions and what stands past them, and
 -- one law for any description that passes it. A scalar of 64 bytes that goes in integers of eight bytes alone has eight.
-use Prim.Native.Nat.{ℕ, _+_, _-_, _*_, _≤_, _<_, max}
+use Prim.Native.Nat.{ℕ, _+_, _-_, _*_, _%_, _≤_, _<_, max}
 use mathlib.Core.Path.{_≡_, refl, sym, subst}
 use mathlib.Core.List.{List, [], _∷_}
 use mathlib.Core.Bool.{Bool, true, false, _&&_, _||_, not, cond}
@@ -32,9 +32,9 @@ use Rattle.describe.specs.declared.Test.the-variants.{Anything, Empty, SizeOneO
 use Rattle.describe.specs.declared.Travel.{Travel}
 use Rattle.describe.specs.declared.Travel.the-variants.{Ignore, AsFound, AsIntegers, AsOneInteger, ByReference, InMemory, InMemoryAndSpend}
 use Rattle.describe.specs.declared.Short.{Short}
-use Rattle.describe.specs.declared.Short.the-variants.{Unchanged, Memory, MemoryAndDrain, TryNextRule}
+use Rattle.describe.specs.declared.Short.the-variants.{Unchanged, Memory, MemoryAndDrain, TryNextRule, Split}
 use Rattle.describe.specs.declared.Variadic.{Variadic}
-use Rattle.describe.specs.declared.Variadic.the-variants.{SameAsFixed, AlwaysMemory, BothBanks, IntegersOnly, UnnamedIntegers}
+use Rattle.describe.specs.declared.Variadic.the-variants.{SameAsFixed, AlwaysMemory, BothBanks, IntegersOnly, UnnamedIntegers, UnnamedIntegersEven}
 use Rattle.describe.specs.Description.{Description, termsOf}
 use Rattle.describe.specs.Dots.{dotsOf}
 use Rattle.describe.specs.Questions.{isByReference, returnsByReference}
@@ -43,11 +43,11 @@ use Rattle.find.specs.Find.{foundIf, complexFloat}
 use Rattle.find.proofs.Finds.{homogeneous-few, pair-few, x87-few, lone-one, mode-slots, complex-slots}
 use Rattle.eightbytes.proofs.Found.{at-most}
 use Rattle.spend.specs.declared.Left.{Left}
-use Rattle.spend.specs.Ways.{marked, withMark}
+use Rattle.spend.specs.Ways.{no-mark, marked, withMark}
 use Rattle.find.specs.Matches.{isOneOf, matches}
 use Rattle.classify.specs.declared.Call.{Call}
-use Rattle.classify.specs.Pass.{pieces, passSlots}
-use Rattle.classify.specs.Classify.{Passed, passed, leaves, lessBoth, isIntegersOnly, registers, scalar, integerCostOf, floatCostOf, shortOf, slotsInRegisters, travelIn, travel, orRest, tried, apply, returnedScalar, returns, argument, inMemoryAlways, variadicBy, variadicArgument}
+use Rattle.classify.specs.Pass.{pieces, isIgnore, passSlots}
+use Rattle.classify.specs.Classify.{Passed, passed, leaves, less, lessBoth, isIntegersOnly, registers, scalar, integerCostOf, floatCostOf, shortOf, slotsInRegisters, travelIn, travel, orRest, tried, apply, returnedScalar, returns, argument, inMemoryAlways, isAlignedPair, fromEvenStart, variadicBy, variadicArgument}
 use Rattle.classify.specs.Answers.{stateRefusal, argRefusal, checked, rowRefusal, refusalBy, refusalOf}
 use Rattle.classify.proofs.Accepted.{sound, call-checked}
 use Rattle.classify.proofs.Sources.{none-found, floats-cut}
@@ -155,12 +155,17 @@ module _ (B : Banks) (shape : Shape) (ps : List Piece) (ss : List Slot) (n : ℕ
 
 -- ---- a rule
 
+pick : (b : Bool) (p q : Passed) → (b ≡ true → slotCount p ≤ 8) → slotCount q ≤ 8 → slotCount (cond b p q) ≤ 8
+pick true p q h k = h refl
+pick false p q h k = k
+
 -- where it falls short, it says nothing of slots
 abbrev stops : Short → Bool
 stops Unchanged = false
 stops Memory = true
 stops MemoryAndDrain = true
 stops TryNextRule = true
+stops Split = false
 
 -- integers that a matched size has eight of at most, or that have to fit what is left of a bank of eight at most
 abbrev fewIntegers : Banks → Bool → Test → Short → Bool
@@ -180,13 +185,14 @@ fewRule B returning rule = fewBy (rule .then) B returning (rule .when) (rule .sh
 
 module _ (left : Left) (rest : Passed) (later : slotCount rest ≤ 8) where
   -- slots that are few where they travel as pieces: they come back, or fit what is left, or nothing is done about a shortage
-  module _ (ss : List Slot) (short : Short) (unchanged : short ≡ Unchanged → length ss ≤ 8) where
+  module _ (ss : List Slot) (short : Short) (goes-on : stops short ≡ false → length ss ≤ 8) where
     short-few : (s : Short) (i f : ℕ) → short ≡ s → slotCount (orRest (shortOf s left ss i f) rest) ≤ 8
     unfolding shortOf
-    short-few Unchanged i f e = unchanged e
+    short-few Unchanged i f e = goes-on (rw e)
     short-few Memory i f e = omega arith
     short-few MemoryAndDrain i f e = omega arith
     short-few TryNextRule i f e = later
+    short-few Split i f e = pick (eqb (left .integer) 0) _ _ (λ _. omega arith) (goes-on (rw e))
 
     in-few : (shared returning : Bool) → (returning ≡ true → length ss ≤ 8) → (integerCostOf shared ss ≤ left .integer → length ss ≤ 8)
         → slotCount (orRest (slotsInRegisters shared left short ss returning) rest) ≤ 8
@@ -301,10 +307,6 @@ Small args.the-variants.Void = Unit {0}
 Small (args.the-variants.Scalar s) = s .size ≤ most-size
 Small (args.the-variants.Aggregate shape) = Unit {0}
 
-pick : (b : Bool) (p q : Passed) → (b ≡ true → slotCount p ≤ 8) → slotCount q ≤ 8 → slotCount (cond b p q) ≤ 8
-pick true p q h k = h refl
-pick false p q h k = k
-
 module _ (D : Description) (left : Left) where
   scalar-few : (s : Scalar) → s .size ≤ most-size → (marked left ≡ true → 8 ≤ D .banks .«integer_width») → slotCount (scalar D left s) ≤ 8
   unfolding scalar
@@ -327,6 +329,14 @@ module _ (D : Description) (left : Left) where
   argument-few t fits wide-enough args.the-variants.Void ps h = omega arith
   argument-few t fits wide-enough (args.the-variants.Scalar s) ps h = scalar-few s h wide-enough
   argument-few t fits wide-enough (args.the-variants.Aggregate shape) ps h = apply-few D left shape ps false (λ _. fits) (D .arguments) t
+
+-- an even start leaves no more than there were
+start-fits : (D : Description) (left : Left) (arg : args.Arg) → left .integer ≤ D .banks .integer → fromEvenStart D left arg .integer ≤ D .banks .integer
+start-fits D left arg h = go (isAlignedPair D arg && eqb ((D .banks .integer - left .integer) % 2) 1)
+  where
+    go : (b : Bool) → (cond b (less 1 left) left) .integer ≤ D .banks .integer
+    go true = omega arith
+    go false = h
 
 memory-few : (D : Description) (left : Left) → T (fewArguments D) → (arg : args.Arg) (ps : List Piece) → slotCount (inMemoryAlways D left arg ps) ≤ 8
 memory-few D left t args.the-variants.Void ps = omega arith
@@ -370,6 +380,11 @@ module _ (d : ℕ) (left : Left) (fits : left .integer ≤ described d .banks .i
       go IntegersOnly e = argument-eight
       go UnnamedIntegers e =
           argument-few (described d) (withMark left) arguments-few fits (λ _. wide-marked (rw e)) arg ps h
+      go UnnamedIntegersEven e =
+          let p : Passed = argument (described d) (withMark (fromEvenStart (described d) left arg)) arg ps in
+          let few-left =
+          argument-few (described d) (withMark (fromEvenStart (described d) left arg)) arguments-few (start-fits (described d) left arg fits) (λ _. wide-marked (rw e)) arg ps h in
+          pick (isIgnore (p .pass)) (passed (p .pass) left) (passed (p .pass) (leaves (p .left .integer) (p .left .float) no-mark)) (λ _. few-left) few-left
 
 -- ---- an operation that is accepted
 

@@ -14,7 +14,7 @@ use Rattle.describe.specs.declared.Rule.{Rule}
 use Rattle.describe.specs.declared.Travel.{Travel}
 use Rattle.describe.specs.declared.Travel.the-variants.{Ignore, AsFound, AsIntegers, AsOneInteger, ByReference, InMemory, InMemoryAndSpend}
 use Rattle.describe.specs.declared.Short.{Short}
-use Rattle.describe.specs.declared.Short.the-variants.{Unchanged, Memory, MemoryAndDrain}
+use Rattle.describe.specs.declared.Short.the-variants.{Unchanged, Memory, MemoryAndDrain, Split}
 use Rattle.describe.specs.declared.Short as shorts
 use Rattle.describe.specs.declared.ReturnPointer.{ReturnPointer}
 use Rattle.describe.specs.Description.{Decides}
@@ -41,6 +41,7 @@ module _ (left : Left) (slots : Wanted) where
   short-stays Memory i f h e = decided _ e
   short-stays MemoryAndDrain i f h e = decided _ e
   short-stays shorts.the-variants.TryNextRule i f h e = h refl
+  short-stays Split i f h e = decided _ e
 
   slots-stay : (shared returning : Bool) (short : Short) → (short ≡ shorts.the-variants.TryNextRule → ⊥) → inSlots shared returning left short slots ≡ TryNextRule → ⊥
   unfolding inSlots

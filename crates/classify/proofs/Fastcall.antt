@@ -36,6 +36,7 @@ use Rattle.spend.specs.Spending.{takes, wantOf, memory, travelOf}
 use Rattle.stack_align.specs.InMemory.{inMemoryBy}
 use Rattle.stack_place.specs.Stacked.{nowhere, behind}
 use Rattle.stack_place.proofs.Placing.{no-length}
+use Rattle.after_dots.specs.AfterDots.{settledFor}
 use Rattle.classify.specs.Stacking.{areaOf, stackedOf}
 use Rattle.classify.specs.Spending.{Chosen, decideBy, byRules, aggregateBy, choice, argumentChoice, variadicArgumentChoice}
 
@@ -96,7 +97,7 @@ module _ (d : ℕ) (row : isFastcall d ≡ true) (left : Left) (shape : Shape) (
   fastcall = fastcall-row d (rw row tt)
 
   pub fixed-decision : argumentChoice D left (Aggregate shape) ps .decision ≡ fastcallDecision shape 4 (left .integer)
-  unfolding argumentChoice aggregateBy
+  unfolding argumentChoice aggregateBy settledFor
   fixed-decision = rw (fastcall .rules, by-rules (termsOf D) left shape ps, fastcall .words)
 
   pub variadic-decision : variadicArgumentChoice D left (Aggregate shape) ps .decision ≡ fastcallDecision shape 4 (left .integer)

@@ -25,13 +25,14 @@ use Rattle.spend.specs.Ways.{marked, wayNumber, MemoryIsGivenNothing}
 use Rattle.spend.specs.Spending.{travelOf}
 use Rattle.spend.proofs.Given.{Ungiven, UngivenIf, another-way, either, travel-ungiven}
 use Rattle.spend_scalar.proofs.Given as lone
+use Rattle.after_dots.proofs.Given.{settled-ungiven}
 use Rattle.find.specs.Matches.{matches}
 use Rattle.stack_place.specs.declared.Placed.{Placed}
 use Rattle.classify.specs.declared.Call.{Call}
 use Rattle.classify.specs.declared.Answer.{Answer}
 use Rattle.classify.specs.Pass.{wayOf}
 use Rattle.classify.specs.Classify.{Passed}
-use Rattle.classify.specs.Spending.{Chosen, chosen, wantedBy, orNext, decideBy, byRules, leftFor, scalarBy, freely, aggregateBy, choice, returnChoice, argumentChoice, variadicArgumentChoice}
+use Rattle.classify.specs.Spending.{Chosen, chosen, wantedBy, orNext, decideBy, byRules, scalarBy, aggregateBy, choice, returnChoice, argumentChoice, variadicArgumentChoice}
 use Rattle.classify.specs.Answers.{returnsAccount, argumentAccount, variadicArgumentAccount, answerTo, returnsAnswerBy, argumentAnswerBy, variadicArgumentAnswerBy}
 use Rattle.classify.proofs.Accepted.{by-cases}
 use Rattle.classify.proofs.Agree.{argument-agrees, returns-agrees}
@@ -68,15 +69,11 @@ scalar-ungiven : (T : Terms) (returning : Bool) (dots : Dots) (left : Left) (s :
 unfolding scalarBy
 scalar-ungiven T returning dots left s =
     either returning _ _ (lone.return-ungiven (T .scalars) (T .«return_pointer») left s)
-    (either (dots .emptied) _ _ (another-way tt) (lone.argument-ungiven (T .banks) (T .scalars) _ s))
+    (either (dots .emptied) _ _ (another-way tt) (settled-ungiven dots (left .integer) _ _ (lone.argument-ungiven (T .banks) (T .scalars) _ s)))
 
 aggregate-ungiven : (T : Terms) (rules : List Rule) (returning : Bool) (dots : Dots) (left : Left) (shape : Shape) (ps : List Piece) → ChosenUngiven (aggregateBy T rules returning dots left shape ps)
 unfolding aggregateBy
-aggregate-ungiven T rules returning dots left shape ps = go (dots .emptied) (byRules T returning (leftFor dots left) rules shape ps) (rules-ungiven T returning (leftFor dots left) shape ps rules)
-  where
-    go : (emptied : Bool) (k : Chosen) → ChosenUngiven k → ChosenUngiven (cond emptied (chosen (freely (k .decision)) (k .when)) k)
-    go true k h = λ w. (refl, refl)
-    go false k h = h
+aggregate-ungiven T rules returning dots left shape ps = settled-ungiven dots (left .integer) _ _ (rules-ungiven T returning _ shape ps rules)
 
 choice-ungiven : (T : Terms) (rules : List Rule) (returning : Bool) (dots : Dots) (left : Left) (arg : args.Arg) (ps : List Piece) → ChosenUngiven (choice T rules returning dots left arg ps)
 choice-ungiven T rules returning dots left args.the-variants.Void ps = another-way tt

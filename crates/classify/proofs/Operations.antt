@@ -1,6 +1,6 @@
 -- The laws of the operations: what decides a value, and from there to the answer and the buffer that are promised.
 use Prim.Native.Nat.{ℕ, zero, suc, _-_, _/_, _≤_, _<_}
-use mathlib.Core.Path.{_≡_, refl, _∙_}
+use mathlib.Core.Path.{_≡_, refl, sym, _∙_}
 use mathlib.Core.List.{List, []}
 use mathlib.Core.Bool.{Bool, true, false, _&&_, _||_, not, cond}
 use native.Mathlib.Omega.{arith}
@@ -27,7 +27,7 @@ use Rattle.describe.specs.declared.Terms.{Terms}
 use Rattle.describe.specs.declared.ReturnPointer.{ReturnPointer}
 use Rattle.describe.specs.declared.ReturnPointer.the-variants.{FirstArgument, FirstArgumentPopped, Dedicated}
 use Rattle.describe.specs.declared.Variadic.{Variadic}
-use Rattle.describe.specs.declared.Variadic.the-variants.{SameAsFixed, AlwaysMemory, BothBanks, IntegersOnly, UnnamedIntegers}
+use Rattle.describe.specs.declared.Variadic.the-variants.{SameAsFixed, AlwaysMemory, BothBanks, IntegersOnly, UnnamedIntegers, UnnamedIntegersEven}
 use Rattle.describe.specs.Description.{Description, termsOf, Ends}
 use Rattle.rows.specs.Row.{listed}
 use Rattle.describe.specs.Questions.{isByReference, returnsByReference}
@@ -44,6 +44,7 @@ use Rattle.spend.specs.Ways as made
 use Rattle.spend.specs.Ways.{marked, withMark}
 use Rattle.spend.specs.Spending.{wantOf, byPointer}
 use Rattle.spend_scalar.specs.Spending.{skipOf, integerArgument, scalarInRegisters, scalarArgument, scalarReturn}
+use Rattle.after_dots.specs.AfterDots.{skippedFor, leftFor, settledFor}
 use Rattle.find.specs.Matches.{noClasses}
 use Rattle.slot_writing.specs.Sources.{sourceSlots, scalarSlots}
 use Rattle.slot_writing.proofs.Writing.{nothing-written}
@@ -59,11 +60,14 @@ use Rattle.classify.specs.Spending as rules
 use Rattle.classify.specs.Answers.{stateRefusal, argRefusal, checked, callRefusalBy, refusalBy, rowRefusal, refused, done, Account, accountOf, returnsAccount, argumentAccount, variadicArgumentAccount, orAnswer, answerTo, writtenTo, Leaves, voidAnswerBy, voidAnswer, returnsAnswerBy, returnsWrittenBy, argumentAnswerBy, argumentWrittenBy, variadicArgumentAnswerBy, variadicArgumentWrittenBy, returnsAnswer, returnsWritten, argumentAnswer, argumentWritten, variadicArgumentAnswer, variadicArgumentWritten, Returns, Passes, PassesVariadic}
 use Rattle.classify.specs.Stacking.{stackedOf}
 use Rattle.classify.specs.Parts as parts
-use Rattle.classify.proofs.Accepted.{sound, call-checked, unmarked}
+use Rattle.classify.proofs.Accepted.{sound, call-checked, unmarked, alone-unmarked}
 use Rattle.classify.proofs.Steps.{row-there, row-missing, or-refused, slots-short, slots-fit}
 use Rattle.classify.proofs.Agree.{Agrees, slotsFor, argument-agrees, returns-agrees, variadic-argument-agrees}
 
 -- ---- what decides a value
+
+otherwise : (b : Bool) (d e : Decision) → b ≡ false → cond b d e ≡ e
+otherwise b d e h = rw h
 
 module _ (T : Terms) (returning : Bool) (dots : Dots) (left : Left) (s : Scalar) (r : Decision) where
   pub scalar-back : returning ≡ true → r ≡ scalarReturn (T .scalars) (T .«return_pointer») left s → r ≡ rules.scalarBy T returning dots left s
@@ -75,35 +79,19 @@ module _ (T : Terms) (returning : Bool) (dots : Dots) (left : Left) (s : Scalar)
     unfolding rules.scalarBy
     scalar-memory z er = rw (er, h, z)
 
-    pub scalar-out : dots .emptied ≡ false → (l : Left) → l ≡ rules.leftFor dots left → r ≡ scalarArgument (T .banks) (T .scalars) l s
-        → r ≡ rules.scalarBy T returning dots left s
+    pub scalar-out : dots .emptied ≡ false → (n : ℕ) → n ≡ skippedFor dots (T .banks) left (s .size) (s .align) → (l : Left) → l ≡ leftFor dots n left
+        → (d : Decision) → d ≡ scalarArgument (T .banks) (T .scalars) l s → r ≡ settledFor dots (left .integer) n d → r ≡ rules.scalarBy T returning dots left s
     unfolding rules.scalarBy
-    scalar-out z l el er = rw (er, el, h, z)
+    scalar-out z n en l el d ed er =
+        let er′ : r ≡ settledFor dots (left .integer) n (scalarArgument (T .banks) (T .scalars) (leftFor dots n left) s) = rw (ed, el) at er in
+        rw (← en, h) (er′ ∙ sym (otherwise (dots .emptied) _ _ z))
 
-module _ (T : Terms) (rules′ : List Rule) (returning : Bool) (dots : Dots) (left : Left) (shape : Shape) (ps : List Piece)
-    (l : Left) (el : l ≡ rules.leftFor dots left) (d : Decided) (ed : d ≡ parts.walked T returning l rules′ shape ps) where
-  pub aggregate-memory : dots .emptied ≡ true → (r : Decided) → r ≡ parts.freelyDecided d → r ≡ parts.aggregateDecided T rules′ returning dots left shape ps
-  unfolding parts.aggregateDecided parts.walked rules.aggregateBy
-  aggregate-memory z r er = rw (er, ed, el, z)
-
-  pub aggregate-out : dots .emptied ≡ false → d ≡ parts.aggregateDecided T rules′ returning dots left shape ps
-  unfolding parts.aggregateDecided parts.walked rules.aggregateBy
-  aggregate-out z = rw (ed, el, z)
-
-module _ (dots : Dots) (left : Left) where
-  pub left-emptied : dots .emptied ≡ true → _≡_ {A = Left} (record { integer = 0; float = 0; «integers_only» = left .«integers_only» }) (rules.leftFor dots left)
-  left-emptied e = rw e
-
-  module _ (n : dots .emptied ≡ false) where
-    pub left-marked : dots .«integers_only» ≡ true → (r : Left) → r ≡ withMark left → r ≡ rules.leftFor dots left
-    left-marked e r er = rw (er, n, e)
-
-    pub left-same : dots .«integers_only» ≡ false → left ≡ rules.leftFor dots left
-    left-same e = rw (n, e)
-
-pub frees : (d : Decided) (spent : Spent) → spent ≡ made.nothing
-    → _≡_ {A = Decided} (record { decision = record { way = d .decision .way; source = d .decision .source; count = d .decision .count; spent = spent }; classes = d .classes }) (parts.freelyDecided d)
-frees d spent e = rw e
+pub aggregate-found : (T : Terms) (list : List Rule) (returning : Bool) (dots : Dots) (left : Left) (shape : Shape) (ps : List Piece)
+    (n : ℕ) → n ≡ skippedFor dots (T .banks) left (shape .size) (shape .align) → (l : Left) → l ≡ leftFor dots n left
+    → (d : Decided) → d ≡ parts.walked T returning l list shape ps → (r : Decision) → r ≡ settledFor dots (left .integer) n (d .decision)
+    → parts.decided r (d .classes) ≡ parts.aggregateDecided T list returning dots left shape ps
+unfolding parts.aggregateDecided parts.walked rules.aggregateBy
+aggregate-found T list returning dots left shape ps n en l el d ed r er = rw (er, ed, el, en)
 
 -- ---- what an operation reads of a row
 
@@ -161,7 +149,7 @@ module _ (cs : List ℕ) (ps : List Piece) where
   unfolding scalarInRegisters
   registers-alone B S left s want =
       either (B .shared) _ _ (empty _ _)
-      (either (isFloat (s .kind) && leb (s .size) (B .«float_width»)) _ _ (empty _ _)
+      (either (isFloat (s .kind) && leb (s .size) (B .«float_width»)) _ _ (either (S .«float_falls_to_integers») _ _ (either (eqb (left .float) 0) _ _ (empty _ _) (empty _ _)) (empty _ _))
       (either (isFloat (s .kind)) _ _ (empty _ _) (integer-alone (B .integer) S (left .integer) want)))
 
   argument-alone : (B : Banks) (S : Scalars) (left : Left) (s : Scalar) → Alone (scalarArgument B S left s)
@@ -184,11 +172,15 @@ module _ (cs : List ℕ) (ps : List Piece) where
       either (not (returnsByReference S (s .size))) _ _ (empty _ _)
       (either (eqb (s .kind) integer && not (eqb (S .«wide_integer_returns_in») integer)) _ _ (record { same = refl }) (pointer-alone p (left .integer)))
 
+  settled-alone : (dots : Dots) (I skipped : ℕ) (d : Decision) → Alone d → Alone (settledFor dots I skipped d)
+  unfolding settledFor
+  settled-alone dots I skipped d a = record { same = a .same }
+
   scalar-alone : (T : Terms) (returning : Bool) (dots : Dots) (left : Left) (s : Scalar) → Alone (rules.scalarBy T returning dots left s)
   unfolding rules.scalarBy
   scalar-alone T returning dots left s =
       either returning _ _ (return-alone (T .scalars) (T .«return_pointer») left s)
-      (either (dots .emptied) _ _ (empty _ _) (argument-alone (T .banks) (T .scalars) (rules.leftFor dots left) s))
+      (either (dots .emptied) _ _ (empty _ _) (settled-alone dots (left .integer) _ _ (argument-alone (T .banks) (T .scalars) _ s)))
 
 module _ (T : Terms) (returning : Bool) (dots : Dots) (c : Call) (s : Scalar) (out : List ℕ) (r : Answer) (d : Decision)
     (ed : d ≡ rules.scalarBy T returning dots (c .left) s) (room : ℕ) (er : room ≡ length out / slotSize) where
@@ -246,7 +238,7 @@ pub agreed : (source : ℕ) (D : Description) (c : Call) (arg : args.Arg) (ws : 
     → Agrees (c .left) (rust.variadicArgument D (c .left) arg (piecesOf ws)) (rules.variadicArgumentChoice D (c .left) arg (piecesOf ws) .decision)
     (slotsFor (rules.variadicArgumentChoice D (c .left) arg (piecesOf ws)) arg (piecesOf ws))
 agreed source D c arg ws z =
-    variadic-argument-agrees D (c .left) arg (piecesOf ws) (λ e. unmarked D c (sound source D c (call-checked source D c arg ws z) .1) (rw e))
+    variadic-argument-agrees D (c .left) arg (piecesOf ws) (λ e. unmarked D c (sound source D c (call-checked source D c arg ws z) .1) (alone-unmarked (D .variadic) e))
 
 module _ (source : ℕ) (D : Description) (c : Call) (arg : args.Arg) (ws out : List ℕ) (r : Answer) (after : List ℕ) where
   pub returns-by : parts.From source D true false c arg ws out r after → Leaves (returnsAnswerBy source D c arg ws out) (returnsWrittenBy source D c arg ws out) r after
@@ -382,3 +374,4 @@ module _ (c : Call) (arg : args.Arg) (ws out : List ℕ) (r : Answer) (s : Scala
       wordless BothBanks D left = refl
       wordless IntegersOnly D left = refl
       wordless UnnamedIntegers D left = refl
+      wordless UnnamedIntegersEven D left = refl

@@ -20,7 +20,7 @@ use Rattle.describe.specs.declared.Dots.{Dots}
 use Rattle.describe.specs.declared.Rule.{Rule}
 use Rattle.describe.specs.declared.Terms.{Terms}
 use Rattle.describe.specs.declared.Variadic.{Variadic}
-use Rattle.describe.specs.declared.Variadic.the-variants.{SameAsFixed, AlwaysMemory, BothBanks, IntegersOnly, UnnamedIntegers}
+use Rattle.describe.specs.declared.Variadic.the-variants.{SameAsFixed, AlwaysMemory, BothBanks, IntegersOnly, UnnamedIntegers, UnnamedIntegersEven}
 use Rattle.describe.specs.Description.{termsOf}
 use Rattle.describe.specs.Dots.{dotsOf}
 use Rattle.rows.specs.Row.{listed}
@@ -65,6 +65,7 @@ mark-is AlwaysMemory = refl
 mark-is BothBanks = refl
 mark-is IntegersOnly = refl
 mark-is UnnamedIntegers = refl
+mark-is UnnamedIntegersEven = refl
 
 module _ (T : Terms) (c : Call) where
   pub state-integers : T .banks .integer < c .left .integer → bad-call ≡ stateRefusal T c

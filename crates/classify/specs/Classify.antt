@@ -1,8 +1,9 @@
 -- The Rust's behaviour, restated over readable descriptions, shapes and calls, function by function in the order of classify.rs: how each value
 -- travels, its slots, and the counts left as the Rust computes them. Subtraction stops at 0, as the Rust's saturating one does. What is passed
 -- over and given is not here: that is spend/specs/Spending.antt, spend_scalar/specs/Spending.antt and Spending.antt beside this file, and a theorem
--- has the two agree. Most reasons stand there, too, and at the fields of descriptions (describe/src/lib.rt).
-use Prim.Native.Nat.{ℕ, _+_, _-_, _/_, _%_, max}
+-- has the two agree. Most reasons stand there, too, and at the fields of descriptions (describe/src/lib.rt). Three things aren't the Rust's, and each
+-- says so; rows 0 to 29 have none of them (abis/proofs/Apart.antt, riscv-psabi), so that there all is the Rust's.
+use Prim.Native.Nat.{ℕ, _+_, _*_, _-_, _/_, _%_, max}
 use mathlib.Core.List.{List, [], _∷_}
 use mathlib.Core.Bool.{Bool, true, false, _&&_, _||_, not, cond}
 use mathlib.Core.Option.{Option}
@@ -24,17 +25,17 @@ use Rattle.describe.specs.declared.Rule.{Rule}
 use Rattle.describe.specs.declared.Travel.{Travel}
 use Rattle.describe.specs.declared.Travel.the-variants.{Ignore, AsFound, AsIntegers, AsOneInteger, ByReference, InMemory, InMemoryAndSpend}
 use Rattle.describe.specs.declared.Short.{Short}
-use Rattle.describe.specs.declared.Short.the-variants.{Unchanged, Memory, MemoryAndDrain, TryNextRule}
+use Rattle.describe.specs.declared.Short.the-variants.{Unchanged, Memory, MemoryAndDrain, TryNextRule, Split}
 use Rattle.describe.specs.declared.ReturnPointer.{ReturnPointer}
 use Rattle.describe.specs.declared.ReturnPointer.the-variants.{FirstArgument, FirstArgumentPopped, Dedicated}
 use Rattle.describe.specs.declared.Variadic.{Variadic}
-use Rattle.describe.specs.declared.Variadic.the-variants.{SameAsFixed, AlwaysMemory, BothBanks, IntegersOnly, UnnamedIntegers}
+use Rattle.describe.specs.declared.Variadic.the-variants.{SameAsFixed, AlwaysMemory, BothBanks, IntegersOnly, UnnamedIntegers, UnnamedIntegersEven}
 use Rattle.describe.specs.Description.{Description}
 use Rattle.describe.specs.Questions.{isByReference, returnsByReference}
 use Rattle.spend.specs.declared.Left.{Left}
 use Rattle.spend.specs.Ways.{no-mark, marked, withMark}
 use Rattle.find.specs.Matches.{matches}
-use Rattle.classify.specs.Pass.{Pass, ignore, direct, pieces, reference, memory}
+use Rattle.classify.specs.Pass.{Pass, ignore, direct, pieces, reference, memory, isIgnore}
 
 -- what a call has left: integers, floats, and the integers-only mark, which is set where it isn't 0
 abbrev pub leaves : ℕ → ℕ → ℕ → Left
@@ -73,6 +74,7 @@ isIntegersOnly AlwaysMemory = false
 isIntegersOnly BothBanks = false
 isIntegersOnly IntegersOnly = true
 isIntegersOnly UnnamedIntegers = false
+isIntegersOnly UnnamedIntegersEven = false
 
 -- the same call, to a variadic function
 abbrev pub variadic : Description → Left → Left
@@ -101,11 +103,16 @@ afterPair S want left =
     cond (leb want (left .integer)) (less want left)
     (cond (S .«wide_integer_drains») (leaves 0 (left .float) (left .«integers_only»)) left)
 
+-- a float that a float register holds takes one. Not the Rust's: with none left it takes what an integer of its size would, where the description
+-- says so
+abbrev pub afterFloat : Description → Left → ℕ → Left
+afterFloat D left want = cond (D .scalars .«float_falls_to_integers») (cond (eqb (left .float) 0) (less want left) (lessBoth 0 1 left)) (lessBoth 0 1 left)
+
 -- what is left after a scalar that travels in registers as itself
 unfoldable pub afterScalar : Description → Left → Scalar → ℕ → Left
 afterScalar D left s want =
     cond (D .banks .shared) (less 1 left)
-    (cond (isFloat (s .kind) && leb (s .size) (D .banks .«float_width»)) (lessBoth 0 1 left)
+    (cond (isFloat (s .kind) && leb (s .size) (D .banks .«float_width»)) (afterFloat D left want)
     (cond (isFloat (s .kind)) (less want left)
     (cond (D .scalars .«wide_integer_is_all_or_nothing») (cond (leb want (left .integer)) (less want left) left)
     (cond (ltb 1 want && (D .scalars .«wide_integer_starts_even» || D .scalars .«wide_integer_drains»))
@@ -146,6 +153,8 @@ shortOf Memory left ss i f = some (passed memory left)
 shortOf MemoryAndDrain left ss i f =
     some (passed memory (leaves (drainedTo i (left .integer)) (drainedTo f (left .float)) (left .«integers_only»)))
 shortOf TryNextRule left ss i f = none
+-- not the Rust's: the slots all the same, with what registers there are; and memory, with no integer register left
+shortOf Split left ss i f = some (cond (eqb (left .integer) 0) (passed memory left) (passed (pieces ss) (lessBoth i f left)))
 
 unfoldable pub slotsInRegisters : Bool → Left → Short → List Slot → Bool → Option Passed
 slotsInRegisters shared left short ss returning =
@@ -226,6 +235,21 @@ asIntegers D left arg ps =
     let p : Passed = argument D (withMark left) arg ps in
     passed (p .pass) (counts (p .left .integer) (p .left .float))
 
+-- not the Rust's: the same, and a value that is aligned to two words and no larger begins at an even register, with one fewer left where an odd number
+-- is used. What is ignored costs nothing
+abbrev pub isAlignedPair : Description → args.Arg → Bool
+isAlignedPair D args.the-variants.Void = false
+isAlignedPair D (args.the-variants.Scalar s) = eqb (s .align) (2 * D .banks .«integer_width») && leb (s .size) (2 * D .banks .«integer_width»)
+isAlignedPair D (args.the-variants.Aggregate shape) = eqb (shape .align) (2 * D .banks .«integer_width») && leb (shape .size) (2 * D .banks .«integer_width»)
+
+abbrev pub fromEvenStart : Description → Left → args.Arg → Left
+fromEvenStart D left arg = cond (isAlignedPair D arg && eqb ((D .banks .integer - left .integer) % 2) 1) (less 1 left) left
+
+abbrev pub asIntegersEven : Description → Left → args.Arg → List Piece → Passed
+asIntegersEven D left arg ps =
+    let p : Passed = asIntegers D (fromEvenStart D left arg) arg ps in
+    cond (isIgnore (p .pass)) (passed (p .pass) left) p
+
 -- how the next argument after the dots travels. BothBanks says which registers a bridge has to write, and not in which form; under IntegersOnly
 -- the mark of the call has said all
 abbrev pub variadicBy : Variadic → Description → Left → args.Arg → List Piece → Passed
@@ -233,6 +257,7 @@ variadicBy SameAsFixed D left arg ps = argument D left arg ps
 variadicBy BothBanks D left arg ps = argument D left arg ps
 variadicBy IntegersOnly D left arg ps = argument D left arg ps
 variadicBy UnnamedIntegers D left arg ps = asIntegers D left arg ps
+variadicBy UnnamedIntegersEven D left arg ps = asIntegersEven D left arg ps
 variadicBy AlwaysMemory D left arg ps = inMemoryAlways D left arg ps
 
 unfoldable pub variadicArgument : Description → Left → args.Arg → List Piece → Passed

@@ -31,7 +31,7 @@ use Rattle.stack_place.specs.declared.Placed.{Placed}
 use Rattle.classify.specs.declared.Call.{Call}
 use Rattle.classify.specs.declared.Answer.{Answer}
 use Rattle.classify.specs.declared.Decided.{Decided}
-use Rattle.classify.specs.Spending.{Chosen, byRules, freely, aggregateBy, choice}
+use Rattle.classify.specs.Spending.{Chosen, byRules, aggregateBy, choice}
 use Rattle.classify.specs.Stacking.{stackedOf}
 use Rattle.classify.specs.Answers.{callWith, checked, rowRefusal, roomRefusal, answered, orAnswer, Leaves, Returns, Passes, PassesVariadic}
 
@@ -56,9 +56,6 @@ decidedBy k arg ps = decided (k .decision) (argClasses arg (k .when) ps)
 
 unfoldable pub walked : Terms → Bool → Left → List Rule → Shape → List Piece → Decided
 walked T returning left rules shape ps = decidedBy (byRules T returning left rules shape ps) (aggregateArg shape) ps
-
-abbrev pub freelyDecided : Decided → Decided
-freelyDecided d = decided (freely (d .decision)) (d .classes)
 
 unfoldable pub aggregateDecided : Terms → List Rule → Bool → Dots → Left → Shape → List Piece → Decided
 aggregateDecided T rules returning dots left shape ps = decidedBy (aggregateBy T rules returning dots left shape ps) (aggregateArg shape) ps

@@ -24,9 +24,10 @@ use Rattle.spend.specs.declared.Wanted.{Wanted}
 use Rattle.spend.specs.declared.Decision.{Decision}
 use Rattle.spend.specs.declared.Tried as tries
 use Rattle.spend.specs.Ways as made
-use Rattle.spend.specs.Ways.{marked, withMark}
+use Rattle.spend.specs.Ways.{marked}
 use Rattle.spend.specs.Spending.{travelOf}
 use Rattle.spend_scalar.specs.Spending.{scalarArgument, scalarReturn}
+use Rattle.after_dots.specs.AfterDots.{skippedFor, leftFor, settledFor}
 use Rattle.find.specs.Matches.{matches, sourceOf}
 
 -- what decides a value: the decision, and for an aggregate the test of the rule that made it
@@ -63,29 +64,20 @@ byRules T returning left (rule ∷ rules) shape ps =
 abbrev pub ignored : Chosen
 ignored = chosen (made.plain ways.the-variants.Ignore made.nothing) Anything
 
--- what a value finds left (REFERENCE 9.5): after the dots its banks may be emptied, or the mark set for it alone. With emptied banks every rule
--- that wants registers falls short, so that "always in memory" needs no rules of its own
-abbrev pub leftFor : Dots → Left → Left
-leftFor dots left =
-    cond (dots .emptied) (record { integer = 0; float = 0; «integers_only» = left .«integers_only» })
-    (cond (dots .«integers_only») (withMark left) left)
-
--- a scalar that comes back; one that always is in memory is Direct and spends nothing; any other argument
+-- a scalar that comes back; one that always is in memory is Direct and spends nothing; any other argument, by what it finds left (REFERENCE 9.5)
 unfoldable pub scalarBy : Terms → Bool → Dots → Left → Scalar → Decision
 scalarBy T returning dots left s =
+    let skipped : ℕ = skippedFor dots (T .banks) left (s .size) (s .align) in
     cond returning (scalarReturn (T .scalars) (T .«return_pointer») left s)
     (cond (dots .emptied) (made.plain ways.the-variants.Direct made.nothing)
-    (scalarArgument (T .banks) (T .scalars) (leftFor dots left) s))
+    (settledFor dots (left .integer) skipped (scalarArgument (T .banks) (T .scalars) (leftFor dots skipped left) s)))
 
--- the same decision, spending nothing
-abbrev pub freely : Decision → Decision
-freely d = record { way = d .way; source = d .source; count = d .count; spent = made.nothing }
-
--- an aggregate, by what it finds left; one that finds its banks emptied spends nothing: the call's own registers were never meant for it
+-- an aggregate, by what it finds left
 unfoldable pub aggregateBy : Terms → List Rule → Bool → Dots → Left → Shape → List Piece → Chosen
 aggregateBy T rules returning dots left shape ps =
-    let k : Chosen = byRules T returning (leftFor dots left) rules shape ps in
-    cond (dots .emptied) (chosen (freely (k .decision)) (k .when)) k
+    let skipped : ℕ = skippedFor dots (T .banks) left (shape .size) (shape .align) in
+    let k : Chosen = byRules T returning (leftFor dots skipped left) rules shape ps in
+    chosen (settledFor dots (left .integer) skipped (k .decision)) (k .when)
 
 -- any value, by terms and a list
 abbrev pub choice : Terms → List Rule → Bool → Dots → Left → args.Arg → List Piece → Chosen

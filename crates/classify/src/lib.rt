@@ -23,7 +23,6 @@ ghost use mathlib.Core.List.{[]};
 ghost use Rattle.shape.specs.Words.{piecesOf};
 ghost use Rattle.describe.specs.Description.{Ends};
 ghost use Rattle.rows.specs.Row.{listed};
-ghost use Rattle.spend.specs.Ways as ways;
 ghost use Rattle.slot_writing.specs.Sources.{scalarSlots};
 ghost use Rattle.stack_place.specs.Stacked.{returnPlaced};
 ghost use Rattle.classify.specs.Stacking.{areaOf, stackedOf};
@@ -427,7 +426,14 @@ fn decide_scalar(terms: Terms, returning: bool, dots: Dots, left: Left, s: Scala
     if dots.emptied {
         return spend::integers(Way::Direct, 0, 0);
     }
-    spend_scalar::scalar_argument(terms.banks, terms.scalars, left_for(dots, left), s)
+    let skipped = after_dots::skipped(dots, terms.banks, left, s.size, s.align);
+    let decision = spend_scalar::scalar_argument(
+        terms.banks,
+        terms.scalars,
+        after_dots::left_for(dots, left, skipped),
+        s,
+    );
+    after_dots::settled(dots, left.integer, skipped, decision)
 }
 
 fn decide_aggregate(
@@ -442,45 +448,12 @@ fn decide_aggregate(
     requires { ⌜ Ends (listed list) ⌝ }
     ensures { λ r. ⌜ r ≡ parts.aggregateDecided terms (listed list) returning dots left shape (piecesOf (now (words .entry))) ⌝ }
 {
-    let decided = apply(terms, list, returning, left_for(dots, left), shape, words);
-    if dots.emptied {
-        return freely(decided);
-    }
-    decided
-}
-
-// What a value finds left: banks that are emptied for it, or the mark set for it alone.
-fn left_for(dots: Dots, left: Left) -> Left
-    ensures { λ r. ⌜ r ≡ rules.leftFor dots left ⌝ }
-{
-    if dots.emptied {
-        return Left {
-            integer: 0,
-            float: 0,
-            integers_only: left.integers_only,
-        };
-    }
-    if dots.integers_only {
-        return with_mark(left);
-    }
-    left
-}
-
-// The same decision, spending nothing.
-fn freely(decided: Decided) -> Decided
-    ensures { λ r. ⌜ r ≡ parts.freelyDecided decided ⌝ }
-{
-    let decision = decided.decision;
-    let way = decision.way;
-    let source = decision.source;
+    let skipped = after_dots::skipped(dots, terms.banks, left, shape.size, shape.align);
+    let found = after_dots::left_for(dots, left, skipped);
+    let decided = apply(terms, list, returning, found, shape, words);
     let classes = decided.classes;
     Decided {
-        decision: Decision {
-            way,
-            source,
-            count: decision.count,
-            spent: nothing_spent(),
-        },
+        decision: after_dots::settled(dots, left.integer, skipped, decided.decision),
         classes,
     }
 }
@@ -658,7 +631,7 @@ fn refused(call: Call, refusal: u64) -> Answer
         outcome: Outcome {
             refusal,
             way: spend::way_number(Way::Ignore),
-            spent: nothing_spent(),
+            spent: spend::nothing_spent(),
             slots: 0,
             stacked: Stacked { at: 0, bytes: 0 },
         },
@@ -670,17 +643,6 @@ fn done(call: Call) -> Answer
     ensures { λ r. ⌜ r ≡ answers.done call ⌝ }
 {
     refused(call, shape::ACCEPTED)
-}
-
-fn nothing_spent() -> Spent
-    ensures { λ r. ⌜ r ≡ ways.nothing ⌝ }
-{
-    Spent {
-        integers_passed: 0,
-        integers_given: 0,
-        floats_passed: 0,
-        floats_given: 0,
-    }
 }
 
 // ---- calls
@@ -706,17 +668,7 @@ fn marked(variadic: Variadic, left: Left) -> Left
 {
     let dots = describe::dots_of(variadic);
     if dots.mark {
-        return with_mark(left);
+        return spend::with_mark(left);
     }
     left
-}
-
-fn with_mark(left: Left) -> Left
-    ensures { λ r. ⌜ r ≡ ways.withMark left ⌝ }
-{
-    Left {
-        integer: left.integer,
-        float: left.float,
-        integers_only: spend::MARK,
-    }
 }

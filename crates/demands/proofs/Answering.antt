@@ -6,6 +6,7 @@ use mathlib.Core.Bool.{Bool, true, false, _&&_, not, cond}
 use mathlib.Core.List.{List, [], _∷_}
 use mathlib.Core.Option.{Option}
 use mathlib.Core.Option.Option.{none, some}
+use native.Mathlib.Omega.{arith}
 use borrow.Author.Tests.{eqb-true, eqb-false, ne-eqb, le-leb, lt-leb, le-ltb}
 use lib.Dec.{eqb, leb}
 use lib.ListN.{length}
@@ -20,6 +21,8 @@ use Rattle.slots.specs.Words.{slotSize, wordsOf, written}
 use Rattle.shape.specs.Arithmetic.{roundUp}
 use Rattle.layouts.specs.Record.{maxOf, largestAlign, isFloating, recorded, recordMade, recordAnswer}
 use Rattle.layouts.specs.Members.{membersRefusal, placed, piecesWords, piecesAnswer, piecesWritten}
+use Rattle.abis.specs.Apart.{rust-count}
+use Rattle.abis.proofs.Apart.{nothing-beyond}
 use Rattle.abis.specs.Abis.{described, description-count}
 use Rattle.abis.specs.Answers.{questionRefusal, askedYes, askedFormat, isByReferenceAnswer, returnsByReferenceAnswer, wideReturnsInAnswer, nameAnswer, nameWritten}
 use Rattle.describe.specs.Questions.{isByReference, returnsByReference, wideReturnsIn}
@@ -45,7 +48,8 @@ use Rattle.ledger.specs.Ledger.{Operation, mark, return, argument, variadic-arg
 use Rattle.export_numbers.specs.Numbers.{told}
 use Rattle.export_questions.specs.Answers.{alignTold, countTold, lengthTold, yesTold, formatTold}
 use Rattle.export_questions.specs.Descriptions.{fieldsOf, descriptionAnswer, ruleIn, returnRuleAnswer, argumentRuleAnswer}
-use Rattle.demands.specs.Rust.{rustPasses, rulesSpend, tablePlaces, Accepts, AsRust, recordAlign, recordSize}
+use Rattle.demands.specs.Described.{AsDescribed}
+use Rattle.demands.specs.Rust.{rustPasses, rulesSpend, tablePlaces, Accepts, AsDefined, AsRust, recordAlign, recordSize}
 use Rattle.demands.proofs.Refusing.{operation-refused}
 
 -- ---- an operation on a value
@@ -54,9 +58,9 @@ module _ (c : Call) (arg : Arg) (words out : List ℕ) (account : Account) where
   abbrev Taken : Type 0
   Taken = (refusalOf c arg words ≡ accepted) × (length (slotsOf account) ≤ length out / slotSize) × (account .placed .refusal ≡ accepted)
 
-  as-rust : Taken
-      → AsRust c out (account .passed) (account .spent) (account .placed) (answerTo (refusalOf c arg words) c account out) (writtenTo (refusalOf c arg words) account out)
-  as-rust z =
+  as-defined : Taken
+      → AsDefined c out (account .passed) (account .spent) (account .placed) (answerTo (refusalOf c arg words) c account out) (writtenTo (refusalOf c arg words) account out)
+  as-defined z =
       let a = accepted-where (refusalOf c arg words) c account out (z .0) (z .1) (z .2) in
       rw (a .answer, a .words-are) (record { not-refused = refl; way = refl; count = refl; slots = refl; left = refl; by-the-rules = refl; stands = refl })
 
@@ -65,9 +69,9 @@ module _ (c : Call) (arg : Arg) (words out : List ℕ) (account : Account) where
 
 -- ---- the mark
 
-mark-as-rust : (c : Call) → Accepts mark c → AsRust c [] (rustPasses mark c) (rulesSpend mark c) (tablePlaces mark c) (variadicAnswer c) []
+mark-as-defined : (c : Call) → Accepts mark c → AsDefined c [] (rustPasses mark c) (rulesSpend mark c) (tablePlaces mark c) (variadicAnswer c) []
 unfolding variadicAnswer variadicAnswerBy callRefusal written wordsOf putAt
-mark-as-rust c z =
+mark-as-defined c z =
     rw z (record { not-refused = refl; way = refl; count = refl; slots = refl; left = refl; by-the-rules = refl; stands = refl })
 
 mark-accepts : (c : Call) → variadicAnswer c .outcome .refusal ≡ accepted → Accepts mark c
@@ -80,12 +84,12 @@ mark-accepts c = go (callRefusal c) (callWith (c .abi) (rust.variadic (described
 
 -- ---- any operation
 
-pub operation-as-rust : (op : Operation) (c : Call) → Accepts op c → AsRust c (bufferOf op) (rustPasses op c) (rulesSpend op c) (tablePlaces op c) (answerFor op c) (writtenFor op c)
+pub operation-as-defined : (op : Operation) (c : Call) → Accepts op c → AsDefined c (bufferOf op) (rustPasses op c) (rulesSpend op c) (tablePlaces op c) (answerFor op c) (writtenFor op c)
 unfolding returnsAnswer returnsWritten returnsAnswerBy returnsWrittenBy returnsAccount argumentAnswer argumentWritten argumentAnswerBy argumentWrittenBy argumentAccount variadicArgumentAnswer variadicArgumentWritten variadicArgumentAnswerBy variadicArgumentWrittenBy variadicArgumentAccount refusalOf
-operation-as-rust mark c z = mark-as-rust c z
-operation-as-rust (return arg words out) c z = as-rust c arg words out _ z
-operation-as-rust (argument arg words out) c z = as-rust c arg words out _ z
-operation-as-rust (variadic-argument arg words out) c z = as-rust c arg words out _ z
+operation-as-defined mark c z = mark-as-defined c z
+operation-as-defined (return arg words out) c z = as-defined c arg words out _ z
+operation-as-defined (argument arg words out) c z = as-defined c arg words out _ z
+operation-as-defined (variadic-argument arg words out) c z = as-defined c arg words out _ z
 
 pub operation-accepts : (op : Operation) (c : Call) → answerFor op c .outcome .refusal ≡ accepted → Accepts op c
 unfolding returnsAnswer returnsAnswerBy returnsAccount argumentAnswer argumentAnswerBy argumentAccount variadicArgumentAnswer variadicArgumentAnswerBy variadicArgumentAccount refusalOf
@@ -94,19 +98,24 @@ operation-accepts (return arg words out) c h = accepts c arg words out _ h
 operation-accepts (argument arg words out) c h = accepts c arg words out _ h
 operation-accepts (variadic-argument arg words out) c h = accepts c arg words out _ h
 
+-- on a description of the Rust's
+pub operation-as-rust : (op : Operation) (c : Call) → c .abi < rust-count → Accepts op c
+    → AsRust c (bufferOf op) (rustPasses op c) (rulesSpend op c) (tablePlaces op c) (answerFor op c) (writtenFor op c)
+operation-as-rust op c rusts z = record { nothing-beyond = nothing-beyond (c .abi) rusts; as-defined = operation-as-defined op c z }
+
 -- its way, as the number of REFERENCE 9, and 0 where it is refused
 pub operation-way : (op : Operation) (c : Call) → answerFor op c .outcome .way ≡ cond (eqb (answerFor op c .outcome .refusal) accepted) (wayNumber (wayOf (rustPasses op c .pass))) 0
 operation-way op c = go (eqb (answerFor op c .outcome .refusal) accepted) refl
   where
     go : (b : Bool) → eqb (answerFor op c .outcome .refusal) accepted ≡ b → answerFor op c .outcome .way ≡ cond b (wayNumber (wayOf (rustPasses op c .pass))) 0
-    go true e = operation-as-rust op c (operation-accepts op c (eqb-true (answerFor op c .outcome .refusal) accepted e)) .way
+    go true e = operation-as-defined op c (operation-accepts op c (eqb-true (answerFor op c .outcome .refusal) accepted e)) .way
     go false e = ap (λ (o : Outcome). o .way) (operation-refused op c (eqb-false (answerFor op c .outcome .refusal) accepted e) .rest-zero)
 
 -- ---- the start of a call, and its mark
 
-pub fresh-as-rust : (d : ℕ) → d < description-count → freshAnswer d ≡ done (callWith d (rust.call (described d)) 0)
+pub fresh-as-described : (d : ℕ) → d < description-count → freshAnswer d ≡ done (callWith d (rust.call (described d)) 0)
 unfolding freshAnswer
-fresh-as-rust d h = rw (lt-leb description-count d h) refl
+fresh-as-described d h = rw (lt-leb description-count d h) refl
 
 pub fresh-is-unmarked : (d : ℕ) → marked (freshAnswer d .next .left) ≡ false
 unfolding freshAnswer
@@ -118,7 +127,7 @@ fresh-is-unmarked d = go (leb description-count d)
 
 pub mark-marks : (c : Call) → Accepts mark c → marked (variadicAnswer c .next .left) ≡ rust.isIntegersOnly (described (c .abi) .variadic)
 unfolding callRefusal
-mark-marks c z = rw (mark-as-rust c z .left) (go (rust.isIntegersOnly (described (c .abi) .variadic)) (sound (rowRefusal (c .abi)) (described (c .abi)) c z .1 .mark-used))
+mark-marks c z = rw (mark-as-defined c z .left) (go (rust.isIntegersOnly (described (c .abi) .variadic)) (sound (rowRefusal (c .abi)) (described (c .abi)) c z .1 .mark-used))
   where
     alone : (b : Bool) → b && true ≡ false → b ≡ false
     alone true e = e
@@ -130,10 +139,10 @@ mark-marks c z = rw (mark-as-rust c z .left) (go (rust.isIntegersOnly (described
 
 -- ---- what is asked beside
 
-pub in-memory-as-rust : (c : Call) (shape : Shape) (words : List ℕ) → refusalOf c (Aggregate shape) words ≡ accepted
+pub in-memory-as-defined : (c : Call) (shape : Shape) (words : List ℕ) → refusalOf c (Aggregate shape) words ≡ accepted
     → alignTold (inMemoryAnswer c shape words) ≡ told accepted (inMemory (described (c .abi)) shape (piecesOf words))
 unfolding inMemoryAnswer inMemoryAnswerBy refusalOf
-in-memory-as-rust c shape words z = rw z refl
+in-memory-as-defined c shape words z = rw z refl
 
 pub pieces-as-rust : (members out : List ℕ) → membersRefusal members ≡ accepted → length (scalarsOf members) ≤ length out / pieceSize
     → (countTold (piecesAnswer members out) ≡ told accepted (length (scalarsOf members))) × (piecesWritten members out ≡ putAt out 0 (piecesWords (placed 0 (scalarsOf members))))
@@ -203,31 +212,48 @@ module _ (d : ℕ) (known : d < description-count) where
   is-known : leb description-count d ≡ false
   is-known = lt-leb description-count d known
 
-  pub name-as-rust : (out : List ℕ) → length (described d .name) ≤ length out
+  pub name-as-described : (out : List ℕ) → length (described d .name) ≤ length out
       → (lengthTold (nameAnswer d (length out)) ≡ told accepted (length (described d .name))) × (nameWritten d out ≡ putAt out 0 (described d .name))
   unfolding nameAnswer nameWritten
-  name-as-rust out h = rw is-known (written-fits (described d .name) out h, refl)
+  name-as-described out h = rw is-known (written-fits (described d .name) out h, refl)
 
-  pub by-reference-as-rust : (size : ℕ) → size ≤ most-size → yesTold (isByReferenceAnswer d size) ≡ told accepted (oneIf (isByReference (described d .scalars) size))
+  pub by-reference-as-described : (size : ℕ) → size ≤ most-size → yesTold (isByReferenceAnswer d size) ≡ told accepted (oneIf (isByReference (described d .scalars) size))
   unfolding isByReferenceAnswer questionRefusal askedYes
-  by-reference-as-rust size h = rw (is-known, le-ltb most-size size h) refl
+  by-reference-as-described size h = rw (is-known, le-ltb most-size size h) refl
 
-  pub returns-by-reference-as-rust : (size : ℕ) → size ≤ most-size → yesTold (returnsByReferenceAnswer d size) ≡ told accepted (oneIf (returnsByReference (described d .scalars) size))
+  pub returns-by-reference-as-described : (size : ℕ) → size ≤ most-size → yesTold (returnsByReferenceAnswer d size) ≡ told accepted (oneIf (returnsByReference (described d .scalars) size))
   unfolding returnsByReferenceAnswer questionRefusal askedYes
-  returns-by-reference-as-rust size h = rw (is-known, le-ltb most-size size h) refl
+  returns-by-reference-as-described size h = rw (is-known, le-ltb most-size size h) refl
 
-  pub wide-returns-in-as-rust : (size : ℕ) → size ≤ most-size → formatTold (wideReturnsInAnswer d size) ≡ told accepted (wideReturnsIn (described d .scalars) size)
+  pub wide-returns-in-as-described : (size : ℕ) → size ≤ most-size → formatTold (wideReturnsInAnswer d size) ≡ told accepted (wideReturnsIn (described d .scalars) size)
   unfolding wideReturnsInAnswer questionRefusal askedFormat
-  wide-returns-in-as-rust size h = rw (is-known, le-ltb most-size size h) refl
+  wide-returns-in-as-described size h = rw (is-known, le-ltb most-size size h) refl
 
-  pub description-as-rust : descriptionAnswer d ≡ fieldsOf (described d)
+  pub description-as-described : descriptionAnswer d ≡ fieldsOf (described d)
   unfolding descriptionAnswer
-  description-as-rust = rw is-known refl
+  description-as-described = rw is-known refl
 
-  pub return-rule-as-rust : (i : ℕ) → returnRuleAnswer d i ≡ ruleIn (described d .returns) i
+  pub return-rule-as-described : (i : ℕ) → returnRuleAnswer d i ≡ ruleIn (described d .returns) i
   unfolding returnRuleAnswer
-  return-rule-as-rust i = rw is-known refl
+  return-rule-as-described i = rw is-known refl
 
-  pub argument-rule-as-rust : (i : ℕ) → argumentRuleAnswer d i ≡ ruleIn (described d .arguments) i
+  pub argument-rule-as-described : (i : ℕ) → argumentRuleAnswer d i ≡ ruleIn (described d .arguments) i
   unfolding argumentRuleAnswer
-  argument-rule-as-rust i = rw is-known refl
+  argument-rule-as-described i = rw is-known refl
+
+  pub as-described : AsDescribed d
+  as-described =
+      record {
+        fresh = fresh-as-described d known;
+        name = name-as-described;
+        by-reference = by-reference-as-described;
+        returns-by-reference = returns-by-reference-as-described;
+        wide-returns-in = wide-returns-in-as-described;
+        description = description-as-described;
+        return-rule = return-rule-as-described;
+        argument-rule = argument-rule-as-described;
+      }
+
+-- the Rust's descriptions are among them
+pub rust-known : {d : ℕ} → d < rust-count → d < description-count
+rust-known h = omega arith

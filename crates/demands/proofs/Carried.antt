@@ -48,11 +48,11 @@ use Rattle.classify.proofs.Fastcall.{fastcallDecision, fixed-decision, variadic
 use Rattle.classify.proofs.Given.{AnswerUngiven, returns-ungiven, argument-ungiven, variadic-argument-ungiven}
 use Rattle.ledger.specs.Ledger.{Operation, mark, return, argument, variadic-argument, answerBy, answerFor, Bank, integers, floats, given}
 use Rattle.ledger.proofs.Ledger.{answer-on-row}
-use Rattle.demands.specs.Rust.{rustPasses, AsRust}
+use Rattle.demands.specs.Rust.{rustPasses, AsDefined}
 use Rattle.demands.specs.Performed.{Asks}
 use Rattle.demands.specs.Performed as by
 use Rattle.demands.specs.Fastcall.{fastcallStands, fastcallOutcome}
-use Rattle.demands.proofs.Answering.{operation-accepts, operation-as-rust}
+use Rattle.demands.proofs.Answering.{operation-accepts, operation-as-defined}
 
 -- ---- what travels as Memory
 
@@ -89,7 +89,7 @@ row-is-given-nothing op c = rw (answer-on-row (c .abi) c refl op) (memory-is-giv
 outcomeOf : Decision → Stacked → Outcome
 outcomeOf d stacked = record { refusal = accepted; way = wayNumber (d .way); spent = d .spent; slots = d .count; stacked = stacked }
 
-outcome-so : (c : Call) (out : List ℕ) (p : Passed) (d : Decision) (ss : List Slot) (placed : Placed) (a : Answer) (after : List ℕ) → AsRust c out p (d .spent) placed a after → Agrees (c .left) p d ss
+outcome-so : (c : Call) (out : List ℕ) (p : Passed) (d : Decision) (ss : List Slot) (placed : Placed) (a : Answer) (after : List ℕ) → AsDefined c out p (d .spent) placed a after → Agrees (c .left) p d ss
     → a .outcome ≡ outcomeOf d (placed .stacked)
 unfolding outcomeOf
 outcome-so c out p d ss placed a after r agrees =
@@ -150,7 +150,7 @@ fastcall-aggregate c row shape _ (by.as-fixed words out) z =
     let accepts = operation-accepts op c z in
     let agrees = argument-agrees D (c .left) (Aggregate shape) ps in
     let same = placed-so (termsOf D) (D .arguments) asFixed (c .stack) (Aggregate shape) ps (c .left) (rustPasses op c) d _ agrees in
-    outcome-so c out (rustPasses op c) d _ _ _ _ (operation-as-rust op c accepts) agrees
+    outcome-so c out (rustPasses op c) d _ _ _ _ (operation-as-defined op c accepts) agrees
     ∙ rw same (outcome-is c row shape ps asFixed refl d (fixed-decision (c .abi) row (c .left) shape ps) (rw same at (accepts .2)))
 fastcall-aggregate c row shape _ (by.as-variadic words out) z =
     let op : Operation = variadic-argument (Aggregate shape) words out in
@@ -160,6 +160,6 @@ fastcall-aggregate c row shape _ (by.as-variadic words out) z =
     let accepts = operation-accepts op c z in
     let agrees = agreed (rowRefusal (c .abi)) D c (Aggregate shape) words (accepts .0) in
     let same = placed-so (termsOf D) (D .arguments) (dotsOf (D .variadic)) (c .stack) (Aggregate shape) ps (c .left) (rustPasses op c) d _ agrees in
-    outcome-so c out (rustPasses op c) d _ _ _ _ (operation-as-rust op c accepts) agrees
+    outcome-so c out (rustPasses op c) d _ _ _ _ (operation-as-defined op c accepts) agrees
     ∙ rw same
     (outcome-is c row shape ps (dotsOf (D .variadic)) (variadic-fixed (c .abi) row (c .left) shape ps) d (variadic-decision (c .abi) row (c .left) shape ps) (rw same at (accepts .2)))

@@ -32,7 +32,7 @@ use Rattle.flatten.proofs.Examples as shown-types
 use Rattle.describe.specs.Questions.{isByReference, returnsByReference, wideReturnsIn}
 use Rattle.describe.specs.Description.{Description}
 use Rattle.abis.specs.Abis.{described, description-count}
-use Rattle.abis.specs.Apart.{isFastcall, spendsInMemory}
+use Rattle.abis.specs.Apart.{isFastcall, spendsInMemory, rust-count, isRiscvPsabi, isBeyondRust}
 use Rattle.abis.specs.Answers.{isByReferenceAnswer, returnsByReferenceAnswer, wideReturnsInAnswer, nameAnswer, nameWritten}
 use Rattle.abis.proofs.Apart as apart
 use Rattle.targets.specs.Codes.{isTarget, isConvention, architectureOf, systemOf, conventionOf, codeOf, noneNumber}
@@ -77,7 +77,8 @@ use Rattle.export_numbers.proofs.ReadBack as numbers
 use Rattle.export_questions.specs.Answers.{alignTold, countTold, lengthTold, yesTold, formatTold, recordNumbers}
 use Rattle.export_questions.specs.Descriptions.{noDescription, fieldsOf, descriptionAnswer, ruleIn, returnRuleAnswer, argumentRuleAnswer}
 use Rattle.demands.specs.Refusals.{refusalsOf, numberRefusals, inMemoryRefusals, memberRefusals, recordRefusals, nameRefusals, attributeRefusals, questionRefusals, readRefusals, IsRefusal, Refused, RefusedTold, RefusedAs, noRecord, noRule, noBytes}
-use Rattle.demands.specs.Rust.{rustPasses, rulesSpend, tablePlaces, Passes, Accepts, AsRust, recordAlign, recordSize}
+use Rattle.demands.specs.Rust.{rustPasses, rulesSpend, tablePlaces, Passes, Accepts, AsDefined, AsRust, recordAlign, recordSize}
+use Rattle.demands.specs.Described.{AsDescribed}
 use Rattle.demands.specs.Standards.{SaysArgument, SaysResult}
 use Rattle.demands.specs.Performed.{Started, Asks, Takes, Performed, AllPerformed}
 use Rattle.demands.specs.Fastcall.{fastcallOutcome}
@@ -196,24 +197,38 @@ return-rule-refused = refusing.return-rule-refused
 pub argument-rule-refused : (d i : ℕ) → IsRefusal (argumentRuleAnswer d i .refusal) → RefusedAs numberRefusals (argumentRuleAnswer d i .refusal) noRule (argumentRuleAnswer d i)
 argument-rule-refused = refusing.argument-rule-refused
 
--- ---- Demand 2: what is accepted is answered as the Rust answers, and on descriptions 0 and 1 as the standards say. The Rust answers an aggregate
--- with a piece past its size, too; it isn't accepted here, and so not compared
+-- ---- Demand 2: what is accepted is answered as the Rust answers, on the descriptions that it has, 0 to 29, and on descriptions 0 and 1 as the standards
+-- say. The Rust answers an aggregate with a piece past its size, too; it isn't accepted here, and so not compared. Descriptions 30 to 32 aren't the Rust's:
+-- they are answered by the same definitions, of which they use three things that the Rust can't say (`isBeyondRust`: a split, an even start, a float that
+-- falls to the integers), and no other description uses one
+pub beyond-the-rust : (d : ℕ) → isBeyondRust (described d) ≡ isRiscvPsabi d
+beyond-the-rust d = apart.riscv-psabi d .beyond
 
 -- an operation is accepted only where its checks pass, its slots have room and the stack has (`Accepts`)
 pub operation-accepts : (op : Operation) (c : Call) → answerFor op c .outcome .refusal ≡ accepted → Accepts op c
 operation-accepts = answering.operation-accepts
 
--- and there always: the way, the slots at the front of the buffer, all later words as they were, and the counts left are the Rust's; what is passed
+-- and there always: the way, the slots at the front of the buffer, all later words as they were, and the counts left are as defined; what is passed
 -- over and given is by the rules; where it stands on the stack, how long it is there and the next offset are by the table of REFERENCE 9.9
-pub operation-as-rust : (op : Operation) (c : Call) → Accepts op c → AsRust c (bufferOf op) (rustPasses op c) (rulesSpend op c) (tablePlaces op c) (answerFor op c) (writtenFor op c)
+pub operation-as-defined : (op : Operation) (c : Call) → Accepts op c
+    → AsDefined c (bufferOf op) (rustPasses op c) (rulesSpend op c) (tablePlaces op c) (answerFor op c) (writtenFor op c)
+operation-as-defined = answering.operation-as-defined
+
+-- and on a description of the Rust's the way, the slots and the counts left are the Rust's
+pub operation-as-rust : (op : Operation) (c : Call) → c .abi < rust-count → Accepts op c
+    → AsRust c (bufferOf op) (rustPasses op c) (rulesSpend op c) (tablePlaces op c) (answerFor op c) (writtenFor op c)
 operation-as-rust = answering.operation-as-rust
 
 -- whichever function performed it, it is accepted only there
 pub performed-accepts : (c : Call) (op : Operation) (a : Answer) (after : List ℕ) → Performed c op a after → a .outcome .refusal ≡ accepted → Accepts op c
 performed-accepts = performing.performed-accepts
 
--- and whichever performed it, all else is the Rust's there, too
-pub performed-as-rust : (c : Call) (op : Operation) (a : Answer) (after : List ℕ) → Performed c op a after → Accepts op c
+-- and whichever performed it, all else is as defined there, and the Rust's, too
+pub performed-as-defined : (c : Call) (op : Operation) (a : Answer) (after : List ℕ) → Performed c op a after → Accepts op c
+    → AsDefined c (bufferOf op) (rustPasses op c) (rulesSpend op c) (tablePlaces op c) a after
+performed-as-defined = performing.performed-as-defined
+
+pub performed-as-rust : (c : Call) (op : Operation) (a : Answer) (after : List ℕ) → Performed c op a after → c .abi < rust-count → Accepts op c
     → AsRust c (bufferOf op) (rustPasses op c) (rulesSpend op c) (tablePlaces op c) a after
 performed-as-rust = performing.performed-as-rust
 
@@ -222,13 +237,20 @@ pub performed-way : (c : Call) (op : Operation) (a : Answer) (after : List ℕ) 
     → a .outcome .way ≡ cond (eqb (a .outcome .refusal) accepted) (wayNumber (wayOf (rustPasses op c .pass))) 0
 performed-way = performing.performed-way
 
--- a fresh call
-pub fresh-as-rust : (d : ℕ) → d < description-count → freshAnswer d ≡ done (callWith d (rust.call (described d)) 0)
-fresh-as-rust = answering.fresh-as-rust
+-- what is said of a description is what it says: its fresh call, its name, the three questions, its fields and its rules (`AsDescribed`)
+pub as-described : (d : ℕ) → d < description-count → AsDescribed d
+as-described = answering.as-described
 
--- the same, whichever function started it
-pub started-as-rust : (d : ℕ) (a : Answer) → Started d a → d < description-count → a ≡ done (callWith d (rust.call (described d)) 0)
-started-as-rust = performing.started-as-rust
+-- a fresh call, whichever function started it
+pub started-as-described : (d : ℕ) (a : Answer) → Started d a → d < description-count → a ≡ done (callWith d (rust.call (described d)) 0)
+started-as-described = performing.started-as-described
+
+-- on a description of the Rust's that is what the Rust has
+pub fresh-as-rust : (d : ℕ) → d < rust-count → freshAnswer d ≡ done (callWith d (rust.call (described d)) 0)
+fresh-as-rust d h = as-described d (answering.rust-known h) .fresh
+
+pub started-as-rust : (d : ℕ) (a : Answer) → Started d a → d < rust-count → a ≡ done (callWith d (rust.call (described d)) 0)
+started-as-rust d a s h = started-as-described d a s (answering.rust-known h)
 
 -- it isn't marked
 pub fresh-is-unmarked : (d : ℕ) → marked (freshAnswer d .next .left) ≡ false
@@ -246,9 +268,13 @@ pub performed-mark-marks : (c : Call) (a : Answer) (after : List ℕ) → Perfor
 performed-mark-marks = performing.performed-mark-marks
 
 -- what is asked beside: the alignment in the argument area
-pub in-memory-as-rust : (c : Call) (shape : Shape) (words : List ℕ) → refusalOf c (Aggregate shape) words ≡ accepted
+pub in-memory-as-defined : (c : Call) (shape : Shape) (words : List ℕ) → refusalOf c (Aggregate shape) words ≡ accepted
     → alignTold (inMemoryAnswer c shape words) ≡ told accepted (inMemory (described (c .abi)) shape (piecesOf words))
-in-memory-as-rust = answering.in-memory-as-rust
+in-memory-as-defined = answering.in-memory-as-defined
+
+pub in-memory-as-rust : (c : Call) (shape : Shape) (words : List ℕ) → c .abi < rust-count → refusalOf c (Aggregate shape) words ≡ accepted
+    → alignTold (inMemoryAnswer c shape words) ≡ told accepted (inMemory (described (c .abi)) shape (piecesOf words))
+in-memory-as-rust c shape words rusts = in-memory-as-defined c shape words
 
 -- pieces from members, each at the next offset that it fits
 pub pieces-as-rust : (members out : List ℕ) → membersRefusal members ≡ accepted → length (scalarsOf members) ≤ length out / pieceSize
@@ -262,32 +288,32 @@ pub record-as-rust : (words : List ℕ) → orElse (listRefusal words) (piecesRe
 record-as-rust = answering.record-as-rust
 
 -- a description's name
-pub name-as-rust : (d : ℕ) → d < description-count → (out : List ℕ) → length (described d .name) ≤ length out
+pub name-as-rust : (d : ℕ) → d < rust-count → (out : List ℕ) → length (described d .name) ≤ length out
     → (lengthTold (nameAnswer d (length out)) ≡ told accepted (length (described d .name))) × (nameWritten d out ≡ putAt out 0 (described d .name))
-name-as-rust = answering.name-as-rust
+name-as-rust d h = as-described d (answering.rust-known h) .name
 
 -- the three questions
-pub by-reference-as-rust : (d : ℕ) → d < description-count → (size : ℕ) → size ≤ most-size
+pub by-reference-as-rust : (d : ℕ) → d < rust-count → (size : ℕ) → size ≤ most-size
     → yesTold (isByReferenceAnswer d size) ≡ told accepted (oneIf (isByReference (described d .scalars) size))
-by-reference-as-rust = answering.by-reference-as-rust
+by-reference-as-rust d h = as-described d (answering.rust-known h) .by-reference
 
-pub returns-by-reference-as-rust : (d : ℕ) → d < description-count → (size : ℕ) → size ≤ most-size
+pub returns-by-reference-as-rust : (d : ℕ) → d < rust-count → (size : ℕ) → size ≤ most-size
     → yesTold (returnsByReferenceAnswer d size) ≡ told accepted (oneIf (returnsByReference (described d .scalars) size))
-returns-by-reference-as-rust = answering.returns-by-reference-as-rust
+returns-by-reference-as-rust d h = as-described d (answering.rust-known h) .returns-by-reference
 
-pub wide-returns-in-as-rust : (d : ℕ) → d < description-count → (size : ℕ) → size ≤ most-size
+pub wide-returns-in-as-rust : (d : ℕ) → d < rust-count → (size : ℕ) → size ≤ most-size
     → formatTold (wideReturnsInAnswer d size) ≡ told accepted (wideReturnsIn (described d .scalars) size)
-wide-returns-in-as-rust = answering.wide-returns-in-as-rust
+wide-returns-in-as-rust d h = as-described d (answering.rust-known h) .wide-returns-in
 
 -- a description's fields, and its rules
-pub description-as-rust : (d : ℕ) → d < description-count → descriptionAnswer d ≡ fieldsOf (described d)
-description-as-rust = answering.description-as-rust
+pub description-as-rust : (d : ℕ) → d < rust-count → descriptionAnswer d ≡ fieldsOf (described d)
+description-as-rust d h = as-described d (answering.rust-known h) .description
 
-pub return-rule-as-rust : (d : ℕ) → d < description-count → (i : ℕ) → returnRuleAnswer d i ≡ ruleIn (described d .returns) i
-return-rule-as-rust = answering.return-rule-as-rust
+pub return-rule-as-rust : (d : ℕ) → d < rust-count → (i : ℕ) → returnRuleAnswer d i ≡ ruleIn (described d .returns) i
+return-rule-as-rust d h = as-described d (answering.rust-known h) .return-rule
 
-pub argument-rule-as-rust : (d : ℕ) → d < description-count → (i : ℕ) → argumentRuleAnswer d i ≡ ruleIn (described d .arguments) i
-argument-rule-as-rust = answering.argument-rule-as-rust
+pub argument-rule-as-rust : (d : ℕ) → d < rust-count → (i : ℕ) → argumentRuleAnswer d i ≡ ruleIn (described d .arguments) i
+argument-rule-as-rust d h = as-described d (answering.rust-known h) .argument-rule
 
 -- the lookups, with none for a code that isn't known: the description of a target
 pub for-target-as-rust : (architecture system : ℕ) (msvc : Bool)

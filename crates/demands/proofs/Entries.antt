@@ -81,7 +81,7 @@ in-memory-method κs c shape words r s p =
       refusing.in-memory-refused c shape (now words),
       ending.in-memory-extent c shape (now words),
       (λ known far. placing.in-memory-past-limit c known far shape (now words)),
-      answering.in-memory-as-rust c shape (now words),
+      answering.in-memory-as-defined c shape (now words),
     )
 
 pub in-memory-entry : (κs : Lfts 1) (c : Call) (size align complex floating : ℕ) (words : RefT (List ℕ))
@@ -97,7 +97,7 @@ in-memory-entry κs c size align complex floating words r s p =
       refusing.in-memory-refused c shape (now words),
       ending.in-memory-extent c shape (now words),
       (λ known far. placing.in-memory-past-limit c known far shape (now words)),
-      answering.in-memory-as-rust c shape (now words),
+      answering.in-memory-as-defined c shape (now words),
     )
 
 -- ---- pieces and records
@@ -130,40 +130,40 @@ pub name-entry : (κs : Lfts 1) (d : ℕ) (out : RefT (List ℕ))
     (λ (r : Told) (after : List ℕ). (IsRefusal (r .refusal) → RefusedTold nameRefusals r (now out) after)
     × (d < description-count → length (described d .name) ≤ length (now out)
     → (r ≡ told accepted (length (described d .name))) × (after ≡ putAt (now out) 0 (described d .name))))
-name-entry κs d out r s p = rw (p .0, p .1) (refusing.name-refused d (now out), λ known. answering.name-as-rust d known (now out))
+name-entry κs d out r s p = rw (p .0, p .1) (refusing.name-refused d (now out), λ known. answering.name-as-described d known (now out))
 
 pub by-reference-entry : (κs : Lfts 0) (d size : ℕ)
     → AnswersAlone (entry-by-reference.Post κs) (d, (size, tt))
     (λ (r : Told). (IsRefusal (r .refusal) → RefusedTold questionRefusals r [] [])
     × (d < description-count → size ≤ most-size → r ≡ told accepted (oneIf (isByReference (described d .scalars) size))))
-by-reference-entry κs d size r s p = rw p (refusing.by-reference-refused d size, λ known. answering.by-reference-as-rust d known size)
+by-reference-entry κs d size r s p = rw p (refusing.by-reference-refused d size, λ known. answering.by-reference-as-described d known size)
 
 pub returns-by-reference-entry : (κs : Lfts 0) (d size : ℕ)
     → AnswersAlone (entry-returns-by-reference.Post κs) (d, (size, tt))
     (λ (r : Told). (IsRefusal (r .refusal) → RefusedTold questionRefusals r [] [])
     × (d < description-count → size ≤ most-size → r ≡ told accepted (oneIf (returnsByReference (described d .scalars) size))))
-returns-by-reference-entry κs d size r s p = rw p (refusing.returns-by-reference-refused d size, λ known. answering.returns-by-reference-as-rust d known size)
+returns-by-reference-entry κs d size r s p = rw p (refusing.returns-by-reference-refused d size, λ known. answering.returns-by-reference-as-described d known size)
 
 pub wide-returns-in-entry : (κs : Lfts 0) (d size : ℕ)
     → AnswersAlone (entry-wide-returns-in.Post κs) (d, (size, tt))
     (λ (r : Told). (IsRefusal (r .refusal) → RefusedTold questionRefusals r [] [])
     × (d < description-count → size ≤ most-size → r ≡ told accepted (wideReturnsIn (described d .scalars) size)))
-wide-returns-in-entry κs d size r s p = rw p (refusing.wide-returns-in-refused d size, λ known. answering.wide-returns-in-as-rust d known size)
+wide-returns-in-entry κs d size r s p = rw p (refusing.wide-returns-in-refused d size, λ known. answering.wide-returns-in-as-described d known size)
 
 pub description-entry : (κs : Lfts 0) (d : ℕ)
     → AnswersAlone (entry-description.Post κs) (d, tt)
     (λ (r : Description). (IsRefusal (r .refusal) → RefusedAs numberRefusals (r .refusal) noDescription r) × (d < description-count → r ≡ fieldsOf (described d)))
-description-entry κs d r s p = rw p (refusing.description-refused d, answering.description-as-rust d)
+description-entry κs d r s p = rw p (refusing.description-refused d, answering.description-as-described d)
 
 pub return-rule-entry : (κs : Lfts 0) (d i : ℕ)
     → AnswersAlone (entry-return-rule.Post κs) (d, (i, tt))
     (λ (r : RuleNumbers). (IsRefusal (r .refusal) → RefusedAs numberRefusals (r .refusal) noRule r) × (d < description-count → r ≡ ruleIn (described d .returns) i))
-return-rule-entry κs d i r s p = rw p (refusing.return-rule-refused d i, λ known. answering.return-rule-as-rust d known i)
+return-rule-entry κs d i r s p = rw p (refusing.return-rule-refused d i, λ known. answering.return-rule-as-described d known i)
 
 pub argument-rule-entry : (κs : Lfts 0) (d i : ℕ)
     → AnswersAlone (entry-argument-rule.Post κs) (d, (i, tt))
     (λ (r : RuleNumbers). (IsRefusal (r .refusal) → RefusedAs numberRefusals (r .refusal) noRule r) × (d < description-count → r ≡ ruleIn (described d .arguments) i))
-argument-rule-entry κs d i r s p = rw p (refusing.argument-rule-refused d i, λ known. answering.argument-rule-as-rust d known i)
+argument-rule-entry κs d i r s p = rw p (refusing.argument-rule-refused d i, λ known. answering.argument-rule-as-described d known i)
 
 -- ---- lookups
 

@@ -11,6 +11,8 @@ use Rattle.shape.specs.declared.Arg.the-variants.{Aggregate}
 use Rattle.shape.specs.declared.Shape.{Shape}
 use Rattle.shape.specs.Numbers.{accepted, bad-call, no-room}
 use Rattle.shape.specs.Words.{piecesOf}
+use Rattle.abis.specs.Apart.{rust-count}
+use Rattle.abis.proofs.Apart.{nothing-beyond}
 use Rattle.abis.specs.Abis.{described, description-count}
 use Rattle.abis.specs.Apart.{isFastcall}
 use Rattle.spend.specs.declared.Way.the-variants.{Memory}
@@ -36,13 +38,13 @@ use Rattle.aapcs64.specs.Domain as aapcs64
 use Rattle.aapcs64.specs.Reading.{mostNatural}
 use Rattle.aapcs64.proofs.Answered as row-1
 use Rattle.demands.specs.Refusals.{numberRefusals, refusalsOf, IsRefusal, Refused}
-use Rattle.demands.specs.Rust.{rustPasses, rulesSpend, tablePlaces, Passes, Accepts, AsRust}
+use Rattle.demands.specs.Rust.{rustPasses, rulesSpend, tablePlaces, Passes, Accepts, AsDefined, AsRust}
 use Rattle.demands.specs.Standards.{SaysArgument, SaysResult}
 use Rattle.demands.specs.Fastcall.{fastcallOutcome}
 use Rattle.demands.specs.Extent.{Extent}
 use Rattle.demands.specs.Lost.{NothingLost}
 use Rattle.demands.proofs.Refusing.{operation-refused, fresh-refused}
-use Rattle.demands.proofs.Answering.{operation-accepts, operation-as-rust, operation-way, fresh-as-rust, fresh-is-unmarked, mark-marks}
+use Rattle.demands.proofs.Answering.{operation-accepts, operation-as-defined, operation-way, fresh-as-described, fresh-is-unmarked, mark-marks}
 use Rattle.demands.proofs.Ending.{operation-extent}
 use Rattle.demands.proofs.Carried.{row-is-given-nothing, fastcall-aggregate}
 use Rattle.demands.proofs.Placed.{row-loses-nothing, offset-past-limit, stack-is-full}
@@ -107,8 +109,11 @@ module _ (c : Call) (op : Operation) (a : Answer) (after : List ℕ) (p : Perfor
   pub performed-accepts : a .outcome .refusal ≡ accepted → Accepts op c
   performed-accepts = by-definition c op a after p (λ a after. a .outcome .refusal ≡ accepted → Accepts op c) (operation-accepts op c)
 
-  pub performed-as-rust : Accepts op c → AsRust c (bufferOf op) (rustPasses op c) (rulesSpend op c) (tablePlaces op c) a after
-  performed-as-rust z = by-definition c op a after p (AsRust c (bufferOf op) (rustPasses op c) (rulesSpend op c) (tablePlaces op c)) (operation-as-rust op c z)
+  pub performed-as-defined : Accepts op c → AsDefined c (bufferOf op) (rustPasses op c) (rulesSpend op c) (tablePlaces op c) a after
+  performed-as-defined z = by-definition c op a after p (AsDefined c (bufferOf op) (rustPasses op c) (rulesSpend op c) (tablePlaces op c)) (operation-as-defined op c z)
+
+  pub performed-as-rust : c .abi < rust-count → Accepts op c → AsRust c (bufferOf op) (rustPasses op c) (rulesSpend op c) (tablePlaces op c) a after
+  performed-as-rust rusts z = record { nothing-beyond = nothing-beyond (c .abi) rusts; as-defined = performed-as-defined z }
 
   pub performed-way : a .outcome .way ≡ cond (eqb (a .outcome .refusal) accepted) (wayNumber (wayOf (rustPasses op c .pass))) 0
   performed-way =
@@ -177,8 +182,8 @@ started-defined d a (by.barkpaddle-fresh κs m) = m .1
 pub started-refused : (d : ℕ) (a : Answer) → Started d a → IsRefusal (a .outcome .refusal) → Refused numberRefusals (unmarked 0 0 0) [] a []
 started-refused d a s = rw (started-defined d a s) (fresh-refused d)
 
-pub started-as-rust : (d : ℕ) (a : Answer) → Started d a → d < description-count → a ≡ done (callWith d (rust.call (described d)) 0)
-started-as-rust d a s h = started-defined d a s ∙ fresh-as-rust d h
+pub started-as-described : (d : ℕ) (a : Answer) → Started d a → d < description-count → a ≡ done (callWith d (rust.call (described d)) 0)
+started-as-described d a s h = started-defined d a s ∙ fresh-as-described d h
 
 pub started-is-unmarked : (d : ℕ) (a : Answer) → Started d a → marked (a .next .left) ≡ false
 started-is-unmarked d a s = rw (started-defined d a s) (fresh-is-unmarked d)

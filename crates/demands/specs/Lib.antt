@@ -8,3 +8,4 @@ pub mod Fastcall
 pub mod Extent
 pub mod Types
 pub mod Lost
+pub mod Described

@@ -1,4 +1,4 @@
--- What it means that an accepted operation is answered as the Rust answers, and the Rust's `record`, whose parts stand in crate layouts.
+-- What it means that an accepted operation is answered as is defined, and as the Rust answers; and the Rust's `record`, whose parts stand in crate layouts.
 use Prim.Native.Nat.{ℕ, _/_, _≤_}
 use mathlib.Core.Path.{_≡_}
 use mathlib.Core.Bool.{true, false}
@@ -13,6 +13,7 @@ use Rattle.layouts.specs.Record.{largestAlign, furthestEnd}
 use Rattle.describe.specs.Description.{termsOf}
 use Rattle.describe.specs.Dots.{asFixed, dotsOf}
 use Rattle.abis.specs.Abis.{described}
+use Rattle.abis.specs.Apart.{isBeyondRust}
 use Rattle.spend.specs.declared.Spent.{Spent}
 use Rattle.spend.specs.Ways.{nothing, wayNumber}
 use Rattle.stack_place.specs.declared.Placed.{Placed}
@@ -27,7 +28,7 @@ use Rattle.classify.specs.Stacking.{stackedOf}
 use Rattle.classify.specs.Answers.{callWith, callRefusal, refusalOf}
 use Rattle.ledger.specs.Ledger.{Operation, mark, return, argument, variadic-argument, bufferOf}
 
--- how the Rust passes an operation's value, and what it leaves; the mark has no value, and changes the call alone
+-- how an operation's value is passed, and what it leaves, as the Rust has it where the description is the Rust's; the mark has no value, and changes the call alone
 abbrev pub rustPasses : Operation → Call → Passed
 rustPasses mark c = passed ignore (rust.variadic (described (c .abi)) (c .left))
 rustPasses (return arg words out) c = rust.returns (described (c .abi)) (c .left) arg (piecesOf words)
@@ -77,7 +78,7 @@ Accepts (argument arg words out) c = (refusalOf c arg words ≡ accepted) × Fit
 Accepts (variadic-argument arg words out) c = (refusalOf c arg words ≡ accepted) × Fits (variadic-argument arg words out) c × HasStack (variadic-argument arg words out) c
 
 -- the call and the words of the buffer before, the Rust's pass, what the rules spend, where the table has it stand, the answer, and the words afterwards
-pub record AsRust (c : Call) (out : List ℕ) (p : Passed) (spent : Spent) (placed : Placed) (a : Answer) (after : List ℕ) : Type 0 where
+pub record AsDefined (c : Call) (out : List ℕ) (p : Passed) (spent : Spent) (placed : Placed) (a : Answer) (after : List ℕ) : Type 0 where
   pub not-refused : a .outcome .refusal ≡ accepted
   pub way : a .outcome .way ≡ wayNumber (wayOf (p .pass))
   pub count : a .outcome .slots ≡ length (passSlots (p .pass))
@@ -85,6 +86,11 @@ pub record AsRust (c : Call) (out : List ℕ) (p : Passed) (spent : Spent) (plac
   pub left : a .next ≡ callWith (c .abi) (p .left) (placed .next)
   pub by-the-rules : a .outcome .spent ≡ spent
   pub stands : a .outcome .stacked ≡ placed .stacked
+
+-- the same on a description that says nothing which the Rust can't say: there the definitions are the Rust's
+pub record AsRust (c : Call) (out : List ℕ) (p : Passed) (spent : Spent) (placed : Placed) (a : Answer) (after : List ℕ) : Type 0 where
+  pub nothing-beyond : isBeyondRust (described (c .abi)) ≡ false
+  pub as-defined : AsDefined c out p spent placed a after
 
 -- ---- the Rust's `record`
 

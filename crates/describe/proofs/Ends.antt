@@ -12,7 +12,7 @@ use Rattle.describe.specs.declared.Travel.{Travel}
 use Rattle.describe.specs.declared.Short.{Short}
 use Rattle.describe.specs.declared.Test.the-variants.{Anything, Empty, SizeOneOf, SizeAtMost, Homogeneous, FloatPair, X87Stack, LoneFloat, FloatingMode, ComplexFloat, Eightbytes}
 use Rattle.describe.specs.declared.Travel.the-variants.{Ignore, AsFound, AsIntegers, AsOneInteger, ByReference, InMemory, InMemoryAndSpend}
-use Rattle.describe.specs.declared.Short.the-variants.{Unchanged, Memory, MemoryAndDrain, TryNextRule}
+use Rattle.describe.specs.declared.Short.the-variants.{Unchanged, Memory, MemoryAndDrain, TryNextRule, Split}
 use Rattle.describe.specs.Description.{Decides, Ends, past}
 
 -- The test of a rule, part by part.
@@ -59,6 +59,7 @@ isStaying Unchanged = true
 isStaying Memory = true
 isStaying MemoryAndDrain = true
 isStaying TryNextRule = false
+isStaying Split = true
 
 stays : (s : Short) → T (isStaying s) → s ≡ TryNextRule → ⊥
 stays s h e = rw e at h

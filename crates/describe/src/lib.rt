@@ -65,6 +65,9 @@ pub enum Short {
     MemoryAndDrain,
     // RISC-V's float pair: a bonus, behind which the rule of the size still finds what registers there are.
     TryNextRule,
+    // RISC-V's own book: of two words the first has the last register, and the second stands on the stack, next to it once the callee has
+    // stored its registers there. With no register left, all of it is there.
+    Split,
 }
 
 // Rules are tried in order, and the first whose test matches decides: a list reads as a convention's document does, exceptions first.
@@ -106,6 +109,8 @@ pub struct Scalars {
     pub decimal_in_integers: bool,
     // 32-bit x86: a float of 16 fits in the argument area, but in no register that results come back in.
     pub quad_returns_by_reference: bool,
+    // RISC-V's own book: behind the last float register a float goes like an integer of its size.
+    pub float_falls_to_integers: bool,
 }
 
 // Where the address of a return value in memory travels. The first two spend an argument register where there is one: a function that
@@ -130,6 +135,8 @@ pub enum Variadic {
     IntegersOnly,
     // RISC-V: the callee does the same with a0 to a7, but for the unnamed arguments alone.
     UnnamedIntegers,
+    // RISC-V's own book: likewise, and a value of such an alignment begins at an even register, so that it is aligned in that run of words.
+    UnnamedIntegersEven,
 }
 
 // How arguments without a register sit in the argument area.
@@ -184,11 +191,13 @@ pub struct Others {
 
 // What a variadic kind comes to. `mark`: a call to a variadic function is marked, and floats go in integer registers alone, those of named
 // arguments too. `emptied`: an argument after the dots is classified as though no register were left, and spends none. `integers_only`: such
-// an argument goes in integer registers alone, and no other does.
+// an argument goes in integer registers alone, and no other does. `starts_even`: one that is aligned to two words, and no larger, begins at an
+// even register.
 pub struct Dots {
     pub mark: bool,
     pub emptied: bool,
     pub integers_only: bool,
+    pub starts_even: bool,
 }
 
 // A float in both banks has the form of a fixed argument: which registers are written is the generator's part.
@@ -201,17 +210,26 @@ pub fn dots_of(variadic: Variadic) -> Dots
             mark: false,
             emptied: true,
             integers_only: false,
+            starts_even: false,
         },
         Variadic::BothBanks => as_fixed(),
         Variadic::IntegersOnly => Dots {
             mark: true,
             emptied: false,
             integers_only: false,
+            starts_even: false,
         },
         Variadic::UnnamedIntegers => Dots {
             mark: false,
             emptied: false,
             integers_only: true,
+            starts_even: false,
+        },
+        Variadic::UnnamedIntegersEven => Dots {
+            mark: false,
+            emptied: false,
+            integers_only: true,
+            starts_even: true,
         },
     }
 }
@@ -224,6 +242,7 @@ pub fn as_fixed() -> Dots
         mark: false,
         emptied: false,
         integers_only: false,
+        starts_even: false,
     }
 }
 

@@ -53,6 +53,7 @@ module _ (abi : ℕ) (brief : Brief) (eb : brief ≡ briefOf (described abi)) (r
       → (narrow : ℕ) → narrow ≡ narrowCode (O .narrow)
       → (bits : ℕ) → bits ≡ bitIntsCode (O .«bit_ints»)
       → (cleanup : ℕ) → cleanup ≡ cleanupCode (O .cleanup)
+      → (falls : ℕ) → falls ≡ oneIf (S .«float_falls_to_integers»)
       → _≡_ {A = Description}
       (record {
         refusal = accepted;
@@ -76,9 +77,10 @@ module _ (abi : ℕ) (brief : Brief) (eb : brief ≡ briefOf (described abi)) (r
         narrow = narrow;
         «bit_ints» = bits;
         cleanup = cleanup;
+        «float_falls_to_integers» = falls;
       }) (fieldsOf (described abi))
-  fields shared e1 whole e2 even e3 drains e4 by e5 stored e6 decimal e7 quad e8 pointer e9 variadic e10 stack e11 narrow e12 bits e13 cleanup e14 =
-      rw (e1, e2, e3, e4, e5, e6, e7, e8, e9, e10, e11, e12, e13, e14, eb, eO)
+  fields shared e1 whole e2 even e3 drains e4 by e5 stored e6 decimal e7 quad e8 pointer e9 variadic e10 stack e11 narrow e12 bits e13 cleanup e14 falls e15 =
+      rw (e1, e2, e3, e4, e5, e6, e7, e8, e9, e10, e11, e12, e13, e14, e15, eb, eO)
 
 module _ (abi : ℕ) (r : Description) where
   pub description-none : description-count ≤ abi → r ≡ noDescription → r ≡ descriptionAnswer abi

@@ -38,4 +38,4 @@ recordNumbers a =
 
 -- the version of include/barkpaddle.h
 abbrev pub headerVersion : ℕ
-headerVersion = 6
+headerVersion = 7

@@ -36,6 +36,7 @@ fieldsOf D =
       narrow = narrowCode (D .narrow);
       «bit_ints» = bitIntsCode (D .«bit_ints»);
       cleanup = cleanupCode (D .cleanup);
+      «float_falls_to_integers» = oneIf (D .scalars .«float_falls_to_integers»);
     }
 
 abbrev pub noDescription : Description
@@ -62,6 +63,7 @@ noDescription =
       narrow = 0;
       «bit_ints» = 0;
       cleanup = 0;
+      «float_falls_to_integers» = 0;
     }
 
 unfoldable pub descriptionAnswer : ℕ → Description

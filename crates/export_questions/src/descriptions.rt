@@ -9,7 +9,7 @@ ghost use Rattle.export_questions.specs.Descriptions.{descriptionAnswer,
 use export_numbers::Told;
 use rows::WIDTH;
 
-// A refusal, or the fields of a description: banks, scalar rules, and the fields beside them.
+// A refusal, or the fields of a description: banks, scalar rules, and the fields beside them; a field that came later stands last.
 #[repr(C)]
 pub struct Description {
     pub refusal: u64,
@@ -33,6 +33,7 @@ pub struct Description {
     pub narrow: u64,
     pub bit_ints: u64,
     pub cleanup: u64,
+    pub float_falls_to_integers: u64,
 }
 
 // A refusal, or a rule: its test, the test's number, the way of travel, and what happens when short. All zeros past the end of a list: no test
@@ -164,6 +165,7 @@ fn fields_of(abi: u64) -> Description
         narrow: rows::narrow_number(narrow),
         bit_ints: rows::bit_ints_number(bits),
         cleanup: rows::cleanup_number(cleanup),
+        float_falls_to_integers: shape::one_if(scalars.float_falls_to_integers),
     }
 }
 
@@ -192,6 +194,7 @@ fn no_description() -> Description
         narrow: 0,
         bit_ints: 0,
         cleanup: 0,
+        float_falls_to_integers: 0,
     }
 }
 

@@ -21,7 +21,7 @@ use Rattle.classify.specs.declared.Answer.{Answer}
 use Rattle.classify.specs.Classify.{Passed, isIntegersOnly, variadic}
 use Rattle.classify.specs.Answers.{callWith, callRefusalBy, refusalBy, Account, returnsAccount, argumentAccount, variadicArgumentAccount, refused, done, orAnswer, acceptedAnswer, answerTo, variadicAnswerBy, returnsAnswerBy, argumentAnswerBy, variadicArgumentAnswerBy}
 use Rattle.classify.proofs.Agree.{Agrees, argument-agrees, returns-agrees, variadic-argument-agrees}
-use Rattle.classify.proofs.Accepted.{Sound, sound, sound-accepted, unmarked, by-cases}
+use Rattle.classify.proofs.Accepted.{Sound, sound, sound-accepted, unmarked, alone-unmarked, by-cases}
 use Rattle.classify.proofs.Stacking.{stacked-stands}
 use Rattle.ledger.specs.Ledger.{Operation, mark, return, argument, variadic-argument, answerBy, isRefused, Bank, integers, floats, leftIn, passedOver, given, rangeEnd, rangeOf, roundingBy}
 
@@ -122,7 +122,7 @@ module _ (source : ℕ) (D : Description) (c : Call) (good : callRefusalBy sourc
       fair-answer _ _ _ (argument-agrees D (c .left) arg (piecesOf words)) _ _ _ (stacked-stands _ _ false asFixed (c .stack) arg (piecesOf words) _ _ _)
       (refusalBy source D c arg words) out
   fair (variadic-argument arg words out) =
-      fair-answer _ _ _ (variadic-argument-agrees D (c .left) arg (piecesOf words) (λ e. unmarked D c (here .1) (rw e))) _ _ _
+      fair-answer _ _ _ (variadic-argument-agrees D (c .left) arg (piecesOf words) (λ e. unmarked D c (here .1) (alone-unmarked (D .variadic) e))) _ _ _
       (stacked-stands _ _ false (dotsOf (D .variadic)) (c .stack) arg (piecesOf words) _ _ _) (refusalBy source D c arg words) out
 
 -- whatever the call: a refused operation has no bytes there

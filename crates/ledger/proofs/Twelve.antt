@@ -24,6 +24,7 @@ use Rattle.spend_scalar.specs.Spending as lone
 use Rattle.stack_align.specs.InMemory.{homogeneousLimit, packedAlign, inMemoryBy}
 use Rattle.stack_place.specs.Stacked.{behind}
 use Rattle.find.specs.Matches.{matches}
+use Rattle.after_dots.specs.AfterDots.{skippedFor, settledFor}
 use Rattle.classify.specs.Classify as rust
 use Rattle.classify.specs.Spending as spending
 use Rattle.classify.specs.Stacking.{stackedOf}
@@ -31,7 +32,7 @@ use Rattle.classify.specs.Answers as answers
 use Rattle.ledger.specs.Twelve.{Entry, twelve, answeredTo, expected}
 
 pub twelve-calls : map answeredTo twelve ≡ map expected twelve
-unfolding any scalarRefusal pieceRefusal piecesRefusal extentRefusal listRefusal shapeRefusal allOf isAllOf piecesOf upTo cut floatsIn wordsOf putAt written abis.descriptions described foundIf floatsAt allSame isHomogeneous homogeneous pieceSlot fitsOne floatPair x87Stack loneFloat class.code class.same class.merge eight.cover eight.mark fits eight.classesAfter eight.spoiled eight.mend eight.settled eight.classified eight.slotsFrom eight.slotsFound eight.eightbytes rules.wantOf lone.skipOf lone.integerArgument lone.scalarInRegisters lone.scalarArgument rules.whenShort rules.inSlots rules.travelOf matches rust.registers rust.afterScalar rust.scalar rust.shortOf rust.slotsInRegisters rust.travel rust.apply rust.returns rust.argument spending.byRules spending.scalarBy spending.aggregateBy spending.returnChoice spending.argumentChoice answers.stateRefusal answers.argRefusal answers.checked answers.rowRefusal answers.refusalBy answers.returnsAccount answers.argumentAccount roundUp inMemoryBy packedAlign homogeneousLimit behind stackedOf answers.answerTo answers.writtenTo answers.returnsAnswerBy answers.returnsWrittenBy answers.argumentAnswerBy answers.argumentWrittenBy answers.returnsAnswer answers.returnsWritten answers.argumentAnswer answers.argumentWritten
+unfolding any scalarRefusal pieceRefusal piecesRefusal extentRefusal listRefusal shapeRefusal allOf isAllOf piecesOf upTo cut floatsIn wordsOf putAt written abis.descriptions described foundIf floatsAt allSame isHomogeneous homogeneous pieceSlot fitsOne floatPair x87Stack loneFloat class.code class.same class.merge eight.cover eight.mark fits eight.classesAfter eight.spoiled eight.mend eight.settled eight.classified eight.slotsFrom eight.slotsFound eight.eightbytes rules.wantOf lone.skipOf lone.integerArgument lone.scalarInRegisters lone.scalarArgument rules.whenShort rules.inSlots rules.travelOf matches rust.registers rust.afterScalar rust.scalar rust.shortOf rust.slotsInRegisters rust.travel rust.apply rust.returns rust.argument spending.byRules skippedFor settledFor spending.scalarBy spending.aggregateBy spending.returnChoice spending.argumentChoice answers.stateRefusal answers.argRefusal answers.checked answers.rowRefusal answers.refusalBy answers.returnsAccount answers.argumentAccount roundUp inMemoryBy packedAlign homogeneousLimit behind stackedOf answers.answerTo answers.writtenTo answers.returnsAnswerBy answers.returnsWrittenBy answers.argumentAnswerBy answers.argumentWrittenBy answers.returnsAnswer answers.returnsWritten answers.argumentAnswer answers.argumentWritten
 twelve-calls = refl
 
 -- ---- an entry by its place in the table

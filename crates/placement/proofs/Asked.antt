@@ -30,6 +30,7 @@ use Rattle.spend.specs.Ways.{no-mark, spends, nothing}
 use Rattle.spend_scalar.specs.Spending as lone
 use Rattle.stack_place.specs.declared.Placed.{Placed}
 use Rattle.stack_place.specs.Stacked.{scalarRest, behind}
+use Rattle.after_dots.specs.AfterDots.{skippedFor, settledFor}
 use Rattle.classify.specs.declared.Call.{Call}
 use Rattle.classify.specs.Pass.{direct, wayOf, passSlots}
 use Rattle.classify.specs.Classify as rust
@@ -105,7 +106,7 @@ module _ (left : Left) where
 
   module _ (m : left .«integers_only» ≡ no-mark) where
     spends-so : (s : scalars.Scalar) (is : Listed s) → spentOn s ≡ costOf is
-    unfolding abis.descriptions described rules.wantOf lone.integerArgument lone.scalarInRegisters lone.scalarArgument spending.scalarBy variadicArgumentChoice
+    unfolding abis.descriptions described rules.wantOf lone.integerArgument lone.scalarInRegisters lone.scalarArgument skippedFor settledFor spending.scalarBy variadicArgumentChoice
     spends-so s integer-1 = rw m (spent-by (leb 1 (left .integer)) _ _)
     spends-so s integer-2 = rw m (spent-by (leb 1 (left .integer)) _ _)
     spends-so s integer-4 = rw m (spent-by (leb 1 (left .integer)) _ _)

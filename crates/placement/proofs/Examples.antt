@@ -7,6 +7,7 @@ use Rattle.shape.specs.Arithmetic.{roundUp}
 use Rattle.abis.specs.Abis as abis
 use Rattle.spend.specs.Spending as rules
 use Rattle.spend_scalar.specs.Spending as lone
+use Rattle.after_dots.specs.AfterDots.{skippedFor, settledFor}
 use Rattle.classify.specs.Classify as rust
 use Rattle.classify.specs.Spending as spending
 use Rattle.stack_place.specs.Stacked.{behind}
@@ -22,5 +23,5 @@ unfolding roundUp lists.isOwnSize lists.unnamedRefusal lists.overflowStart lists
 examples-found = refl
 
 pub examples-read : map readsOf examples ≡ map (λ (e : Example). back.asPlaced (stateOf e) (valuesOf e)) examples
-unfolding checks.scalarRefusal piecesOf putAt roundUp abis.descriptions abis.described rules.wantOf lone.integerArgument lone.scalarInRegisters lone.scalarArgument rust.registers rust.afterScalar rust.scalar rust.argument rust.variadicArgument spending.scalarBy spending.variadicArgumentChoice answers.stateRefusal answers.argRefusal answers.checked answers.rowRefusal answers.refusalBy behind stackedOf answers.variadicArgumentAccount answers.answerTo answers.variadicArgumentAnswerBy answers.variadicArgumentAnswer lists.isOwnSize lists.unnamedRefusal lists.overflowStart lists.inOverflow lists.inIntegers lists.inFloats lists.standing lists.located lists.partOf caller.toFront caller.spread caller.placedBy caller.placeAll caller.stored back.readings back.asPlaced numbered
+unfolding checks.scalarRefusal piecesOf putAt roundUp abis.descriptions abis.described rules.wantOf lone.integerArgument lone.scalarInRegisters lone.scalarArgument rust.registers rust.afterScalar rust.scalar rust.argument rust.variadicArgument skippedFor settledFor spending.scalarBy spending.variadicArgumentChoice answers.stateRefusal answers.argRefusal answers.checked answers.rowRefusal answers.refusalBy behind stackedOf answers.variadicArgumentAccount answers.answerTo answers.variadicArgumentAnswerBy answers.variadicArgumentAnswer lists.isOwnSize lists.unnamedRefusal lists.overflowStart lists.inOverflow lists.inIntegers lists.inFloats lists.standing lists.located lists.partOf caller.toFront caller.spread caller.placedBy caller.placeAll caller.stored back.readings back.asPlaced numbered
 examples-read = refl

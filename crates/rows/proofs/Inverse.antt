@@ -15,7 +15,7 @@ use Rattle.describe.specs.declared.Rule.{Rule}
 use Rattle.describe.specs.Description.{Description, past, termsOf, othersOf}
 use Rattle.shape.specs.Numbers.{oneIf}
 use Rattle.rows.specs.Codes.{testCode, testNumber, travelCode, shortCode, returnPointerCode, variadicCode, stackArgsCode, narrowCode, bitIntsCode, cleanupCode, testFrom, travelFrom, shortFrom}
-use Rattle.rows.specs.Row.{encode, decode, held, heldTest, heldTests, heldRules, heldBanks, heldFormats, wayByte, ruleFrom, ruleOf, returnRule, argumentRule, rulesFrom, banksFrom, scalarsFrom, termsFrom, othersFrom, bit, flagsByte, formatsByte, callsByte}
+use Rattle.rows.specs.Row.{encode, decode, held, heldTest, heldTests, heldRules, heldBanks, heldFormats, wayByte, ruleFrom, ruleOf, returnRule, argumentRule, rulesFrom, banksFrom, scalarsFrom, termsFrom, othersFrom, bit, flagsByte, callsByte}
 use Rattle.rows.proofs.Numbers.{flag-back, flag-fits, test-back, test-stands, travel-back, travel-fits, short-back, return-pointer-back, return-pointer-fits, variadic-back, stack-args-back, stack-args-fits, narrow-back, narrow-fits, bit-ints-back, bit-ints-fits, cleanup-back}
 
 -- The eight bits of a byte.
@@ -83,6 +83,17 @@ flags-back banks scalars =
       «decimal_in_integers» = rw (bit-64 a b c d e f g h ha hb hc hd he hf hg hh) (flag-back (scalars .«decimal_in_integers»));
       «quad_returns_by_reference» = rw (bit-128 a b c d e f g h ha hb hc hd he hf hg hh) (flag-back (scalars .«quad_returns_by_reference»));
     }
+
+-- The byte of the two formats and the last flag.
+module _ (m r f : ℕ) (hm : m ≤ 4) (hr : r ≤ 4) (hf : f < 2) where
+  memory-part : (m + 8 * r + 64 * f) % 8 ≡ m
+  memory-part = omega arith
+
+  returns-part : (m + 8 * r + 64 * f) / 8 % 8 ≡ r
+  returns-part = let eighth : (m + 8 * r + 64 * f) / 8 ≡ r + 8 * f = omega arith in rw eighth (omega arith)
+
+  falls-part : (m + 8 * r + 64 * f) / 64 % 2 ≡ f
+  falls-part = let rest : (m + 8 * r + 64 * f) / 64 ≡ f = omega arith in rw rest (omega arith)
 
 -- The byte of stack arguments, narrow integers, bit-precise integers and cleanup.
 module _ (s n b k : ℕ) (hs : s < 2) (hn : n < 4) (hb : b < 2) where
@@ -196,10 +207,13 @@ module _ (D : Description) (h : T (held D)) where
   scalars-back : scalarsFrom (encode D) ≡ D .scalars
   unfolding scalarsFrom
   scalars-back =
-      let small = leb→le (D .scalars .«in_memory») 4 (and-left (leb (D .scalars .«in_memory») 4) (leb (D .scalars .«wide_integer_returns_in») 4) (parts .1)) in
-      let low : formatsByte (D .scalars) % 8 ≡ D .scalars .«in_memory» = omega arith in
-      let high : formatsByte (D .scalars) / 8 ≡ D .scalars .«wide_integer_returns_in» = omega arith in
-      simp (flags .«wide_integer_is_all_or_nothing», flags .«wide_integer_starts_even», flags .«wide_integer_drains», flags .«wide_is_by_reference», flags .«wide_integer_in_memory», flags .«decimal_in_integers», flags .«quad_returns_by_reference», low, high)
+      let m = D .scalars .«in_memory» in
+      let r = D .scalars .«wide_integer_returns_in» in
+      let f = oneIf (D .scalars .«float_falls_to_integers») in
+      let hm = leb→le m 4 (and-left (leb m 4) (leb r 4) (parts .1)) in
+      let hr = leb→le r 4 (and-right (leb m 4) (leb r 4) (parts .1)) in
+      let hf = flag-fits (D .scalars .«float_falls_to_integers») in
+      simp (flags .«wide_integer_is_all_or_nothing», flags .«wide_integer_starts_even», flags .«wide_integer_drains», flags .«wide_is_by_reference», flags .«wide_integer_in_memory», flags .«decimal_in_integers», flags .«quad_returns_by_reference», memory-part m r f hm hr hf, returns-part m r f hm hr hf, falls-part m r f hm hr hf, flag-back)
 
   -- the two bytes of the fields beside these
   low : callsByte D % 4 ≡ returnPointerCode (D .«return_pointer»)

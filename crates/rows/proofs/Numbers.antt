@@ -11,11 +11,11 @@ use Rattle.describe.specs.declared.Test.the-variants.{Anything, Empty, SizeOneO
 use Rattle.describe.specs.declared.Travel.{Travel}
 use Rattle.describe.specs.declared.Travel.the-variants.{Ignore, AsFound, AsIntegers, AsOneInteger, ByReference, InMemory, InMemoryAndSpend}
 use Rattle.describe.specs.declared.Short.{Short}
-use Rattle.describe.specs.declared.Short.the-variants.{Unchanged, Memory, MemoryAndDrain, TryNextRule}
+use Rattle.describe.specs.declared.Short.the-variants.{Unchanged, Memory, MemoryAndDrain, TryNextRule, Split}
 use Rattle.describe.specs.declared.ReturnPointer.{ReturnPointer}
 use Rattle.describe.specs.declared.ReturnPointer.the-variants.{FirstArgument, FirstArgumentPopped, Dedicated}
 use Rattle.describe.specs.declared.Variadic.{Variadic}
-use Rattle.describe.specs.declared.Variadic.the-variants.{SameAsFixed, AlwaysMemory, BothBanks, IntegersOnly, UnnamedIntegers}
+use Rattle.describe.specs.declared.Variadic.the-variants.{SameAsFixed, AlwaysMemory, BothBanks, IntegersOnly, UnnamedIntegers, UnnamedIntegersEven}
 use Rattle.describe.specs.declared.StackArgs.{StackArgs}
 use Rattle.describe.specs.declared.StackArgs.the-variants.{RegisterSized, Packed}
 use Rattle.describe.specs.declared.Narrow.{Narrow}
@@ -49,6 +49,7 @@ short-back Unchanged = refl
 short-back Memory = refl
 short-back MemoryAndDrain = refl
 short-back TryNextRule = refl
+short-back Split = refl
 
 pub return-pointer-back : (p : ReturnPointer) → returnPointerFrom (returnPointerCode p) ≡ p
 unfolding returnPointerFrom
@@ -63,6 +64,7 @@ variadic-back AlwaysMemory = refl
 variadic-back BothBanks = refl
 variadic-back IntegersOnly = refl
 variadic-back UnnamedIntegers = refl
+variadic-back UnnamedIntegersEven = refl
 
 pub stack-args-back : (s : StackArgs) → stackArgsFrom (stackArgsCode s) ≡ s
 unfolding stackArgsFrom

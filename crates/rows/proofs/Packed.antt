@@ -12,7 +12,7 @@ use Rattle.shape.proofs.Bools.{and-left, and-right}
 use Rattle.describe.specs.declared.Rule.{Rule}
 use Rattle.rows.specs.declared.Rules.{Rules}
 use Rattle.describe.specs.declared.Short.{Short}
-use Rattle.describe.specs.declared.Short.the-variants.{Unchanged, Memory, MemoryAndDrain, TryNextRule}
+use Rattle.describe.specs.declared.Short.the-variants.{Unchanged, Memory, MemoryAndDrain, TryNextRule, Split}
 use Rattle.describe.specs.declared.Test.{Test}
 use Rattle.describe.specs.declared.Test.the-variants.{Anything, Empty, SizeOneOf, SizeAtMost, Homogeneous, FloatPair, X87Stack, LoneFloat, FloatingMode, ComplexFloat, Eightbytes}
 use Rattle.describe.specs.Description.{Description, Decides, Ends}
@@ -36,11 +36,12 @@ code-fits FloatingMode = (lit< tt, lit< tt)
 code-fits ComplexFloat = (lit< tt, lit< tt)
 code-fits (Eightbytes limit) = (lit< tt, lit< tt)
 
-short-fits : (s : Short) → shortCode s < 4
+short-fits : (s : Short) → shortCode s < 32
 short-fits Unchanged = lit< tt
 short-fits Memory = lit< tt
 short-fits MemoryAndDrain = lit< tt
 short-fits TryNextRule = lit< tt
+short-fits Split = lit< tt
 
 number-fits : (t : Test) → T (heldTest t) → testNumber t < 256
 number-fits Anything h = lit< tt

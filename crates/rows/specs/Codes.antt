@@ -9,11 +9,11 @@ use Rattle.describe.specs.declared.Test.the-variants.{Anything, Empty, SizeOneO
 use Rattle.describe.specs.declared.Travel.{Travel}
 use Rattle.describe.specs.declared.Travel.the-variants.{Ignore, AsFound, AsIntegers, AsOneInteger, ByReference, InMemory, InMemoryAndSpend}
 use Rattle.describe.specs.declared.Short.{Short}
-use Rattle.describe.specs.declared.Short.the-variants.{Unchanged, Memory, MemoryAndDrain, TryNextRule}
+use Rattle.describe.specs.declared.Short.the-variants.{Unchanged, Memory, MemoryAndDrain, TryNextRule, Split}
 use Rattle.describe.specs.declared.ReturnPointer.{ReturnPointer}
 use Rattle.describe.specs.declared.ReturnPointer.the-variants.{FirstArgument, FirstArgumentPopped, Dedicated}
 use Rattle.describe.specs.declared.Variadic.{Variadic}
-use Rattle.describe.specs.declared.Variadic.the-variants.{SameAsFixed, AlwaysMemory, BothBanks, IntegersOnly, UnnamedIntegers}
+use Rattle.describe.specs.declared.Variadic.the-variants.{SameAsFixed, AlwaysMemory, BothBanks, IntegersOnly, UnnamedIntegers, UnnamedIntegersEven}
 use Rattle.describe.specs.declared.StackArgs.{StackArgs}
 use Rattle.describe.specs.declared.StackArgs.the-variants.{RegisterSized, Packed}
 use Rattle.describe.specs.declared.Narrow.{Narrow}
@@ -68,6 +68,7 @@ shortCode Unchanged = 0
 shortCode Memory = 1
 shortCode MemoryAndDrain = 2
 shortCode TryNextRule = 3
+shortCode Split = 4
 
 abbrev pub returnPointerCode : ReturnPointer → ℕ
 returnPointerCode FirstArgument = 0
@@ -80,6 +81,7 @@ variadicCode AlwaysMemory = 1
 variadicCode BothBanks = 2
 variadicCode IntegersOnly = 3
 variadicCode UnnamedIntegers = 4
+variadicCode UnnamedIntegersEven = 5
 
 abbrev pub stackArgsCode : StackArgs → ℕ
 stackArgsCode RegisterSized = 0
@@ -125,13 +127,13 @@ travelFrom code =
     getD (Ignore ∷ AsFound ∷ AsIntegers ∷ AsOneInteger ∷ ByReference ∷ InMemory ∷ []) code InMemoryAndSpend
 
 unfoldable pub shortFrom : ℕ → Short
-shortFrom code = getD (Unchanged ∷ Memory ∷ MemoryAndDrain ∷ []) code TryNextRule
+shortFrom code = getD (Unchanged ∷ Memory ∷ MemoryAndDrain ∷ TryNextRule ∷ []) code Split
 
 unfoldable pub returnPointerFrom : ℕ → ReturnPointer
 returnPointerFrom code = getD (FirstArgument ∷ FirstArgumentPopped ∷ []) code Dedicated
 
 unfoldable pub variadicFrom : ℕ → Variadic
-variadicFrom code = getD (SameAsFixed ∷ AlwaysMemory ∷ BothBanks ∷ IntegersOnly ∷ []) code UnnamedIntegers
+variadicFrom code = getD (SameAsFixed ∷ AlwaysMemory ∷ BothBanks ∷ IntegersOnly ∷ UnnamedIntegers ∷ []) code UnnamedIntegersEven
 
 unfoldable pub stackArgsFrom : ℕ → StackArgs
 stackArgsFrom code = getD (RegisterSized ∷ []) code Packed

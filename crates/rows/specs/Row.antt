@@ -30,8 +30,9 @@ flagsByte banks scalars =
     + 64 * oneIf (scalars .«decimal_in_integers»)
     + 128 * oneIf (scalars .«quad_returns_by_reference»)
 
+-- the flags' byte is full, and the formats leave room for one
 abbrev pub formatsByte : Scalars → ℕ
-formatsByte scalars = scalars .«in_memory» + 8 * scalars .«wide_integer_returns_in»
+formatsByte scalars = scalars .«in_memory» + 8 * scalars .«wide_integer_returns_in» + 64 * oneIf (scalars .«float_falls_to_integers»)
 
 abbrev pub callsByte : Description → ℕ
 callsByte D = returnPointerCode (D .«return_pointer») + 4 * variadicCode (D .variadic)
@@ -128,10 +129,11 @@ scalarsFrom row =
       «wide_integer_starts_even» = bit (getD row 4 0) 4;
       «wide_integer_drains» = bit (getD row 4 0) 8;
       «wide_is_by_reference» = bit (getD row 4 0) 16;
-      «wide_integer_returns_in» = getD row 5 0 / 8;
+      «wide_integer_returns_in» = getD row 5 0 / 8 % 8;
       «wide_integer_in_memory» = bit (getD row 4 0) 32;
       «decimal_in_integers» = bit (getD row 4 0) 64;
       «quad_returns_by_reference» = bit (getD row 4 0) 128;
+      «float_falls_to_integers» = bit (getD row 5 0) 64;
     }
 
 unfoldable pub termsFrom : List ℕ → Terms

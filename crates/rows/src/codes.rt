@@ -52,6 +52,8 @@ pub const MEMORY_AND_DRAIN: u8 = 16;
 
 pub const TRY_NEXT_RULE: u8 = 24;
 
+pub const SPLIT: u8 = 32;
+
 // The flags of banks and scalar rules.
 pub const NO_FLAG: u8 = 0;
 
@@ -71,12 +73,15 @@ pub const DECIMAL_IN_INTEGERS: u8 = 64;
 
 pub const QUAD_RETURNS_BY_REFERENCE: u8 = 128;
 
-// The two formats: a kind for the one in memory, eight times a kind for the one that wide integers return in.
+// The two formats: a kind for the one in memory, eight times a kind for the one that wide integers return in; and the flag that the flags' own
+// byte has no room for.
 pub const NO_FORMAT: u8 = 0;
 
 pub const X87_IN_MEMORY: u8 = 3;
 
 pub const RETURNS_IN_QUAD: u8 = 32;
+
+pub const FLOAT_FALLS_TO_INTEGERS: u8 = 64;
 
 // Where the return pointer travels, and what arguments after the dots do.
 pub const FIRST_ARGUMENT: u8 = 0;
@@ -94,6 +99,8 @@ pub const BOTH_BANKS: u8 = 8;
 pub const INTEGERS_ONLY: u8 = 12;
 
 pub const UNNAMED_INTEGERS: u8 = 16;
+
+pub const UNNAMED_INTEGERS_EVEN: u8 = 20;
 
 // Stack arguments, narrow integers, bit-precise integers, cleanup.
 pub const REGISTER_SIZED: u8 = 0;

@@ -15,7 +15,7 @@ use describe::Terms;
 use describe::Variadic;
 
 // A row holds a description in WIDTH bytes: the four numbers of the banks, a bit for each flag of banks and scalar rules, the two
-// formats, the other fields in two bytes, then four rules for returns and four for arguments. A rule is three bytes: its test,
+// formats with the last flag, the other fields in two bytes, then four rules for returns and four for arguments. A rule is three bytes: its test,
 // the test's number, and the way of travel with what happens when short; three zeros stand where a list has ended. The module
 // `codes` names the values.
 pub const WIDTH: usize = 32;
@@ -93,10 +93,11 @@ fn scalars_of(row: [u8; WIDTH]) -> Scalars
         wide_integer_starts_even: flags / WIDE_INTEGER_STARTS_EVEN % 2 == 1,
         wide_integer_drains: flags / WIDE_INTEGER_DRAINS % 2 == 1,
         wide_is_by_reference: flags / WIDE_IS_BY_REFERENCE % 2 == 1,
-        wide_integer_returns_in: shape::wide(formats / 8),
+        wide_integer_returns_in: shape::wide(formats / 8 % 8),
         wide_integer_in_memory: flags / WIDE_INTEGER_IN_MEMORY % 2 == 1,
         decimal_in_integers: flags / DECIMAL_IN_INTEGERS % 2 == 1,
         quad_returns_by_reference: flags / QUAD_RETURNS_BY_REFERENCE % 2 == 1,
+        float_falls_to_integers: formats / FLOAT_FALLS_TO_INTEGERS % 2 == 1,
     }
 }
 
@@ -118,7 +119,8 @@ fn variadic_from(code: u8) -> Variadic
         1 => Variadic::AlwaysMemory,
         2 => Variadic::BothBanks,
         3 => Variadic::IntegersOnly,
-        _ => Variadic::UnnamedIntegers,
+        4 => Variadic::UnnamedIntegers,
+        _ => Variadic::UnnamedIntegersEven,
     }
 }
 
@@ -180,6 +182,7 @@ pub fn variadic_number(variadic: Variadic) -> u64
         Variadic::BothBanks => 2,
         Variadic::IntegersOnly => 3,
         Variadic::UnnamedIntegers => 4,
+        Variadic::UnnamedIntegersEven => 5,
     }
 }
 

@@ -219,6 +219,7 @@ fn short_from(code: u8) -> Short
         0 => Short::Unchanged,
         1 => Short::Memory,
         2 => Short::MemoryAndDrain,
-        _ => Short::TryNextRule,
+        3 => Short::TryNextRule,
+        _ => Short::Split,
     }
 }

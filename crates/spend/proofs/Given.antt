@@ -3,14 +3,14 @@ use Prim.Native.Nat.{ℕ}
 use mathlib.Core.Path.{_≡_, refl}
 use mathlib.Core.Bool.{Bool, true, false, _&&_, cond}
 use native.Mathlib.Omega.{arith}
-use lib.Dec.{T, leb, ltb, ltb→lt}
+use lib.Dec.{T, eqb, leb, ltb, ltb→lt}
 use Rattle.shape.specs.Numbers.{integer}
 use Rattle.describe.specs.declared.Banks.{Banks}
 use Rattle.describe.specs.declared.Rule.{Rule}
 use Rattle.describe.specs.declared.Travel.{Travel}
 use Rattle.describe.specs.declared.Travel.the-variants.{Ignore, AsFound, AsIntegers, AsOneInteger, ByReference, InMemory, InMemoryAndSpend}
 use Rattle.describe.specs.declared.Short.{Short}
-use Rattle.describe.specs.declared.Short.the-variants.{Unchanged, Memory, MemoryAndDrain, TryNextRule}
+use Rattle.describe.specs.declared.Short.the-variants.{Unchanged, Memory, MemoryAndDrain, TryNextRule, Split}
 use Rattle.describe.specs.declared.ReturnPointer.{ReturnPointer}
 use Rattle.describe.specs.declared.ReturnPointer.the-variants.{FirstArgument, FirstArgumentPopped, Dedicated}
 use Rattle.spend.specs.declared.Left.{Left}
@@ -54,6 +54,7 @@ short-ungiven Unchanged left found i f = another-way tt
 short-ungiven Memory left found i f = λ w. (refl, refl)
 short-ungiven MemoryAndDrain left found i f = λ w. (refl, refl)
 short-ungiven TryNextRule left found i f = tt
+short-ungiven Split left found i f = either (eqb (left .integer) 0) _ _ (λ w. (refl, refl)) (another-way tt)
 
 slots-ungiven : (shared returning : Bool) (left : Left) (short : Short) (found : Wanted) → UngivenIf (inSlots shared returning left short found)
 unfolding inSlots

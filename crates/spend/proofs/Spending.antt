@@ -3,7 +3,8 @@
 use Prim.Native.Nat.{ℕ, _-_, _≤_, _<_, min, max}
 use mathlib.Core.Path.{_≡_}
 use mathlib.Core.Bool.{Bool, true, false, _&&_}
-use borrow.Author.Tests.{lt-ltb, le-ltb}
+use native.Mathlib.Omega.{arith}
+use borrow.Author.Tests.{lt-ltb, le-ltb, eq-eqb, ne-eqb}
 use lib.Dec.{leb}
 use lib.ListN.{length}
 use Rattle.shape.specs.Numbers.{integer}
@@ -13,7 +14,7 @@ use Rattle.describe.specs.declared.Banks.{Banks}
 use Rattle.describe.specs.declared.Rule.{Rule}
 use Rattle.describe.specs.declared.Travel.the-variants.{Ignore, AsFound, AsIntegers, AsOneInteger, ByReference, InMemory, InMemoryAndSpend}
 use Rattle.describe.specs.declared.Short.{Short}
-use Rattle.describe.specs.declared.Short.the-variants.{Unchanged, Memory, MemoryAndDrain, TryNextRule}
+use Rattle.describe.specs.declared.Short.the-variants.{Unchanged, Memory, MemoryAndDrain, TryNextRule, Split}
 use Rattle.describe.specs.declared.ReturnPointer.{ReturnPointer}
 use Rattle.describe.specs.declared.ReturnPointer.the-variants.{FirstArgument, FirstArgumentPopped, Dedicated}
 use Rattle.spend.specs.declared.Left.{Left}
@@ -23,7 +24,7 @@ use Rattle.spend.specs.declared.Wanted.{Wanted}
 use Rattle.spend.specs.declared.Decision.{Decision}
 use Rattle.spend.specs.declared.Tried as tries
 use Rattle.spend.specs.Ways.{spends, plain, inPieces, cutSlots, oneSlot, leftAfter}
-use Rattle.spend.specs.Spending.{wantOf, reference, memory, byPointer, integerCost, floatCost, drainOf, whenShort, inSlots, byReference, inMemoryAndSpend, travelOf}
+use Rattle.spend.specs.Spending.{wantOf, reference, memory, byPointer, integerCost, floatCost, drainOf, asFarAs, splitOf, whenShort, inSlots, byReference, inMemoryAndSpend, travelOf}
 
 -- ---- counts
 
@@ -88,11 +89,20 @@ module _ (shared returning : Bool) (left : Left) (short : Short) (found : Wanted
     unfolding inSlots
     slots-short miss r er = rw (er, out, ← ei, ← ef, miss)
 
+module _ (left : Left) (found : Wanted) (i f : ℕ) (r : Decision) where
+  pub far-as : (n : ℕ) → n ≡ min i (left .integer) → (m : ℕ) → m ≡ min f (left .float) → r ≡ inPieces found (spends 0 n 0 m) → r ≡ asFarAs left found i f
+  far-as n en m em er = rw (er, en, em)
+
+  pub split-some : 0 < left .integer → r ≡ asFarAs left found i f → r ≡ splitOf left found i f
+  split-some h er = rw (er, ne-eqb (left .integer) 0 (λ (z : left .integer ≡ 0). omega arith))
+
+  pub split-none : left .integer ≤ 0 → r ≡ memory 0 0 0 0 → r ≡ splitOf left found i f
+  split-none h er = let z : left .integer ≡ 0 = omega arith in rw (er, eq-eqb (left .integer) 0 z)
+
 module _ (short : Short) (left : Left) (found : Wanted) (i f : ℕ) where
-  pub short-unchanged : short ≡ Unchanged → (n : ℕ) → n ≡ min i (left .integer) → (m : ℕ) → m ≡ min f (left .float) → (d : Decision) → d ≡ inPieces found (spends 0 n 0 m)
-      → tries.the-variants.Decided d ≡ whenShort short left found i f
+  pub short-unchanged : short ≡ Unchanged → (d : Decision) → d ≡ asFarAs left found i f → tries.the-variants.Decided d ≡ whenShort short left found i f
   unfolding whenShort
-  short-unchanged e n en m em d ed = rw (ed, en, em, e)
+  short-unchanged e d ed = rw (ed, e)
 
   pub short-memory : short ≡ Memory → (d : Decision) → d ≡ memory 0 0 0 0 → tries.the-variants.Decided d ≡ whenShort short left found i f
   unfolding whenShort
@@ -106,6 +116,10 @@ module _ (short : Short) (left : Left) (found : Wanted) (i f : ℕ) where
   pub short-next : short ≡ TryNextRule → tries.the-variants.TryNextRule ≡ whenShort short left found i f
   unfolding whenShort
   short-next e = rw e
+
+  pub short-split : short ≡ Split → (d : Decision) → d ≡ splitOf left found i f → tries.the-variants.Decided d ≡ whenShort short left found i f
+  unfolding whenShort
+  short-split e d ed = rw (ed, e)
 
 module _ (B : Banks) (pointer : ReturnPointer) (returning : Bool) (left : Left) (rule : Rule) (size : ℕ) (found : Wanted) where
   pub travel-ignore : rule .then ≡ Ignore → (d : Decision) → d ≡ plain ways.the-variants.Ignore (spends 0 0 0 0) → tries.the-variants.Decided d ≡ travelOf B pointer returning left rule size found

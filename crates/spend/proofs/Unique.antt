@@ -12,6 +12,8 @@ use Rattle.spend.proofs.integers.Reads as integers
 use Rattle.spend.proofs.pieces.Reads as pieces
 use Rattle.spend.proofs.cut_slots.Reads as cut-slots
 use Rattle.spend.proofs.one_slot.Reads as one-slot
+use Rattle.spend.proofs.with_mark.Reads as with-mark
+use Rattle.spend.proofs.nothing_spent.Reads as nothing-spent
 use Rattle.spend.proofs.left_after.Reads as left-after
 
 way-number-decides : (κs : Lfts 0) → OneAnswer (way-number.Post κs)
@@ -43,6 +45,12 @@ cut-slots-decides κs a r q s t p p′ = p ∙ sym p′
 
 one-slot-decides : (κs : Lfts 0) → OneAnswer (one-slot.Post κs)
 one-slot-decides κs a r q s t p p′ = p ∙ sym p′
+
+with-mark-decides : (κs : Lfts 0) → OneAnswer (with-mark.Post κs)
+with-mark-decides κs a r q s t p p′ = p ∙ sym p′
+
+nothing-spent-decides : (κs : Lfts 0) → OneAnswer (nothing-spent.Post κs)
+nothing-spent-decides κs a r q s t p p′ = p ∙ sym p′
 
 left-after-decides : (κs : Lfts 0) → OneAnswer (left-after.Post κs)
 left-after-decides κs a r q s t p p′ = p ∙ sym p′

@@ -3,7 +3,7 @@
 -- This says nothing of the counts left afterwards: those are the Rust's, in classify/specs/Classify.antt, and a theorem has the two agree.
 use Prim.Native.Nat.{ℕ, _-_, min, max}
 use mathlib.Core.Bool.{Bool, _&&_, cond}
-use lib.Dec.{leb, ltb}
+use lib.Dec.{eqb, leb, ltb}
 use Rattle.shape.specs.Numbers.{integer}
 use Rattle.slots.specs.Cut.{ceilDiv}
 use Rattle.describe.specs.declared.Banks.{Banks}
@@ -11,7 +11,7 @@ use Rattle.describe.specs.declared.Rule.{Rule}
 use Rattle.describe.specs.declared.Travel.{Travel}
 use Rattle.describe.specs.declared.Travel.the-variants.{Ignore, AsFound, AsIntegers, AsOneInteger, ByReference, InMemory, InMemoryAndSpend}
 use Rattle.describe.specs.declared.Short.{Short}
-use Rattle.describe.specs.declared.Short.the-variants.{Unchanged, Memory, MemoryAndDrain, TryNextRule}
+use Rattle.describe.specs.declared.Short.the-variants.{Unchanged, Memory, MemoryAndDrain, TryNextRule, Split}
 use Rattle.describe.specs.declared.ReturnPointer.{ReturnPointer}
 use Rattle.describe.specs.declared.ReturnPointer.the-variants.{FirstArgument, FirstArgumentPopped, Dedicated}
 use Rattle.spend.specs.declared.Left.{Left}
@@ -61,15 +61,23 @@ floatCost shared floats = cond shared 0 floats
 abbrev pub drainOf : ℕ → ℕ → ℕ
 drainOf cost left = cond (ltb left cost) left 0
 
+-- Pieces, given what is left up to the cost
+abbrev pub asFarAs : Left → Wanted → ℕ → ℕ → Decision
+asFarAs left found integer float = inPieces found (spends 0 (takes integer (left .integer)) 0 (takes float (left .float)))
+
+-- the same, where an integer register is left; with none, Memory, and nothing is spent
+abbrev pub splitOf : Left → Wanted → ℕ → ℕ → Decision
+splitOf left found integer float = cond (eqb (left .integer) 0) (memory 0 0 0 0) (asFarAs left found integer float)
+
 -- short of registers: Unchanged gives what is left up to the cost; Memory spends nothing; MemoryAndDrain passes over each short bank whole;
--- TryNextRule goes on. Who has which, and why, is said at `Short` (describe/src/lib.rt)
+-- TryNextRule goes on; Split gives what is left, where that is something. Who has which, and why, is said at `Short` (describe/src/lib.rt)
 unfoldable pub whenShort : Short → Left → Wanted → ℕ → ℕ → tries.Tried
-whenShort Unchanged left found integer float =
-    tries.the-variants.Decided (inPieces found (spends 0 (takes integer (left .integer)) 0 (takes float (left .float))))
+whenShort Unchanged left found integer float = tries.the-variants.Decided (asFarAs left found integer float)
 whenShort Memory left found integer float = tries.the-variants.Decided (memory 0 0 0 0)
 whenShort MemoryAndDrain left found integer float =
     tries.the-variants.Decided (memory (drainOf integer (left .integer)) 0 (drainOf float (left .float)) 0)
 whenShort TryNextRule left found integer float = tries.the-variants.TryNextRule
+whenShort Split left found integer float = tries.the-variants.Decided (splitOf left found integer float)
 
 -- a slot rule: on a return it spends nothing, for the registers of a result aren't counted with the arguments'; on an argument, where it fits,
 -- the cost is given

@@ -10,8 +10,8 @@ use shape::minus;
 use slots::Source;
 ghost use mathlib.Core.Path.{_≡_};
 ghost use Prim.Native.Nat.{min};
-ghost use Rattle.spend.specs.Ways.{wayNumber, wayFrom, spends, plain, inPieces, cutSlots, oneSlot, leftAfter};
-ghost use Rattle.spend.specs.Spending.{wantOf, byPointer, travelOf, byReference, inMemoryAndSpend, inSlots, whenShort, integerCost, floatCost, drainOf};
+ghost use Rattle.spend.specs.Ways.{wayNumber, wayFrom, withMark, spends, nothing, plain, inPieces, cutSlots, oneSlot, leftAfter};
+ghost use Rattle.spend.specs.Spending.{wantOf, byPointer, travelOf, byReference, inMemoryAndSpend, inSlots, whenShort, asFarAs, splitOf, integerCost, floatCost, drainOf};
 
 // What a call has left: registers in each bank, and the mark. Where the mark isn't 0, floats go in integer registers alone. It is a word, so
 // that whatever C hands in is a call.
@@ -183,18 +183,36 @@ fn when_short(short: Short, left: Left, found: Wanted, integer: u64, float: u64)
     ensures { λ r. ⌜ r ≡ whenShort short left found integer float ⌝ }
 {
     match short {
-        Short::Unchanged => Tried::Decided(pieces(
-            found,
-            shape::least(integer, left.integer),
-            shape::least(float, left.float),
-        )),
+        Short::Unchanged => Tried::Decided(as_far_as(left, found, integer, float)),
         Short::Memory => Tried::Decided(integers(Way::Memory, 0, 0)),
         Short::MemoryAndDrain => Tried::Decided(drained(
             drain(integer, left.integer),
             drain(float, left.float),
         )),
         Short::TryNextRule => Tried::TryNextRule,
+        Short::Split => Tried::Decided(split(left, found, integer, float)),
     }
+}
+
+// Slots that are given the registers that are left, up to their cost.
+fn as_far_as(left: Left, found: Wanted, integer: u64, float: u64) -> Decision
+    ensures { λ r. ⌜ r ≡ asFarAs left found integer float ⌝ }
+{
+    pieces(
+        found,
+        shape::least(integer, left.integer),
+        shape::least(float, left.float),
+    )
+}
+
+// Between the registers that are left and the stack; with no integer register left, there is nothing to split.
+fn split(left: Left, found: Wanted, integer: u64, float: u64) -> Decision
+    ensures { λ r. ⌜ r ≡ splitOf left found integer float ⌝ }
+{
+    if left.integer > 0 {
+        return as_far_as(left, found, integer, float);
+    }
+    integers(Way::Memory, 0, 0)
 }
 
 // Slots by bank: with shared banks every slot costs one of the integer bank.
@@ -305,6 +323,28 @@ pub fn one_slot(kind: u64, size: u64, floats: u64) -> Wanted
             offset: 0,
             size,
         },
+    }
+}
+
+// The same registers, with the mark.
+pub fn with_mark(left: Left) -> Left
+    ensures { λ r. ⌜ r ≡ withMark left ⌝ }
+{
+    Left {
+        integer: left.integer,
+        float: left.float,
+        integers_only: MARK,
+    }
+}
+
+pub fn nothing_spent() -> Spent
+    ensures { λ r. ⌜ r ≡ nothing ⌝ }
+{
+    Spent {
+        integers_passed: 0,
+        integers_given: 0,
+        floats_passed: 0,
+        floats_given: 0,
     }
 }
 

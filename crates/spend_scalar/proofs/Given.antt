@@ -27,7 +27,7 @@ registers-ungiven : (B : Banks) (S : Scalars) (left : Left) (s : Scalar) (want :
 unfolding scalarInRegisters
 registers-ungiven B S left s want =
     either (B .shared) _ _ (another-way tt)
-    (either (isFloat (s .kind) && leb (s .size) (B .«float_width»)) _ _ (another-way tt)
+    (either (isFloat (s .kind) && leb (s .size) (B .«float_width»)) _ _ (either (S .«float_falls_to_integers») _ _ (either (eqb (left .float) 0) _ _ (another-way tt) (another-way tt)) (another-way tt))
     (either (isFloat (s .kind)) _ _ (another-way tt) (integer-ungiven (B .integer) S (left .integer) want)))
 
 pub argument-ungiven : (B : Banks) (S : Scalars) (left : Left) (s : Scalar) → Ungiven (scalarArgument B S left s)

@@ -1,8 +1,9 @@
 -- The laws of a scalar's spending: each way out of the code is one line of the definitions. A law's premises are the tests and the callees'
 -- promises as the code has them.
 use Prim.Native.Nat.{ℕ, _-_, _%_, _≤_, _<_, min}
-use mathlib.Core.Path.{_≡_, sym, _∙_}
+use mathlib.Core.Path.{_≡_, refl, sym, _∙_}
 use mathlib.Core.Bool.{Bool, true, false, _&&_, _||_, not, cond, and-true, and-false}
+use native.Mathlib.Omega.{arith}
 use borrow.Author.Tests.{le-leb, lt-leb, eq-eqb, ne-eqb}
 use lib.Dec.{eqb, leb, ltb}
 use Rattle.shape.specs.declared.Scalar.{Scalar}
@@ -16,7 +17,7 @@ use Rattle.spend.specs.declared.Wanted.{Wanted}
 use Rattle.spend.specs.declared.Decision.{Decision}
 use Rattle.spend.specs.Ways.{no-mark, marked, spends, inPieces, cutSlots, oneSlot}
 use Rattle.spend.specs.Spending.{takes, wantOf, direct, reference, byPointer}
-use Rattle.spend_scalar.specs.Spending.{skipOf, integerArgument, scalarInRegisters, scalarArgument, scalarReturn}
+use Rattle.spend_scalar.specs.Spending.{skipOf, narrowFloat, integerArgument, scalarInRegisters, scalarArgument, scalarReturn}
 
 -- ---- passed over for an even start
 
@@ -63,6 +64,28 @@ module _ (start : ℕ) (S : Scalars) (I want : ℕ) (r : Decision) where
 
 -- ---- a scalar argument
 
+-- a float that a float register holds
+module _ (S : Scalars) (left : Left) (size width : ℕ) (r : Decision) where
+  pub narrow-held : 0 < left .float → r ≡ direct 0 0 0 1 → r ≡ narrowFloat S left (wantOf size width)
+  narrow-held h er =
+      let one : min 1 (left .float) ≡ 1 = omega arith in
+      rw (er, ne-eqb (left .float) 0 (λ (z : left .float ≡ 0). omega arith), one) (either-way (S .«float_falls_to_integers») (direct 0 0 0 1))
+    where
+      either-way : (b : Bool) (d : Decision) → d ≡ cond b d d
+      either-way true d = refl
+      either-way false d = refl
+
+  module _ (h : left .float ≤ 0) where
+    none-left : left .float ≡ 0
+    none-left = omega arith
+
+    pub narrow-falls : S .«float_falls_to_integers» ≡ true → (want : ℕ) → want ≡ wantOf size width → r ≡ direct 0 (min want (left .integer)) 0 0
+        → r ≡ narrowFloat S left (wantOf size width)
+    narrow-falls f want ew er = rw (er, ew, f, eq-eqb (left .float) 0 none-left)
+
+    pub narrow-short : S .«float_falls_to_integers» ≡ false → r ≡ direct 0 0 0 0 → r ≡ narrowFloat S left (wantOf size width)
+    narrow-short f er = let none : min 1 (left .float) ≡ 0 = omega (arith, none-left) in rw (er, f, none)
+
 pub not-by-reference : (S : Scalars) (size : ℕ) (byref : Bool) → byref ≡ isByReference S size → byref ≡ false → isByReference S size ≡ false
 not-by-reference S size byref eb h = sym eb ∙ h
 
@@ -95,7 +118,7 @@ module _ (B : Banks) (S : Scalars) (left : Left) (s : Scalar) (r : Decision) whe
         ≡ cond (eqb (s .kind) (S .«in_memory»)) (direct 0 0 0 0)
         (cond (marked left) (inPieces (cutSlots (s .size) (B .«integer_width»)) (spends 0 (takes (wantOf (s .size) (B .«integer_width»)) (left .integer)) 0 0))
         (cond (B .shared) (direct 0 (takes 1 (left .integer)) 0 0)
-        (cond (leb (s .size) (B .«float_width»)) (direct 0 0 0 (takes 1 (left .float)))
+        (cond (leb (s .size) (B .«float_width»)) (narrowFloat S left (wantOf (s .size) (B .«integer_width»)))
         (direct 0 (takes (wantOf (s .size) (B .«integer_width»)) (left .integer)) 0 0))))
     unfolding scalarArgument scalarInRegisters
     float-lines = rw (nb, ne-eqb _ _ f, and-false, and-true)
@@ -113,8 +136,8 @@ module _ (B : Banks) (S : Scalars) (left : Left) (s : Scalar) (r : Decision) whe
         float-shared h er = rw (er, float-lines, ne-eqb _ _ nm, eq-eqb (left .«integers_only») no-mark ni, h)
 
         module _ (ns : B .shared ≡ false) where
-          pub float-narrow : s .size ≤ B .«float_width» → (n : ℕ) → n ≡ min 1 (left .float) → r ≡ direct 0 0 0 n → r ≡ scalarArgument B S left s
-          float-narrow h n en er = rw (er, en, float-lines, ne-eqb _ _ nm, eq-eqb (left .«integers_only») no-mark ni, ns, le-leb _ _ h)
+          pub float-narrow : s .size ≤ B .«float_width» → r ≡ narrowFloat S left (wantOf (s .size) (B .«integer_width»)) → r ≡ scalarArgument B S left s
+          float-narrow h er = rw (er, float-lines, ne-eqb _ _ nm, eq-eqb (left .«integers_only») no-mark ni, ns, le-leb _ _ h)
 
           pub float-wider : B .«float_width» < s .size → (want : ℕ) → want ≡ wantOf (s .size) (B .«integer_width»)
               → r ≡ direct 0 (min want (left .integer)) 0 0 → r ≡ scalarArgument B S left s

@@ -34,13 +34,20 @@ integerArgument start S I want =
     -- any other integer: given takes want of I
     (direct 0 (takes want I) 0 0))
 
+-- a float that a float register holds: given takes 1 of F; where floats fall to the integers and none is left, given takes want of I
+abbrev pub fallingFloat : Left → ℕ → Decision
+fallingFloat left want = cond (eqb (left .float) 0) (direct 0 (takes want (left .integer)) 0 0) (direct 0 0 0 (takes 1 (left .float)))
+
+abbrev pub narrowFloat : Scalars → Left → ℕ → Decision
+narrowFloat S left want = cond (S .«float_falls_to_integers») (fallingFloat left want) (direct 0 0 0 (takes 1 (left .float)))
+
 -- the lines for a scalar that wants so many integer registers and goes in the registers of a bank as it is
 unfoldable pub scalarInRegisters : Banks → Scalars → Left → Scalar → ℕ → Decision
 scalarInRegisters B S left s want =
     -- a shared bank: one sequence of positions, and every value takes the next, whichever kind of register it has there
     cond (B .shared) (direct 0 (takes 1 (left .integer)) 0 0)
     -- a float no wider than the float width
-    (cond (isFloat (s .kind) && leb (s .size) (B .«float_width»)) (direct 0 0 0 (takes 1 (left .float)))
+    (cond (isFloat (s .kind) && leb (s .size) (B .«float_width»)) (narrowFloat S left want)
     -- a wider float, which no float register holds: a long double on LP64D goes like an integer of its size
     (cond (isFloat (s .kind)) (direct 0 (takes want (left .integer)) 0 0)
     -- an integer

@@ -16,7 +16,8 @@ ghost use Prim.Native.Nat.{min};
 ghost use Rattle.shape.specs.Numbers.{integer};
 ghost use Rattle.describe.specs.Questions.{isByReference};
 ghost use Rattle.spend.specs.Ways.{spends, plain};
-ghost use Rattle.spend_scalar.specs.Spending.{scalarArgument, integerArgument, skipOf, scalarReturn};
+ghost use Rattle.spend.specs.Spending.{wantOf};
+ghost use Rattle.spend_scalar.specs.Spending.{scalarArgument, narrowFloat, integerArgument, skipOf, scalarReturn};
 
 // A scalar argument: the first of the ten lines of REFERENCE 9.2 that applies. The kind is asked once: an integer has the lines 3, 5 and 8 to
 // 10, a float the lines 2 and 4 to 7.
@@ -62,10 +63,23 @@ fn float_argument(banks: Banks, scalars: Scalars, left: Left, s: Scalar) -> Deci
     }
     // 6: no wider than the float width
     if s.size <= banks.float_width {
-        return floats(shape::least(1, left.float));
+        return narrow_float(scalars, left, s.size, banks.integer_width);
     }
     // 7: a wider float
     taking(spend::registers(s.size, banks.integer_width), left.integer)
+}
+
+// A float that a float register holds takes one. With none left it may fall to the integer registers, of this width; the flag is looked at only then.
+fn narrow_float(scalars: Scalars, left: Left, size: u64, width: u64) -> Decision
+    ensures { λ r. ⌜ r ≡ narrowFloat scalars left (wantOf size width) ⌝ }
+{
+    if left.float > 0 {
+        return floats(1);
+    }
+    if scalars.float_falls_to_integers {
+        return taking(spend::registers(size, width), left.integer);
+    }
+    direct(0, 0)
 }
 
 // The lines 8 to 10: an integer that wants so many registers.
@@ -95,7 +109,7 @@ fn integer_argument(start: u64, scalars: Scalars, left: u64, want: u64) -> Decis
 }
 
 // Passed over for an even start: one, where an odd number is used and one is left.
-fn skip(even: bool, used: u64, left: u64) -> u64
+pub fn skip(even: bool, used: u64, left: u64) -> u64
     ensures { λ r. ⌜ r ≡ skipOf even used left ⌝ }
 {
     if even & (used % 2 == 1) {

@@ -21,7 +21,7 @@ use Rattle.spend.specs.declared.Way.the-variants.{Ignore, Direct, Pieces, Refer
 use Rattle.stack_place.specs.declared.Area.{Area}
 use Rattle.stack_place.specs.declared.Placed.{Placed}
 use Rattle.stack_place.proofs.Standing.{length-least}
-use Rattle.stack_place.specs.Stacked.{most-stack, pointerBytes, addressBytes, returnBytes, scalarRest, scalarBytes, slotsBeyond, aggregateBytes, isHeld, valueRounding, scalarRounding, aggregateRounding, roundingOf, inWords, lengthOf, stands, nowhere, noRoom, from, behind, placedOf, returnPlaced, scalarPlaced}
+use Rattle.stack_place.specs.Stacked.{most-stack, pointerBytes, addressBytes, returnBytes, scalarRest, scalarBytes, slotsBeyond, aggregateBytes, isHeld, valueRounding, wideOr, scalarRounding, aggregateRounding, roundingOf, inWords, lengthOf, stands, nowhere, noRoom, from, behind, placedOf, returnPlaced, scalarPlaced}
 
 -- ---- how many bytes
 
@@ -117,17 +117,20 @@ held-none Memory spent slots size w h = absurd (subst T (sym h) tt)
 
 -- ---- what the offset is rounded to
 
+module _ (align step : ℕ) where
+  pub wide-sixteen : align ≡ 16 → 16 ≡ wideOr align step
+  wide-sixteen h = rw (eq-eqb align 16 h)
+
+  pub wide-step : (align ≡ 16 → ⊥) → step ≡ wideOr align step
+  wide-step n = rw (ne-eqb align 16 n)
+
 module _ (way : Way) (area : Area) (r : ℕ) where
   module _ (s : Scalar) where
-    pub rounding-wide : s .align ≡ 16 → r ≡ valueRounding way (area .width) 16 → r ≡ scalarRounding way area s
-    rounding-wide h er = rw (eq-eqb (s .align) 16 h) er
+    pub rounding-word : area .arguments ≡ RegisterSized → (own : ℕ) → own ≡ wideOr (s .align) (area .width) → r ≡ valueRounding way (area .width) own → r ≡ scalarRounding way area s
+    rounding-word e own eo er = rw (e, ← eo) er
 
-    module _ (n : s .align ≡ 16 → ⊥) where
-      pub rounding-word : area .arguments ≡ RegisterSized → r ≡ valueRounding way (area .width) (area .width) → r ≡ scalarRounding way area s
-      rounding-word e er = rw (ne-eqb (s .align) 16 n, e) er
-
-      pub rounding-size : area .arguments ≡ Packed → r ≡ valueRounding way (area .width) (s .size) → r ≡ scalarRounding way area s
-      rounding-size e er = rw (ne-eqb (s .align) 16 n, e) er
+    pub rounding-size : area .arguments ≡ Packed → (own : ℕ) → own ≡ wideOr (s .align) (s .size) → r ≡ valueRounding way (area .width) own → r ≡ scalarRounding way area s
+    rounding-size e own eo er = rw (e, ← eo) er
 
   module _ (align : ℕ) where
     pub rounding-words : area .arguments ≡ RegisterSized → (m : ℕ) → m ≡ max align (area .width) → r ≡ valueRounding way (area .width) m → r ≡ aggregateRounding way area align

@@ -92,9 +92,11 @@ abbrev pub scalarStep : StackArgs → ℕ → ℕ → ℕ
 scalarStep RegisterSized w size = w
 scalarStep Packed w size = size
 
+abbrev pub wideOr : ℕ → ℕ → ℕ
+wideOr align step = cond (eqb align 16) 16 step
+
 abbrev pub scalarRounding : Way → Area → Scalar → ℕ
-scalarRounding way area s =
-    valueRounding way (area .width) (cond (eqb (s .align) 16) 16 (scalarStep (area .arguments) (area .width) (s .size)))
+scalarRounding way area s = valueRounding way (area .width) (wideOr (s .align) (scalarStep (area .arguments) (area .width) (s .size)))
 
 -- an aggregate's: what `in_memory` answers, and in an area that isn't packed a word at least
 abbrev pub aggregateStep : StackArgs → ℕ → ℕ → ℕ

@@ -185,13 +185,22 @@ fn scalar_rest(spent: Spent, size: u64, width: u64) -> u64
 fn scalar_rounding(way: Way, area: Area, s: Scalar) -> u64
     ensures { λ r. ⌜ r ≡ specs.scalarRounding way area s ⌝ }
 {
-    if s.align == WIDE_ALIGN {
-        return value_rounding(way, area.width, WIDE_ALIGN);
-    }
     let arguments = area.arguments;
     match arguments {
-        StackArgs::RegisterSized => value_rounding(way, area.width, area.width),
-        StackArgs::Packed => value_rounding(way, area.width, s.size),
+        StackArgs::RegisterSized => value_rounding(way, area.width, wide_or(s.align, area.width)),
+        StackArgs::Packed => value_rounding(way, area.width, wide_or(s.align, s.size)),
+    }
+}
+
+// 16 where the alignment is 16, or else this. It is asked for each kind of area by itself: of one that isn't packed the compiler knows then that it
+// isn't 0.
+fn wide_or(align: u64, step: u64) -> u64
+    ensures { λ r. ⌜ r ≡ specs.wideOr align step ⌝ }
+{
+    if align == WIDE_ALIGN {
+        WIDE_ALIGN
+    } else {
+        step
     }
 }
 

@@ -1,23 +1,12 @@
 //! The table of twelve calls (REFERENCE 9.8), each led to from a fresh call with nothing on the stack,
 //! and cases beside it. The aggregates of calls 10 and 12 have other pieces than there.
 
-use crate::common;
+use crate::common::last;
 
 /// Arguments that lead from a fresh call to fewer registers.
 const INT4: &[u64] = &[3, 1, 0, 4, 4];
 const INT8: &[u64] = &[3, 1, 0, 8, 8];
 const DOUBLE: &[u64] = &[3, 1, 2, 8, 8];
-
-/// The last line of a fresh call on this row, the arguments before and these records.
-fn last(row: u64, before: &[(&[u64], usize)], operation: &[&[u64]]) -> String {
-    let fresh = [0, row];
-    let mut sheet: Vec<&[u64]> = vec![&fresh];
-    for (argument, times) in before {
-        sheet.extend(vec![*argument; *times]);
-    }
-    sheet.extend(operation);
-    common::lines(&sheet).pop().expect("a line for the operation")
-}
 
 #[test]
 fn call_1_an_integer_and_a_double() {

@@ -27,6 +27,18 @@ pub fn lines(sheet: &[&[u64]]) -> Vec<String> {
     printed(&bytes(sheet)).lines().map(str::to_string).collect()
 }
 
+/// The last line of a fresh call on this row, the arguments before, each so many times, and these
+/// records.
+pub fn last(row: u64, before: &[(&[u64], usize)], operation: &[&[u64]]) -> String {
+    let fresh = [0, row];
+    let mut sheet: Vec<&[u64]> = vec![&fresh];
+    for (argument, times) in before {
+        sheet.extend(vec![*argument; *times]);
+    }
+    sheet.extend(operation);
+    lines(&sheet).pop().expect("a line for the operation")
+}
+
 /// The refusal of a line, if it has one: it stands before the two offsets.
 pub fn refusal(line: &str) -> Option<&str> {
     line.starts_with("refused ").then(|| line.split(' ').nth_back(2)).flatten()

@@ -5,7 +5,7 @@ use oracle::random::Random;
 use oracle::records::{self, Record};
 use oracle::refusals;
 use oracle::shapes;
-use oracle::values::{Scalar, Value};
+use oracle::values::{Scalar, Shape, Value};
 
 use crate::common;
 
@@ -18,7 +18,7 @@ fn ask_everywhere(row: usize, values: &[Value]) {
             for marks in 0..=usize::from(row == 3) {
                 let mut start: Vec<Record> = vec![common::record(&[0, row as u64])];
                 start.extend(vec![common::record(&[3, 1, 0, 4, 4]); integers]);
-                start.extend(vec![common::record(&[3, 1, 2, 8, 8]); floats]);
+                start.extend(vec![common::record(&[3, 1, 1, 4, 4]); floats]);
                 start.extend(vec![common::record(&[1]); marks]);
                 ask(&start, values);
             }
@@ -47,6 +47,23 @@ fn every_scalar_at_every_count() {
         }
     }
     for row in 0..numbers::ROWS {
+        ask_everywhere(row, &values);
+    }
+}
+
+/// Row 5 has no even start, the others behind it have: an alignment of two words counts there.
+#[test]
+fn every_alignment_at_every_count() {
+    let mut values = Vec::new();
+    for align in [0, 1, 8, 15, 16, 17, 32] {
+        for size in 0..=24 {
+            values.extend([0, 1, 4].map(|kind| Value::Scalar(Scalar { kind, size, align })));
+            let pieces = Vec::new();
+            let shape = Shape { size, align, complex: false, floating: false, pieces };
+            values.push(Value::Aggregate(shape));
+        }
+    }
+    for row in [5, 30, 31, 32] {
         ask_everywhere(row, &values);
     }
 }

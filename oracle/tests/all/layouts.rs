@@ -33,7 +33,7 @@ fn a_piece_past_the_shape() {
         |record: &str, pieces: &str| ["memory refused 9", record, pieces].map(String::from);
     let eight = [[0, 8, 8, 1]];
     assert_eq!(lines(8, 8, &eight), refused("record 16 8 0", "pieces 0:8:8:0"));
-    assert_eq!(lines(9, 8, &eight)[0], format!("memory{}", " 8".repeat(30)));
+    assert_eq!(lines(9, 8, &eight)[0], format!("memory{}", " 8".repeat(33)));
     let nothing = [[2, 0, 4, 8]];
     assert_eq!(lines(7, 4, &nothing), refused("record 12 4 0", "pieces 2:0:4:0"));
     assert_eq!(aligned(&lines(8, 4, &nothing)[0]), ["8", "4"]);

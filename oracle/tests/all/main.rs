@@ -9,6 +9,7 @@ mod find;
 mod generate;
 mod layouts;
 mod lists;
+mod riscv;
 mod shapes;
 mod sheet;
 mod stack;

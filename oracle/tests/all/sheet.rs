@@ -39,7 +39,7 @@ fn words_that_nobody_reads_may_hold_anything() {
 
 #[test]
 fn a_refused_fresh_closes_the_call() {
-    for description in [30, 31, 256, 1 << 32, u64::MAX] {
+    for description in [33, 34, 256, 1 << 32, u64::MAX] {
         let sheet: &[&[u64]] = &[&[0, 0], &[0, description], &[1]];
         assert_eq!(lines(sheet), ["fresh 6 8 0 0 0 0 0 0", "refused 0 0 0 0 0 0 1 0 0", "stop"]);
     }
@@ -226,7 +226,7 @@ fn the_last_of_1024_pieces() {
 
 #[test]
 fn every_row_refuses_a_piece_past_the_shape() {
-    for row in 0..30 {
+    for row in 0..33 {
         for operation in [2, 3, 4] {
             let fresh: &[u64] = &[0, row];
             let past: &[&[u64]] = &[&[operation, 2, 4, 4, 0, 1], &[5, 0, 4, 4, 1]];
@@ -330,7 +330,7 @@ fn a_stop_comes_before_a_refusal() {
     let records = array(1, 1_025);
     stops(&records.iter().map(|record| &record[..]).collect::<Vec<_>>());
     // Where no call is open, nothing is refused but the fresh one.
-    let closed: &[&[u64]] = &[&[0, 30], &[3, 2, 8, 8, 0, 1], &[5, 0, 8, 8, 1]];
+    let closed: &[&[u64]] = &[&[0, 33], &[3, 2, 8, 8, 0, 1], &[5, 0, 8, 8, 1]];
     assert_eq!(lines(closed), ["refused 0 0 0 0 0 0 1 0 0", "stop"]);
 }
 

@@ -199,6 +199,27 @@ fn half_of_a_wide_integer_on_row_5() {
     assert_eq!(argument(one, 8, &integer(16)), Ok([16, 8, 24]));
 }
 
+/// A split on the rows of RISC-V's own book, and what goes there behind it: by the table as it is.
+#[test]
+fn half_of_an_aggregate_on_rows_30_to_32() {
+    for row in 30..=32 {
+        for (size, align) in [(9, 1), (16, 8), (16, 16)] {
+            assert_eq!(
+                argument(left(row, 1, 0), 0, &bare(size, align)),
+                Ok([0, 8, 8]),
+                "row {row}"
+            );
+        }
+        let none = left(row, 0, 0);
+        assert_eq!(argument(none, 8, &bare(9, 8)), Ok([8, 16, 24]));
+        assert_eq!(argument(none, 8, &bare(16, 16)), Ok([16, 16, 32]));
+        assert_eq!(argument(none, 8, &integer(16)), Ok([16, 16, 32]));
+        assert_eq!(argument(none, 8, &bare(17, 16)), Ok([8, 8, 16]));
+        assert_eq!(argument(none, 8, &SINGLE), Ok([8, 8, 16]));
+        assert_eq!(after_dots(left(row, 1, 0), 0, &bare(16, 16)), Ok([0, 16, 16]));
+    }
+}
+
 #[test]
 fn words_of_four_bytes() {
     let none = left(6, 0, 0);
@@ -275,7 +296,7 @@ fn a_return_without_a_pointer() {
 /// A byte that it doesn't have goes nowhere, with a register or without.
 #[test]
 fn a_scalar_without_a_byte() {
-    for row in [0, 1, 2, 5, 6, 9, 22] {
+    for row in [0, 1, 2, 5, 6, 9, 22, 30, 31, 32] {
         for registers in [0, 1] {
             for kind in [0, 4] {
                 for (align, offset) in [(0, 0), (16, 3)] {
@@ -299,7 +320,7 @@ fn a_scalar_has_no_less_than_nothing_left() {
     assert_eq!(argument(left(5, 1, 8), 8, &integer(9)), Ok([8, 8, 16]));
 }
 
-/// No row leaves a slot list in part on the stack. A slot is one word there, whatever it has.
+/// Only a split leaves a slot list in part on the stack. A slot is one word there, whatever it has.
 #[test]
 fn slots_beyond_the_registers_of_both_banks() {
     let outcome = |slots, integers, floats| Outcome {
@@ -409,7 +430,7 @@ fn after_the_dots_a_start_is_rounded_to_8_at_least() {
 /// On other rows what stands after the dots is placed as a fixed argument.
 #[test]
 fn the_dots_of_other_rows_change_no_place() {
-    for row in [0, 1, 3, 4, 5, 6] {
+    for row in [0, 1, 3, 4, 5, 6, 30, 31, 32] {
         for value in [integer(1), scalar(0, 12, 4), integer(16), singles(3), bare(24, 8)] {
             let call = left(row, 0, 0);
             for offset in [0, 3, 4, 8] {
@@ -460,7 +481,7 @@ fn the_largest_offset_itself_is_reached() {
 
 #[test]
 fn at_the_largest_offset_nothing_more_goes_there() {
-    for row in [0, 2, 4, 6, 22] {
+    for row in [0, 2, 4, 6, 22, 30, 31, 32] {
         let none = left(row, 0, 0);
         for value in [integer(1), DOUBLE, bare(8, 1), QUAD] {
             assert_eq!(argument(none, MOST_STACK, &value), Err(7), "row {row}, {value:?}");

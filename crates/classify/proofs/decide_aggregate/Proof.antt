@@ -1,6 +1,6 @@
 -- `decide_aggregate` answers what decides an aggregate.
 use borrow.Author.Needs.{needs}
-use Rattle.classify.proofs.Operations.{aggregate-memory, aggregate-out}
+use Rattle.classify.proofs.Operations.{aggregate-found}
 use Rattle.classify.proofs.decide_aggregate.Statement.{statement}
 use Rattle.classify.proofs.decide_aggregate.Tie as tie
 
@@ -11,5 +11,5 @@ decide-aggregate-spec =
     (λ c κs. search needs)
     (λ c κs. search needs)
     (λ c κs. search needs)
-    (λ c. search (aggregate-memory))
-    (λ c. search (aggregate-out)))
+    (λ c κs. search needs)
+    (λ c. search (aggregate-found)))

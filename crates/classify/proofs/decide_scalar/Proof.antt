@@ -14,4 +14,6 @@ decide-scalar-spec =
     (λ c. search (scalar-memory))
     (λ c κs. search needs)
     (λ c κs. search needs)
+    (λ c κs. search needs)
+    (λ c κs. search needs)
     (λ c. search (scalar-out)))

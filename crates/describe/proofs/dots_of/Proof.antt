@@ -15,6 +15,8 @@ dots-of-spec =
     (λ c κs. search needs)
     (λ c. search needs)
     (λ c. search needs)
+    (λ c. search needs)
+    (λ c. search (dotted))
     (λ c. search (dotted))
     (λ c. search (dotted))
     (λ c. search (dotted))

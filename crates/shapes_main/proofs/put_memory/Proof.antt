@@ -10,7 +10,7 @@ abbrev Inv-loop : tie.InvT-loop
 Inv-loop out₀ from shape pieces at₀ row₀ out at row = length out ≡ length out₀
 
 abbrev μ-loop : tie.MeasureT-loop
-μ-loop out₀ from shape pieces at₀ row₀ out at row = 30 - row
+μ-loop out₀ from shape pieces at₀ row₀ out at row = 33 - row
 
 pub put-memory-spec : {M : Type 1} → statement M
 put-memory-spec =

@@ -1,5 +1,5 @@
 -- `when_short` answers what the rule says where a bank is short: each way out is one law.
-use Rattle.spend.proofs.Spending.{short-drain, short-memory, short-next, short-unchanged}
+use Rattle.spend.proofs.Spending.{short-drain, short-memory, short-next, short-split, short-unchanged}
 use borrow.Author.Needs.{needs}
 use Rattle.spend.proofs.when_short.Statement.{statement}
 use Rattle.spend.proofs.when_short.Tie as tie
@@ -10,8 +10,6 @@ when-short-spec =
     (tie.spec
     (λ c. search needs)
     (λ c κs. search needs)
-    (λ c κs. search needs)
-    (λ c κs. search needs)
     (λ c. search needs)
     (λ c κs. search needs)
     (λ c. search needs)
@@ -19,7 +17,10 @@ when-short-spec =
     (λ c κs. search needs)
     (λ c κs. search needs)
     (λ c. search needs)
+    (λ c. search needs)
+    (λ c κs. search needs)
     (λ c. search (short-unchanged))
     (λ c. search (short-memory))
     (λ c. search (short-drain))
-    (λ c. search (short-next)))
+    (λ c. search (short-next))
+    (λ c. search (short-split)))

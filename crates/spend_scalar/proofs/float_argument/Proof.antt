@@ -18,7 +18,6 @@ float-argument-spec =
     (λ c κs. search needs)
     (λ c. search (float-shared))
     (λ c κs. search needs)
-    (λ c κs. search needs)
     (λ c. search (float-narrow))
     (λ c κs. search needs)
     (λ c κs. search needs)

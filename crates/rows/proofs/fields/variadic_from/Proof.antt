@@ -1,6 +1,6 @@
 -- `variadic_from` gives the case of each number, arm by arm; the last arm is past the end of the cases before it.
 use mathlib.Core.List.{[], _∷_}
-use Rattle.describe.specs.declared.Variadic.the-variants.{SameAsFixed, AlwaysMemory, BothBanks, IntegersOnly, UnnamedIntegers}
+use Rattle.describe.specs.declared.Variadic.the-variants.{SameAsFixed, AlwaysMemory, BothBanks, IntegersOnly, UnnamedIntegers, UnnamedIntegersEven}
 use Rattle.rows.specs.Codes.{variadicFrom}
 use Rattle.shape.proofs.Cases.{past-end}
 use Rattle.rows.proofs.fields.variadic_from.Statement.{statement}
@@ -15,4 +15,5 @@ variadic-from-spec =
     (λ c. rw (c .match .keys2))
     (λ c. rw (c .match .keys3))
     (λ c. rw (c .match .keys4))
-    (λ c. past-end (SameAsFixed ∷ AlwaysMemory ∷ BothBanks ∷ IntegersOnly ∷ []) (c .before .args .code) UnnamedIntegers (c .match .rest)))
+    (λ c. rw (c .match .keys5))
+    (λ c. past-end (SameAsFixed ∷ AlwaysMemory ∷ BothBanks ∷ IntegersOnly ∷ UnnamedIntegers ∷ []) (c .before .args .code) UnnamedIntegersEven (c .match .rest)))

@@ -1,0 +1,3 @@
+pub mod AfterDots
+pub mod Given
+mod Unique

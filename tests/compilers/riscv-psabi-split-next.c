@@ -1,0 +1,6 @@
+/* RISC-V by its own book: seven ints, a record of two longs, an int. Looked at: the last int, behind one word of the record.
+ * sheet: 0 30 31 32 / 3 1 0 4 4 x7 / 3 2 16 8 0 2 / 5 0 8 8 0 / 5 0 8 8 8 / 3 1 0 4 4
+ */
+int seen;
+struct record { long a, b; };
+void probe(int a, int b, int c, int d, int e, int f, int g, struct record record, int next) { seen = next; }
