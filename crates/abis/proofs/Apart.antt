@@ -6,7 +6,7 @@ use mathlib.Core.Logic.{_⊎_, inl, inr}
 use Prim.Native.Nat.{ℕ, zero, suc, _+_, _<_}
 use native.Mathlib.Omega.{arith}
 use borrow.Author.Tests.{eq-eqb, ne-eqb}
-use lib.Dec.{T, eqb, eqb→eq}
+use lib.Dec.{T, eqb, eqb→eq, lit<}
 use lib.ListN.{getD}
 use Rattle.shape.proofs.Bools.{and-left, and-right, or-cases}
 use Rattle.shape.specs.Numbers.{oneIf}
@@ -15,7 +15,7 @@ use Rattle.describe.specs.declared.Variadic.the-variants.{AlwaysMemory, Integer
 use Rattle.describe.specs.declared.StackArgs.the-variants.{Packed}
 use Rattle.describe.specs.Description.{Description}
 use Rattle.rows.specs.Codes.{variadicCode, stackArgsCode}
-use Rattle.abis.specs.Abis.{described, descriptions, blank}
+use Rattle.abis.specs.Abis.{described, descriptions, description-count, blank, riscvWith}
 use Rattle.abis.specs.Apart.{fastcallRows, isFastcall, spendsInMemory, rust-count, riscvPsabiRows, isRiscvPsabi, splits, pairsStartEven, isBeyondRust}
 
 -- Of the rows from i on, none but those within has the number n.
@@ -136,3 +136,13 @@ unfolding any
 nothing-beyond d h =
     riscv-psabi d .beyond
     ∙ (rw (ne-eqb d 30 (λ (e : d ≡ 30). omega arith), ne-eqb d 31 (λ (e : d ≡ 31). omega arith), ne-eqb d 32 (λ (e : d ≡ 32). omega arith)))
+
+-- They are one definition, with a float bank and a name of their own.
+pub riscv-described : (d : ℕ) → isRiscvPsabi d ≡ true → described d ≡ riscvWith (described d .name) (described d .banks .float) (described d .banks .«float_width»)
+unfolding described descriptions
+riscv-described d e =
+    each-among (λ (d : ℕ). described d ≡ riscvWith (described d .name) (described d .banks .float) (described d .banks .«float_width»)) riscvPsabiRows (refl, (refl, (refl, tt))) d
+    (rw e tt)
+
+pub riscv-known : (d : ℕ) → isRiscvPsabi d ≡ true → d < description-count
+riscv-known d e = each-among (λ (d : ℕ). d < description-count) riscvPsabiRows (lit< tt, (lit< tt, (lit< tt, tt))) d (rw e tt)

@@ -2,7 +2,7 @@
 -- the value travels and its slots as the Rust does, and the counts that the Rust leaves are those before, less those passed over and given.
 -- Assumes nothing but this: after the dots of a description whose unnamed arguments alone go in integers, the mark isn't set. A call that has it
 -- there is refused.
-use Prim.Native.Nat.{ℕ, _+_, _*_, _-_, _%_, _≤_, min}
+use Prim.Native.Nat.{ℕ, _+_, _-_, _%_, _≤_, min}
 use mathlib.Core.Path.{_≡_, refl, sym, ap}
 use mathlib.Core.List.{List, [], _∷_}
 use mathlib.Core.Bool.{Bool, true, false, _&&_, _||_, not, cond}

@@ -50,9 +50,11 @@ use Rattle.classify.specs.declared.Answer.{Answer}
 use Rattle.classify.specs.Pass.{wayOf}
 use Rattle.classify.specs.Classify as rust
 use Rattle.classify.specs.Answers.{unmarked, callWith, refusalOf, done, freshAnswer, variadicAnswer, inMemoryAnswer}
-use Rattle.ledger.specs.Ledger.{Operation, mark, return, argument, variadic-argument, answerBy, answerFor, bufferOf, writtenFor, callAfter, history, Bank, integers, floats, given, Ledger, Rounded}
+use Rattle.ledger.specs.Ledger.{Operation, mark, return, argument, variadic-argument, answerBy, answerFor, bufferOf, writtenFor, callAfter, freshCall, history, Bank, integers, floats, given, Ledger, Rounded}
+use Rattle.ledger.specs.LastRegister.{LastRegister}
 use Rattle.ledger.specs.Twelve.{Entry, twelve, callOn, answeredTo, expected}
 use Rattle.ledger.proofs.Ledger.{ledger, rounded}
+use Rattle.ledger.proofs.LastRegister as last
 use Rattle.ledger.proofs.Twelve as calls
 use Rattle.psabi.specs.Domain as psabi
 use Rattle.psabi.specs.Psabi.{psabiArgument, psabiResult}
@@ -418,6 +420,15 @@ every-place-rounded = rounded
 pub every-place-rounded-performed : (d : ℕ) → d < description-count → (first : Answer) → Started d first → (ops : List Operation) (past : List Answer)
     → AllPerformed (first .next) ops past → Rounded d ops past
 every-place-rounded-performed = performing.rounded-performed
+
+-- on descriptions 30 to 32 nothing is on the stack while an integer register is left, after any operations: so what is partly in registers, a split half
+-- first of all, stands at 0 (`LastRegister`)
+pub last-register-first : (d : ℕ) → isRiscvPsabi d ≡ true → (ops : List Operation) (n : ℕ) → LastRegister (freshCall d) (take n (history d ops))
+last-register-first = last.last-register
+
+pub last-register-first-performed : (d : ℕ) → isRiscvPsabi d ≡ true → (first : Answer) → Started d first → (ops : List Operation) (past : List Answer)
+    → AllPerformed (first .next) ops past → (n : ℕ) → LastRegister (first .next) (take n past)
+last-register-first-performed = performing.last-register-performed
 
 -- nothing is lost of an accepted argument, fixed or after the dots, on any description and with any refusals of its source: each byte of a scalar is in a
 -- register that it was given or on the stack, each slot has a register or a word there, what travels as Memory is there whole, and an address has a

@@ -11,8 +11,8 @@ use Rattle.shape.specs.declared.Arg.the-variants.{Aggregate}
 use Rattle.shape.specs.declared.Shape.{Shape}
 use Rattle.shape.specs.Numbers.{accepted, bad-call, no-room}
 use Rattle.shape.specs.Words.{piecesOf}
-use Rattle.abis.specs.Apart.{rust-count}
-use Rattle.abis.proofs.Apart.{nothing-beyond}
+use Rattle.abis.specs.Apart.{rust-count, isRiscvPsabi}
+use Rattle.abis.proofs.Apart.{nothing-beyond, riscv-known}
 use Rattle.abis.specs.Abis.{described, description-count}
 use Rattle.abis.specs.Apart.{isFastcall}
 use Rattle.spend.specs.declared.Way.the-variants.{Memory}
@@ -27,6 +27,8 @@ use Rattle.classify.specs.Answers.{Leaves, unmarked, callWith, done, freshAnswe
 use Rattle.classify.proofs.Operations.{by-void}
 use Rattle.ledger.specs.Ledger.{Operation, mark, return, argument, bufferOf, answerFor, writtenFor, answersFrom, history, Bank, given, Ledger, Rounded}
 use Rattle.ledger.specs.Twelve.{Entry, twelve, callOn, expected}
+use Rattle.ledger.specs.LastRegister.{LastRegister}
+use Rattle.ledger.proofs.LastRegister.{last-register}
 use Rattle.ledger.proofs.Ledger.{ledger, rounded}
 use Rattle.ledger.proofs.Twelve.{call-of-twelve}
 use Rattle.bridge.specs.Lent.{Lends}
@@ -203,6 +205,11 @@ ledger-performed d known first s ops past p =
 pub rounded-performed : (d : ℕ) → d < description-count → (first : Answer) → Started d first → (ops : List Operation) (past : List Answer)
     → AllPerformed (first .next) ops past → Rounded d ops past
 rounded-performed d known first s ops past p = rw (ledger-performed d known first s ops past p .0) (rounded d known ops)
+
+pub last-register-performed : (d : ℕ) → isRiscvPsabi d ≡ true → (first : Answer) → Started d first → (ops : List Operation) (past : List Answer)
+    → AllPerformed (first .next) ops past → (n : ℕ) → LastRegister (first .next) (take n past)
+last-register-performed d is first s ops past p n =
+    rw (ledger-performed d (riscv-known d is) first s ops past p .0, started-defined d first s) (last-register d is ops n)
 
 -- ---- the table of twelve calls
 

@@ -35,7 +35,7 @@ all-fair source D c good (op ∷ ops) =
     (f, all-fair source D (answerBy source D op c .next) (f .acceptable) ops)
 
 -- a prefix of the answers to a list is the answers to a prefix of it
-prefix : (n source : ℕ) (D : Description) (c : Call) (ops : List Operation) → take n (answersBy source D c ops) ≡ answersBy source D c (take n ops)
+pub prefix : (n source : ℕ) (D : Description) (c : Call) (ops : List Operation) → take n (answersBy source D c ops) ≡ answersBy source D c (take n ops)
 unfolding answersBy
 prefix zero source D c ops = refl
 prefix (suc n) source D c [] = refl
@@ -165,11 +165,11 @@ rounded-by source D c ops =
 
 -- every register is left on its fresh call, and it passes the checks
 module _ (d : ℕ) (known : d < description-count) where
-  fresh-is : freshCall d ≡ callWith d (call (described d)) 0
+  pub fresh-is : freshCall d ≡ callWith d (call (described d)) 0
   unfolding freshAnswer
   fresh-is = rw (lt-leb description-count d known, freshCall)
 
-  fresh-accepted : callRefusalBy (rowRefusal d) (described d) (freshCall d) ≡ accepted
+  pub fresh-accepted : callRefusalBy (rowRefusal d) (described d) (freshCall d) ≡ accepted
   fresh-accepted =
       rw fresh-is
       (sound-accepted (rowRefusal d) (described d) (callWith d (call (described d)) 0) (row-there d known)
@@ -179,7 +179,7 @@ module _ (d : ℕ) (known : d < description-count) where
   fresh-left integers = rw fresh-is
   fresh-left floats = rw fresh-is
 
-  fresh-row : freshCall d .abi ≡ d
+  pub fresh-row : freshCall d .abi ≡ d
   fresh-row = rw fresh-is
 
 -- an operation on a call of the row is that of its description, and hands back a call of the row
@@ -190,7 +190,7 @@ answer-on-row d c e (return arg words out) = rw (← e)
 answer-on-row d c e (argument arg words out) = rw (← e)
 answer-on-row d c e (variadic-argument arg words out) = rw (← e)
 
-answers-on-row : (d : ℕ) (c : Call) → c .abi ≡ d → callRefusalBy (rowRefusal d) (described d) c ≡ accepted → (ops : List Operation)
+pub answers-on-row : (d : ℕ) (c : Call) → c .abi ≡ d → callRefusalBy (rowRefusal d) (described d) c ≡ accepted → (ops : List Operation)
     → answersFrom c ops ≡ answersBy (rowRefusal d) (described d) c ops
 unfolding answersFrom answersBy
 answers-on-row d c e good [] = refl

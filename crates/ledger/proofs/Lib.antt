@@ -3,3 +3,5 @@ pub mod Registers
 pub mod Ranges
 pub mod Ledger
 pub mod Twelve
+mod AllSpent
+pub mod LastRegister
