@@ -1,0 +1,3 @@
+pub mod Riscv
+pub mod Domain
+pub mod Reading
