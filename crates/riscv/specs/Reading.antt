@@ -1,4 +1,4 @@
--- Values and answers of the descriptions in the standard's terms (REFERENCE 12): the value that an argument or a result stands for, and what an
+-- Values and answers of the descriptions in the standard's terms (REFERENCE 12): the value that an argument stands for, and what an
 -- answer's way, slots, what it passes over and is given, and counts left say of registers and of the stack.
 use Prim.Native.Nat.{ℕ, _+_, _-_}
 use mathlib.Core.List.{List, [], _∷_, map}
