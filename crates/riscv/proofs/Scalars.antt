@@ -70,11 +70,11 @@ module _ (name : List ℕ) (fr fw : ℕ) where
 
       pub words-direct : readsAs left size (plain Direct given) [] ≡ byIntegers (state (8 - k) (fr - F)) size
       unfolding reads
-      words-direct = rw (first, same-floats, behind) (in-words k (fr - F) 0 size (omega arith) some small)
+      words-direct = rw (first, same-floats, behind) (in-words k (fr - F) 0 0 size (omega arith) some small)
 
       pub words-pieces : readsAs left size (inPieces (cutSlots size 8) given) (cut size 8) ≡ byIntegers (state (8 - k) (fr - F)) size
       unfolding reads
-      words-pieces = rw (first, same-floats, behind) (in-words k (fr - F) (fr - F + 0) size (omega arith) some small)
+      words-pieces = rw (first, same-floats, behind) (in-words k (fr - F) (fr - F + 0) 0 size (omega arith) some small)
 
     -- the address of what is larger
     module _ (n k : ℕ) (there : n ≤ I) (behind : I - n ≡ k) (size : ℕ) (large : 16 < size) where
@@ -111,7 +111,7 @@ module _ (name : List ℕ) (fr fw : ℕ) where
           let e : 8 - I + n ≡ 8 = omega arith in
           let z : F - 0 - 0 ≡ F = omega arith in
           let i : 8 - (I - n - 0) ≡ 8 = omega arith in
-          rw (e, z, i) (on-stack (fr - F) (fr - F + 0) size some small)
+          rw (e, z, i) (on-stack (fr - F) (fr - F + 0) 0 size some small)
 
   -- ---- a named one
 

@@ -40,23 +40,23 @@ module _ (size : ℕ) where
 
 -- ---- as many registers as are left
 
-module _ (k f m size : ℕ) (few : k ≤ 8) where
+module _ (k f m h size : ℕ) (few : k ≤ 8) where
   abbrev pub InWords : Type 0
   InWords =
-      passing (parts (partsOf (8 - k) (min (wantOf size 8) k) m (cut size 8))) (state (8 - (k - min (wantOf size 8) k)) f) ≡ byIntegers (state (8 - k) f) size
+      passing (parts (partsOf (8 - k) (min (wantOf size 8) k) m h (cut size 8))) (state (8 - (k - min (wantOf size 8) k)) f) ≡ byIntegers (state (8 - k) f) size
 
-  module _ (l : 0 < size) (h : size ≤ 8) where
+  module _ (l : 0 < size) (s : size ≤ 8) where
     one-none : k ≤ 0 → InWords
     unfolding partsOf byIntegers
     one-none z =
         let e : 8 - (k - min 1 k) ≡ 8 - k = omega arith in
-        rw (want-one size h, cut-one size l h, le-leb size 8 h, le-ltb 0 (min 1 k) (omega arith), lt-leb (8 - k + 1) 8 (omega arith), e)
+        rw (want-one size s, cut-one size l s, le-leb size 8 s, le-ltb 0 (min 1 k) (omega arith), lt-leb (8 - k + 1) 8 (omega arith), e)
 
     one-left : 0 < k → InWords
     unfolding partsOf byIntegers
     one-left z =
         let e : 8 - (k - min 1 k) ≡ 8 - k + 1 = omega arith in
-        rw (want-one size h, cut-one size l h, le-leb size 8 h, lt-ltb 0 (min 1 k) (omega arith), le-leb (8 - k + 1) 8 (omega arith), e)
+        rw (want-one size s, cut-one size l s, le-leb size 8 s, lt-ltb 0 (min 1 k) (omega arith), le-leb (8 - k + 1) 8 (omega arith), e)
 
     pub one-word : InWords
     one-word = go (decLe k 0)
@@ -65,22 +65,22 @@ module _ (k f m size : ℕ) (few : k ≤ 8) where
         go (yes z) = one-none z
         go (no z) = one-left (omega arith)
 
-  module _ (l : 8 < size) (h : size ≤ 16) where
+  module _ (l : 8 < size) (s : size ≤ 16) where
     two-none : k ≤ 0 → InWords
     unfolding partsOf byIntegers
     two-none z =
         let e : 8 - (k - min 2 k) ≡ 8 - k = omega arith in
-        rw (want-two size l h, cut-two size l h, lt-leb size 8 l, le-leb size 16 h, le-ltb 0 (min 2 k) (omega arith), lt-leb (8 - k + 2) 8 (omega arith), lt-leb (8 - k + 1) 8 (omega arith), e)
+        rw (want-two size l s, cut-two size l s, lt-leb size 8 l, le-leb size 16 s, le-ltb 0 (min 2 k) (omega arith), lt-leb (8 - k + 2) 8 (omega arith), lt-leb (8 - k + 1) 8 (omega arith), e)
 
     two-one : k ≡ 1 → InWords
     unfolding partsOf byIntegers
-    two-one z = rw (want-two size l h, cut-two size l h, lt-leb size 8 l, le-leb size 16 h, z)
+    two-one z = rw (want-two size l s, cut-two size l s, lt-leb size 8 l, le-leb size 16 s, z)
 
     two-left : 2 ≤ k → InWords
     unfolding partsOf byIntegers
     two-left z =
         let e : 8 - (k - min 2 k) ≡ 8 - k + 2 = omega arith in
-        rw (want-two size l h, cut-two size l h, lt-leb size 8 l, le-leb size 16 h, lt-ltb 0 (min 2 k) (omega arith), lt-ltb 0 (min 2 k - 1) (omega arith), le-leb (8 - k + 2) 8 (omega arith), e)
+        rw (want-two size l s, cut-two size l s, lt-leb size 8 l, le-leb size 16 s, lt-ltb 0 (min 2 k) (omega arith), lt-ltb 0 (min 2 k - 1) (omega arith), le-leb (8 - k + 2) 8 (omega arith), e)
 
     pub two-words : InWords
     two-words = go (decLe k 0) (decLe k 1)
@@ -91,14 +91,14 @@ module _ (k f m size : ℕ) (few : k ≤ 8) where
         go (no z) (no y) = two-left (omega arith)
 
   pub in-words : 0 < size → size ≤ 16 → InWords
-  in-words l h = go (decLe size 8)
+  in-words l s = go (decLe size 8)
     where
       go : Dec (size ≤ 8) → InWords
       go (yes y) = one-word l y
-      go (no y) = two-words (omega arith) h
+      go (no y) = two-words (omega arith) s
 
 -- with none left
-pub on-stack : (f m size : ℕ) → 0 < size → size ≤ 16 → passing (parts (partsOf 8 0 m (cut size 8))) (state 8 f) ≡ byIntegers (state 8 f) size
-on-stack f m size l h =
+pub on-stack : (f m h size : ℕ) → 0 < size → size ≤ 16 → passing (parts (partsOf 8 0 m h (cut size 8))) (state 8 f) ≡ byIntegers (state 8 f) size
+on-stack f m h size l s =
     let g : min (wantOf size 8) 0 ≡ 0 = omega arith in
-    rw g at (in-words 0 f m size (omega arith) l h)
+    rw g at (in-words 0 f m h size (omega arith) l s)

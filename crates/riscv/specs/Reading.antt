@@ -3,7 +3,7 @@
 use Prim.Native.Nat.{ℕ, _+_, _-_}
 use mathlib.Core.List.{List, [], _∷_, map}
 use mathlib.Core.Bool.{cond}
-use lib.Dec.{ltb}
+use lib.Dec.{eqb, ltb}
 use lib.ListN.{getD}
 use Rattle.shape.specs.declared.Arg as args
 use Rattle.shape.specs.declared.Piece.{Piece}
@@ -50,13 +50,15 @@ valueOf (args.the-variants.Aggregate shape) ps = value (aggregate (shape .size) 
 abbrev pub formatBytes : ℕ → ℕ
 formatBytes kind = getD (0 ∷ 4 ∷ 8 ∷ 10 ∷ 16 ∷ []) kind 0
 
--- slots go to the next registers of their bank, in order, as many integer slots as were given one; the others are on the stack
-unfoldable pub partsOf : ℕ → ℕ → ℕ → List Slot → List Part
-partsOf n given m [] = []
-partsOf n given m (slot ∷ slots) =
-    cond (isFloat (slot .kind)) (part (fa m) (slot .offset) (formatBytes (slot .kind)) ∷ partsOf n given (m + 1) slots)
-    (cond (ltb 0 given) (part (a n) (slot .offset) (slot .size) ∷ partsOf (n + 1) (given - 1) m slots)
-    (part stack (slot .offset) (slot .size) ∷ partsOf n given m slots))
+-- slots go to the next registers of their bank, in order, as many as were given in it (`given` integers from a register n on, `held` floats from m on); the
+-- others are on the stack. A float slot has size 0: one of another size would hold nothing
+unfoldable pub partsOf : ℕ → ℕ → ℕ → ℕ → List Slot → List Part
+partsOf n given m held [] = []
+partsOf n given m held (slot ∷ slots) =
+    cond (isFloat (slot .kind))
+    (part (cond (ltb 0 held) (fa m) stack) (slot .offset) (cond (eqb (slot .size) 0) (formatBytes (slot .kind)) 0) ∷ partsOf n given (m + 1) (held - 1) slots)
+    (cond (ltb 0 given) (part (a n) (slot .offset) (slot .size) ∷ partsOf (n + 1) (given - 1) m held slots)
+    (part stack (slot .offset) (slot .size) ∷ partsOf n given m held slots))
 
 -- a value that has no slots goes in words
 abbrev pub wordsOf : ℕ → List Slot
@@ -76,7 +78,7 @@ module _ (B : Banks) where
   -- a scalar as it is: in the float register that it was given, or else in words
   abbrev directOf : ℕ → Left → Spent → List Part
   directOf size before spent =
-      cond (ltb 0 (spent .«floats_given»)) (part (fa (firstFloat before spent)) 0 size ∷ []) (partsOf (firstInteger before spent) (spent .«integers_given») 0 (wordsOf size))
+      cond (ltb 0 (spent .«floats_given»)) (part (fa (firstFloat before spent)) 0 size ∷ []) (partsOf (firstInteger before spent) (spent .«integers_given») 0 0 (wordsOf size))
 
   -- an address: in the integer register that was given for it, and on the stack if none was
   abbrev holderOf : Left → Spent → Holder
@@ -85,9 +87,9 @@ module _ (B : Banks) where
   abbrev pub placeOf : Way → ℕ → Left → Spent → List Slot → Place
   placeOf Ignore size before spent slots = ignored
   placeOf Direct size before spent slots = parts (directOf size before spent)
-  placeOf Pieces size before spent slots = parts (partsOf (firstInteger before spent) (spent .«integers_given») (firstFloat before spent) slots)
+  placeOf Pieces size before spent slots = parts (partsOf (firstInteger before spent) (spent .«integers_given») (firstFloat before spent) (spent .«floats_given») slots)
   placeOf Reference size before spent slots = address (holderOf before spent)
-  placeOf Memory size before spent slots = parts (partsOf (firstInteger before spent) 0 (firstFloat before spent) (wordsOf size))
+  placeOf Memory size before spent slots = parts (partsOf (firstInteger before spent) 0 (firstFloat before spent) 0 (wordsOf size))
 
   -- an argument of so many bytes, between what was left before and after it
   unfoldable pub reads : ℕ → Left → Way → Spent → List Slot → Left → Passing
