@@ -11,7 +11,7 @@ use Rattle.shape.specs.declared.Shape.{Shape}
 use Rattle.abis.specs.Abis.{described}
 use Rattle.classify.specs.Classify.{Passed, counts, argument, returns}
 use Rattle.aapcs64.specs.Aapcs64.{state, Passing, parameter, Returning, result}
-use Rattle.aapcs64.specs.Reading.{composite, mostNatural, readsPassed, readsReturned}
+use Rattle.aapcs64.specs.Reading.{composite, most_natural, reads_passed, reads_returned}
 
 abbrev pub shaped : ℕ → ℕ → Shape
 shaped size align = record { size = size; align = align; complex = false; floating = false }
@@ -28,24 +28,24 @@ abbrev pub on : Shape → List Piece → ℕ → ℕ → ℕ → Case
 on shape ps natural I F = record { shape = shape; pieces = ps; natural = natural; integers = I; floats = F }
 
 module _ (k : Case) where
-  abbrev pub rowArgument : Passed
-  rowArgument = argument (described 1) (counts k.integers k.floats) (Aggregate k.shape) k.pieces
+  abbrev pub row_argument : Passed
+  row_argument = argument (described 1) (counts k.integers k.floats) (Aggregate k.shape) k.pieces
 
-  abbrev pub rowResult : Passed
-  rowResult = returns (described 1) (counts k.integers k.floats) (Aggregate k.shape) k.pieces
+  abbrev pub row_result : Passed
+  row_result = returns (described 1) (counts k.integers k.floats) (Aggregate k.shape) k.pieces
 
-  abbrev pub standardArgument : Passing
-  standardArgument = parameter (state (8 - k.integers) (8 - k.floats)) (composite k.natural k.shape k.pieces)
+  abbrev pub standard_argument : Passing
+  standard_argument = parameter (state (8 - k.integers) (8 - k.floats)) (composite k.natural k.shape k.pieces)
 
-  abbrev pub standardResult : Returning
-  standardResult = result (state (8 - k.integers) (8 - k.floats)) (composite k.natural k.shape k.pieces)
+  abbrev pub standard_result : Returning
+  standard_result = result (state (8 - k.integers) (8 - k.floats)) (composite k.natural k.shape k.pieces)
 
-  -- what `argument-is-aapcs64` and `returns-is-aapcs64` say of it, and what they ask beside the domain
+  -- what `argument_is_aapcs64` and `returns_is_aapcs64` say of it, and what they ask beside the domain
   abbrev pub Same : Type 0
-  Same = readsPassed (counts k.integers k.floats) rowArgument ≡ some standardArgument
+  Same = reads_passed (counts k.integers k.floats) row_argument ≡ some standard_argument
 
   abbrev pub SameResult : Type 0
-  SameResult = readsReturned (described 1).return_pointer rowResult ≡ some standardResult
+  SameResult = reads_returned (described 1).return_pointer row_result ≡ some standard_result
 
   abbrev pub Allowed : Type 0
-  Allowed = leb k.natural (mostNatural k.shape k.pieces) && leb k.integers 8 && leb k.floats 8 ≡ true
+  Allowed = leb k.natural (most_natural k.shape k.pieces) && leb k.integers 8 && leb k.floats 8 ≡ true

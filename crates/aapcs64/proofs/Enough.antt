@@ -8,24 +8,24 @@ use lib.Dec.{leb}
 use Rattle.shape.specs.declared.Piece.{Piece}
 use Rattle.shape.specs.declared.Shape.{Shape}
 use Rattle.shape.specs.Lists.{every}
-use Rattle.shape.specs.Spans.{inOrder, apart}
-use Rattle.aapcs64.specs.Domain.{isUsual, Domain}
+use Rattle.shape.specs.Spans.{in_order, apart}
+use Rattle.aapcs64.specs.Domain.{is_usual, Domain}
 
 pub record Enough (shape : Shape) (ps : List Piece) : Type 0 where
   pub some : 0 < shape.size
-  pub shape-align : shape.align ≤ 8
+  pub shape_align : shape.align ≤ 8
   pub aligns : every (λ (p : Piece). leb p.align 8) ps ≡ true
-  pub usual : every isUsual ps ≡ true
-  pub order : inOrder ps ≡ true
-  pub no-overlap : apart ps ≡ true
+  pub usual : every is_usual ps ≡ true
+  pub order : in_order ps ≡ true
+  pub no_overlap : apart ps ≡ true
 
 pub enough : (shape : Shape) (ps : List Piece) → Domain shape ps → Enough shape ps
 enough shape ps d =
     record {
       some = d.some;
-      shape-align = d.shape-align;
+      shape_align = d.shape_align;
       aligns = d.aligns;
       usual = d.usual;
       order = d.order;
-      no-overlap = d.no-overlap;
+      no_overlap = d.no_overlap;
     }

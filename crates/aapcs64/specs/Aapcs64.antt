@@ -64,11 +64,11 @@ unfoldable pub count : Composite → ℕ
 count c = length (addressable c.members)
 
 -- the members are all of one floating-point type, one to four of them, and the size is that many times the type's
-unfoldable pub isHfaOf : Precision → Composite → Bool
-isHfaOf p c = all_of p c.members && (leb 1 (count c) && leb (count c) 4) && eqb c.size (count c * bytes_of p)
+unfoldable pub is_hfa_of : Precision → Composite → Bool
+is_hfa_of p c = all_of p c.members && (leb 1 (count c) && leb (count c) 4) && eqb c.size (count c * bytes_of p)
 
-unfoldable pub isHfa : Composite → Bool
-isHfa c = isHfaOf half c || isHfaOf single c || isHfaOf double c || isHfaOf quad c
+unfoldable pub is_hfa : Composite → Bool
+is_hfa c = is_hfa_of half c || is_hfa_of single c || is_hfa_of double c || is_hfa_of quad c
 
 -- ---- where a value is
 
@@ -91,7 +91,7 @@ pub data Place : Type 0 where
   registers : List Part → Place
   stack : Place
   copy : Register → Place
-  copyOnStack : Place
+  copy_on_stack : Place
 
 -- the numbers of the next general-purpose register and of the next SIMD and floating-point register
 pub record State : Type 0 where
@@ -111,8 +111,8 @@ passing p s = record { place = p; next = s }
 
 -- ---- stage A
 
-abbrev pub stageA : State
-stageA = state 0 0
+abbrev pub stage_a : State
+stage_a = state 0 0
 
 -- ---- stage B
 
@@ -125,8 +125,8 @@ pub data Argument : Type 0 where
   rounded : Composite → Argument
 
 -- an HFA is used unmodified; any other composite larger than 16 bytes is copied, and its address passed; any other is rounded up
-abbrev pub stageB : Composite → Argument
-stageB c = cond (isHfa c) (hfa c) (cond (ltb 16 c.size) address (rounded c))
+abbrev pub stage_b : Composite → Argument
+stage_b c = cond (is_hfa c) (hfa c) (cond (ltb 16 c.size) address (rounded c))
 
 -- how many doublewords a rounded composite has
 abbrev pub doublewords : Composite → ℕ
@@ -139,14 +139,14 @@ alignment c = cond (leb c.natural 8) 8 16
 -- ---- stage C
 
 -- a v register for each member of an HFA, from this number on
-unfoldable pub memberParts : ℕ → List Member → List Part
-memberParts n [] = []
-memberParts n (m ∷ ms) = part (v n) m.offset (size_of m.type) ∷ memberParts (n + 1) ms
+unfoldable pub member_parts : ℕ → List Member → List Part
+member_parts n [] = []
+member_parts n (m ∷ ms) = part (v n) m.offset (size_of m.type) ∷ member_parts (n + 1) ms
 
 -- an x register for each of so many doublewords from an offset on: the last has what is left of the size, and padding
-unfoldable pub wordParts : ℕ → ℕ → ℕ → ℕ → List Part
-wordParts n size offset zero = []
-wordParts n size offset (suc k) = part (x n) offset (min (size - offset) 8) ∷ wordParts (n + 1) size (offset + 8) k
+unfoldable pub word_parts : ℕ → ℕ → ℕ → ℕ → List Part
+word_parts n size offset zero = []
+word_parts n size offset (suc k) = part (x n) offset (min (size - offset) 8) ∷ word_parts (n + 1) size (offset + 8) k
 
 -- the rules by number. C.3, C.10 and C.13 change the state; the others place the argument, or leave it to what comes after
 module _ (s : State) where
@@ -159,7 +159,7 @@ module _ (s : State) where
   abbrev pub C2 : Composite → Passing → Passing
   C2 c after =
       cond (leb (s.NSRN + count c) 8)
-      (passing (registers (memberParts s.NSRN (addressable c.members))) (state s.NGRN (s.NSRN + count c)))
+      (passing (registers (member_parts s.NSRN (addressable c.members))) (state s.NGRN (s.NSRN + count c)))
       after
 
   -- an HFA otherwise: NSRN becomes 8
@@ -189,7 +189,7 @@ module _ (s : State) where
   abbrev pub C12 : Composite → Passing → Passing
   C12 c after =
       cond (leb (s.NGRN + doublewords c) 8)
-      (passing (registers (wordParts s.NGRN c.size 0 (doublewords c))) (state (s.NGRN + doublewords c) s.NSRN))
+      (passing (registers (word_parts s.NGRN c.size 0 (doublewords c))) (state (s.NGRN + doublewords c) s.NSRN))
       after
 
   -- NGRN becomes 8
@@ -205,28 +205,28 @@ module _ (s : State) where
   C17 there = passing there s
 
 -- an integer of 16 bytes is aligned to 16
-abbrev pub wideInteger : State → Passing
-wideInteger s = let even : State = C10 s 16 in C11 even (C17 (C13 even) stack)
+abbrev pub wide_integer : State → Passing
+wide_integer s = let even : State = C10 s 16 in C11 even (C17 (C13 even) stack)
 
 -- the rules that an argument comes to, in their order
-unfoldable pub stageC : State → Argument → Passing
-stageC s (fundamental (floating p)) = C1 s p (C6 s)
-stageC s (fundamental (integral n)) =
-    cond (leb n 8) (C9 s (registers (part (x s.NGRN) 0 n ∷ [])) (C17 (C13 s) stack)) (wideInteger s)
-stageC s (hfa c) = C2 s c (C6 (C3 s))
-stageC s address = C9 s (copy (x s.NGRN)) (C17 (C13 s) copyOnStack)
-stageC s (rounded c) = let even : State = C10 s (alignment c) in C12 even c (C15 (C13 even))
+unfoldable pub stage_c : State → Argument → Passing
+stage_c s (fundamental (floating p)) = C1 s p (C6 s)
+stage_c s (fundamental (integral n)) =
+    cond (leb n 8) (C9 s (registers (part (x s.NGRN) 0 n ∷ [])) (C17 (C13 s) stack)) (wide_integer s)
+stage_c s (hfa c) = C2 s c (C6 (C3 s))
+stage_c s address = C9 s (copy (x s.NGRN)) (C17 (C13 s) copy_on_stack)
+stage_c s (rounded c) = let even : State = C10 s (alignment c) in C12 even c (C15 (C13 even))
 
 -- an argument of a composite type
 unfoldable pub parameter : State → Composite → Passing
-parameter s c = stageC s (stageB c)
+parameter s c = stage_c s (stage_b c)
 
 -- ---- 6.9, results
 
 -- in these registers, or in memory whose address the caller passes in x8
 pub data Result : Type 0 where
   comes : List Part → Result
-  throughX8 : Result
+  through_x8 : Result
 
 -- where a result comes back, and the state for the next argument
 pub record Returning : Type 0 where
@@ -237,12 +237,12 @@ abbrev pub returning : Result → State → Returning
 returning r s = record { result = r; next = s }
 
 -- in the registers in which an argument would be passed as a value; otherwise through x8, which is no argument register
-abbrev pub comesFrom : State → Place → Returning
-comesFrom s (registers parts) = returning (comes parts) s
-comesFrom s stack = returning throughX8 s
-comesFrom s (copy r) = returning throughX8 s
-comesFrom s copyOnStack = returning throughX8 s
+abbrev pub comes_from : State → Place → Returning
+comes_from s (registers parts) = returning (comes parts) s
+comes_from s stack = returning through_x8 s
+comes_from s (copy r) = returning through_x8 s
+comes_from s copy_on_stack = returning through_x8 s
 
 -- an argument that starts from v0 or x0
 unfoldable pub result : State → Composite → Returning
-result s c = comesFrom s (parameter stageA c).place
+result s c = comes_from s (parameter stage_a c).place

@@ -4,23 +4,23 @@ use Rattle.shape.specs.declared.Piece.{Piece}
 use Rattle.shape.specs.declared.Shape.{Shape}
 use Rattle.shape.specs.Lists.{every, any}
 use Rattle.shape.specs.Numbers.{integer, single, double}
-use Rattle.shape.specs.Spans.{spanEnd, inOrder, apart}
+use Rattle.shape.specs.Spans.{span_end, in_order, apart}
 
 -- floats only Single, of size and alignment 4, and Double, of size and alignment 8
 abbrev pub is_scalar : ℕ → ℕ → Piece → Bool
 is_scalar kind size p = eqb p.kind kind && eqb p.size size && eqb p.align size
 
-abbrev pub isUsual : Piece → Bool
-isUsual p = eqb p.kind integer || is_scalar single 4 p || is_scalar double 8 p
+abbrev pub is_usual : Piece → Bool
+is_usual p = eqb p.kind integer || is_scalar single 4 p || is_scalar double 8 p
 
 -- where the pieces end
 unfoldable pub furthest : List Piece → ℕ
 furthest [] = 0
-furthest (p ∷ ps) = max (spanEnd p) (furthest ps)
+furthest (p ∷ ps) = max (span_end p) (furthest ps)
 
 -- every byte up to there is a piece's
 abbrev pub holds : ℕ → Piece → Bool
-holds byte p = leb p.offset byte && ltb byte (spanEnd p)
+holds byte p = leb p.offset byte && ltb byte (span_end p)
 
 unfoldable pub below : ℕ → (ℕ → Bool) → Bool
 below zero f = true
@@ -33,17 +33,17 @@ pub record Domain (shape : Shape) (ps : List Piece) : Type 0 where
   -- of size above 0
   pub some : 0 < shape.size
   -- the shape's alignment at most 8
-  pub shape-align : shape.align ≤ 8
+  pub shape_align : shape.align ≤ 8
   -- all pieces' alignments at most 8
   pub aligns : every (λ (p : Piece). leb p.align 8) ps ≡ true
   -- floats only Single (size and alignment 4) and Double (8)
-  pub usual : every isUsual ps ≡ true
+  pub usual : every is_usual ps ≡ true
   -- pieces of nonzero size
   pub sizes : every (λ (p : Piece). ltb 0 p.size) ps ≡ true
   -- in offset order
-  pub order : inOrder ps ≡ true
+  pub order : in_order ps ≡ true
   -- without overlap
-  pub no-overlap : apart ps ≡ true
+  pub no_overlap : apart ps ≡ true
   -- or holes
   pub no_holes : covered ps ≡ true
   -- ending at the size

@@ -5,7 +5,7 @@ use Rattle.std.proofs.Math.Option.{Option}
 use Rattle.std.proofs.Math.Option.Option.{none, some}
 use Rattle.shape.specs.declared.Piece.{Piece}
 use Rattle.shape.specs.declared.Shape.{Shape}
-use Rattle.shape.specs.Questions.{is_float, formatBytes}
+use Rattle.shape.specs.Questions.{is_float, format_bytes}
 use Rattle.slots.specs.declared.Slot.{Slot}
 use Rattle.describe.specs.declared.ReturnPointer.{ReturnPointer}
 use Rattle.describe.specs.declared.ReturnPointer.TheVariants.{FirstArgument, FirstArgumentPopped, Dedicated}
@@ -13,9 +13,9 @@ use Rattle.spend.specs.declared.Left.{Left}
 use Rattle.spend.specs.declared.Way.{Way}
 use Rattle.spend.specs.Ways.{marked}
 use Rattle.spend.specs.declared.Way.TheVariants.{Ignore, Direct, Pieces, Reference, Memory}
-use Rattle.classify.specs.Pass.{way_of, passSlots}
+use Rattle.classify.specs.Pass.{way_of, pass_slots}
 use Rattle.classify.specs.Classify.{Passed}
-use Rattle.aapcs64.specs.Aapcs64.{Fundamental, integral, floating, single, double, quad, Member, Composite, v, x, Part, part, Place, registers, stack, copy, copyOnStack, State, state, Passing, passing, Result, comes, throughX8, Returning, returning}
+use Rattle.aapcs64.specs.Aapcs64.{Fundamental, integral, floating, single, double, quad, Member, Composite, v, x, Part, part, Place, registers, stack, copy, copy_on_stack, State, state, Passing, passing, Result, comes, through_x8, Returning, returning}
 
 -- ---- shapes
 
@@ -24,20 +24,20 @@ abbrev pub type_of : ℕ → ℕ → Fundamental
 type_of kind size =
     get_or (integral size ∷ floating single ∷ floating double ∷ integral size ∷ floating quad ∷ []) kind (integral size)
 
-abbrev pub memberOf : Piece → Member
-memberOf p = record { type = type_of p.kind p.size; offset = p.offset }
+abbrev pub member_of : Piece → Member
+member_of p = record { type = type_of p.kind p.size; offset = p.offset }
 
 abbrev pub composite : ℕ → Shape → List Piece → Composite
-composite natural shape ps = record { members = map memberOf ps; size = shape.size; natural = natural }
+composite natural shape ps = record { members = map member_of ps; size = shape.size; natural = natural }
 
 -- the natural alignment isn't told by a shape and its pieces: it counts what a composite inside was given, and not what the whole was given. It is
 -- no more than the largest alignment among them, and the theorem is of every number up to that
-unfoldable pub mostAlign : List Piece → ℕ
-mostAlign [] = 0
-mostAlign (p ∷ ps) = max p.align (mostAlign ps)
+unfoldable pub most_align : List Piece → ℕ
+most_align [] = 0
+most_align (p ∷ ps) = max p.align (most_align ps)
 
-abbrev pub mostNatural : Shape → List Piece → ℕ
-mostNatural shape ps = max shape.align (mostAlign ps)
+abbrev pub most_natural : Shape → List Piece → ℕ
+most_natural shape ps = max shape.align (most_align ps)
 
 -- ---- answers
 
@@ -50,13 +50,13 @@ unfoldable pub parts_of : ℕ → ℕ → List Slot → List Part
 parts_of n s [] = []
 parts_of n s (slot ∷ slots) =
     cond (is_float slot.kind)
-    (part (v s) slot.offset (cond (eqb slot.size 0) (formatBytes slot.kind) 0) ∷ parts_of n (s + 1) slots)
+    (part (v s) slot.offset (cond (eqb slot.size 0) (format_bytes slot.kind) 0) ∷ parts_of n (s + 1) slots)
     (part (x n) slot.offset slot.size ∷ parts_of (n + 1) s slots)
 
 -- an address goes in the integer register that was given for it, and on the stack if none was
 abbrev pub copy_of : Left → Left → Place
 copy_of before after =
-    cond (ltb after.integer before.integer) (copy (x (8 - before.integer))) copyOnStack
+    cond (ltb after.integer before.integer) (copy (x (8 - before.integer))) copy_on_stack
 
 -- the standard leaves no aggregate out and passes none as a scalar: Ignore and Direct say nothing in its terms, nor does a call with the
 -- integers-only mark
@@ -75,20 +75,20 @@ passing_of (some place) after = cond (marked after) none (some (passing place (s
 unfoldable pub reads : Left → Way → List Slot → Left → Option Passing
 reads before way slots after = passing_of (place_of way before slots after) after
 
-abbrev pub readsPassed : Left → Passed → Option Passing
-readsPassed before p = reads before (way_of p.pass) (passSlots p.pass) p.left
+abbrev pub reads_passed : Left → Passed → Option Passing
+reads_passed before p = reads before (way_of p.pass) (pass_slots p.pass) p.left
 
 -- a result comes back in the first registers of each bank, or at an address that goes where the description says
-abbrev pub addressedBy : ReturnPointer → Option Result
-addressedBy FirstArgument = none
-addressedBy FirstArgumentPopped = none
-addressedBy Dedicated = some throughX8
+abbrev pub addressed_by : ReturnPointer → Option Result
+addressed_by FirstArgument = none
+addressed_by FirstArgumentPopped = none
+addressed_by Dedicated = some through_x8
 
 abbrev pub result_by : Way → ReturnPointer → List Slot → Option Result
 result_by Ignore pointer slots = none
 result_by Direct pointer slots = none
 result_by Pieces pointer slots = some (comes (parts_of 0 0 slots))
-result_by Reference pointer slots = addressedBy pointer
+result_by Reference pointer slots = addressed_by pointer
 result_by Memory pointer slots = none
 
 abbrev pub returning_of : Option Result → Left → Option Returning
@@ -96,8 +96,8 @@ returning_of none after = none
 returning_of (some result) after = cond (marked after) none (some (returning result (state_of after)))
 
 -- a result's way and slots, with what is left after it
-unfoldable pub readsResult : ReturnPointer → Way → List Slot → Left → Option Returning
-readsResult pointer way slots after = returning_of (result_by way pointer slots) after
+unfoldable pub reads_result : ReturnPointer → Way → List Slot → Left → Option Returning
+reads_result pointer way slots after = returning_of (result_by way pointer slots) after
 
-abbrev pub readsReturned : ReturnPointer → Passed → Option Returning
-readsReturned pointer p = readsResult pointer (way_of p.pass) (passSlots p.pass) p.left
+abbrev pub reads_returned : ReturnPointer → Passed → Option Returning
+reads_returned pointer p = reads_result pointer (way_of p.pass) (pass_slots p.pass) p.left

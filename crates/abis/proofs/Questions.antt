@@ -5,21 +5,21 @@ use Prim.Native.Nat.{ℕ}
 use borrow.Author.Tests.{eq-eqb, ne_eqb}
 use Rattle.abis.specs.declared.Asked.{Asked}
 use Rattle.abis.specs.declared.AskedFormat.{AskedFormat}
-use Rattle.abis.specs.Answers.{askedYes, askedFormat}
+use Rattle.abis.specs.Answers.{asked_yes, asked_format}
 
 module _ (refusal r : ℕ) (found : r ≡ refusal) where
-  pub answered : (answer a : Bool) → r ≡ 0 → a ≡ answer → ◌≡◌ {A = Asked} (record { refusal = 0; answer = a }) (askedYes refusal answer)
-  unfolding askedYes
+  pub answered : (answer a : Bool) → r ≡ 0 → a ≡ answer → ◌≡◌ {A = Asked} (record { refusal = 0; answer = a }) (asked_yes refusal answer)
+  unfolding asked_yes
   answered answer a h e = rw (← found, eq-eqb r 0 h, e)
 
-  pub refused : (answer : Bool) → (r ≡ 0 → ⊥) → ◌≡◌ {A = Asked} (record { refusal = r; answer = false }) (askedYes refusal answer)
-  unfolding askedYes
+  pub refused : (answer : Bool) → (r ≡ 0 → ⊥) → ◌≡◌ {A = Asked} (record { refusal = r; answer = false }) (asked_yes refusal answer)
+  unfolding asked_yes
   refused answer h = rw (← found, ne_eqb r 0 h)
 
-  pub answered-format : (format f : ℕ) → r ≡ 0 → f ≡ format → ◌≡◌ {A = AskedFormat} (record { refusal = 0; format = f }) (askedFormat refusal format)
-  unfolding askedFormat
-  answered-format format f h e = rw (← found, eq-eqb r 0 h, e)
+  pub answered_format : (format f : ℕ) → r ≡ 0 → f ≡ format → ◌≡◌ {A = AskedFormat} (record { refusal = 0; format = f }) (asked_format refusal format)
+  unfolding asked_format
+  answered_format format f h e = rw (← found, eq-eqb r 0 h, e)
 
-  pub refused-format : (format : ℕ) → (r ≡ 0 → ⊥) → ◌≡◌ {A = AskedFormat} (record { refusal = r; format = 0 }) (askedFormat refusal format)
-  unfolding askedFormat
-  refused-format format h = rw (← found, ne_eqb r 0 h)
+  pub refused_format : (format : ℕ) → (r ≡ 0 → ⊥) → ◌≡◌ {A = AskedFormat} (record { refusal = r; format = 0 }) (asked_format refusal format)
+  unfolding asked_format
+  refused_format format h = rw (← found, ne_eqb r 0 h)

@@ -1,7 +1,7 @@
 -- The descriptions (REFERENCE 5.5), in the order of their numbers: thirty that the Rust has, and behind them three that it hasn't. What several share is written once. Comments say why a
 -- description is as it is; where compilers or a standard part from it, docs/COMPILERS.md and docs/DIFFERENCES.md say so.
 use Rattle.std.specs.Prelude.{ℕ, Bool, true, false, List, [], ◌∷◌, get_or}
-use Rattle.shape.specs.Numbers.{integer, x87-extended, quad}
+use Rattle.shape.specs.Numbers.{integer, x87_extended, quad}
 use Rattle.describe.specs.declared.Rule.{Rule}
 use Rattle.describe.specs.declared.Test.TheVariants.{Anything, Empty, SizeOneOf, SizeAtMost, Homogeneous, FloatPair, X87Stack, LoneFloat, FloatingMode, ComplexFloat, Eightbytes}
 use Rattle.describe.specs.declared.Travel.TheVariants.{Ignore, AsFound, AsIntegers, AsOneInteger, ByReference, InMemory, InMemoryAndSpend}
@@ -17,7 +17,7 @@ use Rattle.describe.specs.declared.Narrow.TheVariants.{Unspecified, ToInt, ArgsT
 use Rattle.describe.specs.declared.BitInts.TheVariants.{SpareBits, Untaught}
 use Rattle.describe.specs.declared.Cleanup.{Cleanup}
 use Rattle.describe.specs.declared.Cleanup.TheVariants.{Caller, Callee}
-use Rattle.describe.specs.Description.{Description, rule, ruleShort}
+use Rattle.describe.specs.Description.{Description, rule, rule_short}
 use Rattle.text.specs.Text.{bytes}
 
 -- A format is the kind of a piece that has it; no format is the one kind that is no float's.
@@ -27,14 +27,14 @@ none = integer
 -- SysV AMD64: x86-64 but for Windows. An eightbyte goes in one register, so one integer in it takes the float beside it along. The limit
 -- is two eightbytes: of more, only a value whose every later eightbyte is an upper half goes in registers, and that is a vector alone.
 
-abbrev pub sysv-amd64 : Description
-sysv-amd64 =
+abbrev pub sysv_amd64 : Description
+sysv_amd64 =
     record {
       name = bytes "SysV AMD64";
       banks = record { integer = 6; float = 8; shared = false; integer_width = 8; float_width = 16 };
       scalars = record {
         -- No register takes an x87 value as an argument.
-        in_memory = x87-extended;
+        in_memory = x87_extended;
         -- Half a value would take a register that a later argument could use whole.
         wide_integer_is_all_or_nothing = true;
         wide_integer_starts_even = false;
@@ -50,7 +50,7 @@ sysv-amd64 =
       returns = rule Empty Ignore ∷ rule X87Stack AsFound ∷ rule (Eightbytes 16) AsFound ∷ rule Anything ByReference ∷ [];
       -- One that doesn't fit leaves the registers to later arguments that do: psABI 3.2.3 frees what it had been assigned. AAPCS64
       -- drains instead.
-      arguments = rule Empty Ignore ∷ ruleShort (Eightbytes 16) AsFound Memory ∷ rule Anything InMemory ∷ [];
+      arguments = rule Empty Ignore ∷ rule_short (Eightbytes 16) AsFound Memory ∷ rule Anything InMemory ∷ [];
       return_pointer = FirstArgument;
       -- The callee keeps both banks in its register save area (3.5.7), so an argument after the dots needs no other place.
       variadic = SameAsFixed;
@@ -66,8 +66,8 @@ sysv-amd64 =
 -- sends arguments after the dots to memory, packs stack arguments and extends narrow integers; Windows' differs after the dots.
 -- Up to four equal floats and nothing else go in float registers, a register each; any other aggregate up to 16 bytes in integer ones.
 
-abbrev aapcs64With : List ℕ → Bool → Variadic → StackArgs → Narrow → Description
-aapcs64With name starts-even variadic stack-args narrow =
+abbrev aapcs64_with : List ℕ → Bool → Variadic → StackArgs → Narrow → Description
+aapcs64_with name starts-even variadic stack-args narrow =
     record {
       name = name;
       banks = record { integer = 8; float = 8; shared = false; integer_width = 8; float_width = 16 };
@@ -88,8 +88,8 @@ aapcs64With name starts-even variadic stack-args narrow =
       -- hole. So the ninth argument isn't classified as the first is.
       arguments =
           rule Empty Ignore
-          ∷ ruleShort (Homogeneous 4) AsFound MemoryAndDrain
-          ∷ ruleShort (SizeAtMost 16) AsIntegers MemoryAndDrain
+          ∷ rule_short (Homogeneous 4) AsFound MemoryAndDrain
+          ∷ rule_short (SizeAtMost 16) AsIntegers MemoryAndDrain
           ∷ rule Anything ByReference
           ∷ [];
       -- x8, which is no argument register: all eight stay for what the function is called with.
@@ -105,19 +105,19 @@ aapcs64With name starts-even variadic stack-args narrow =
 -- C.10 rounds up to an even register for an alignment of 16: a 16-byte integer behind an int is in x2 and x3, and x1 stays empty. The
 -- document leaves the bits above a narrow integer open.
 abbrev pub aapcs64 : Description
-aapcs64 = aapcs64With (bytes "AAPCS64") true SameAsFixed RegisterSized Unspecified
+aapcs64 = aapcs64_with (bytes "AAPCS64") true SameAsFixed RegisterSized Unspecified
 
 -- Apple's choices, as clang for its targets has them. A 16-byte integer behind an int is in x1 and x2. With everything after the dots in
 -- memory, a function with dots can't be called without its prototype: printf prints garbage then. Whoever takes a word for each packed
 -- argument finds garbage from the ninth on. clang's callees and callers rely on narrow integers being extended.
-abbrev pub darwin-arm64 : Description
-darwin-arm64 = aapcs64With (bytes "Darwin arm64") false AlwaysMemory Packed ToInt
+abbrev pub darwin_arm64 : Description
+darwin_arm64 = aapcs64_with (bytes "Darwin arm64") false AlwaysMemory Packed ToInt
 
 -- The callee of a function with dots stores x0 to x7 right below the arguments in memory and walks the whole run with one pointer: so
 -- every argument has to be in that run, named floats too. A record isn't split between x7 and the stack, though Microsoft's document
 -- allows it: clang doesn't split it.
-abbrev pub windows-arm64 : Description
-windows-arm64 = aapcs64With (bytes "Windows arm64") true IntegersOnly RegisterSized Unspecified
+abbrev pub windows_arm64 : Description
+windows_arm64 = aapcs64_with (bytes "Windows arm64") true IntegersOnly RegisterSized Unspecified
 
 -- Windows x64. Its one rule goes by the size of the object, whatever is in it: 1, 2, 4 or 8 bytes are an integer of that size, two floats
 -- too, and anything else is the address of a copy, 3 bytes as well as 300.
@@ -160,8 +160,8 @@ win64 =
 
 -- RISC-V LP64D. A record of one or two floats goes in float registers, one of a float and an integer in one register of each bank.
 
-abbrev pub riscv-lp64d : Description
-riscv-lp64d =
+abbrev pub riscv_lp64d : Description
+riscv_lp64d =
     record {
       name = bytes "RISC-V LP64D";
       -- A float register has 8 bytes, so a long double of 16 goes by integers and is no float to FloatPair.
@@ -183,8 +183,8 @@ riscv-lp64d =
       -- Rust's; the psABI and compilers split such a record between a7 and the stack (DIFFERENCES).
       arguments =
           rule Empty Ignore
-          ∷ ruleShort FloatPair AsFound TryNextRule
-          ∷ ruleShort (SizeAtMost 16) AsIntegers MemoryAndDrain
+          ∷ rule_short FloatPair AsFound TryNextRule
+          ∷ rule_short (SizeAtMost 16) AsIntegers MemoryAndDrain
           ∷ rule Anything ByReference
           ∷ [];
       return_pointer = FirstArgument;
@@ -261,7 +261,7 @@ regparm n =
       wide_integer_is_all_or_nothing = true;
       wide_integer_drains = true;
       wide_integer_in_memory = false;
-      arguments = rule Empty Ignore ∷ rule LoneFloat InMemory ∷ ruleShort Anything AsIntegers MemoryAndDrain ∷ [];
+      arguments = rule Empty Ignore ∷ rule LoneFloat InMemory ∷ rule_short Anything AsIntegers MemoryAndDrain ∷ [];
     }
 
 -- ecx and edx, for integers of a word at most; the rest is what gcc was seen to do. A wider integer is on the stack and takes both along.
@@ -281,114 +281,114 @@ fastcall =
 -- its size alone.
 
 -- On Linux every structure comes back in memory. A complex float is none: gcc has it in edx:eax, and libgcc's __mulsc3 answers so.
-abbrev sysv-returns : List Rule
-sysv-returns = rule Empty Ignore ∷ rule ComplexFloat AsIntegers ∷ rule Anything ByReference ∷ []
+abbrev sysv_returns : List Rule
+sysv_returns = rule Empty Ignore ∷ rule ComplexFloat AsIntegers ∷ rule Anything ByReference ∷ []
 
 -- gcc's rule: what has a machine mode comes back in a register. 1, 2, 4 and 8 bytes have an integer's, a record of one float or double
 -- has the float's, in st0. It is mingw's default, and -freg-struct-return elsewhere: the Linux kernel is built with it, where page table
 -- entries are records of a word.
-abbrev reg-struct-returns : List Rule
-reg-struct-returns =
+abbrev reg_struct_returns : List Rule
+reg_struct_returns =
     rule Empty Ignore ∷ rule LoneFloat AsFound ∷ rule (SizeOneOf 4 1 2 4 8) AsIntegers ∷ rule Anything ByReference ∷ []
 
 -- To Microsoft's compiler a record of one float is a record like any other.
-abbrev msvc-returns : List Rule
-msvc-returns = rule Empty Ignore ∷ rule (SizeOneOf 4 1 2 4 8) AsIntegers ∷ rule Anything ByReference ∷ []
+abbrev msvc_returns : List Rule
+msvc_returns = rule Empty Ignore ∷ rule (SizeOneOf 4 1 2 4 8) AsIntegers ∷ rule Anything ByReference ∷ []
 
 -- The callee takes the address of a result off the stack (ret $4), and the caller has to know: its stack is a word shorter then.
-abbrev pub i386-sysv : Description
-i386-sysv = i386 cdecl (bytes "i386 SysV") sysv-returns FirstArgumentPopped Caller
+abbrev pub i386_sysv : Description
+i386_sysv = i386 cdecl (bytes "i386 SysV") sysv_returns FirstArgumentPopped Caller
 
 -- With regparm the address of a result is in eax: nothing is on the stack to be popped.
-abbrev pub i386-sysv-regparm-1 : Description
-i386-sysv-regparm-1 = i386 (regparm 1) (bytes "i386 SysV regparm(1)") sysv-returns FirstArgument Caller
+abbrev pub i386_sysv_regparm_1 : Description
+i386_sysv_regparm_1 = i386 (regparm 1) (bytes "i386 SysV regparm(1)") sysv_returns FirstArgument Caller
 
-abbrev pub i386-sysv-regparm-2 : Description
-i386-sysv-regparm-2 = i386 (regparm 2) (bytes "i386 SysV regparm(2)") sysv-returns FirstArgument Caller
+abbrev pub i386_sysv_regparm_2 : Description
+i386_sysv_regparm_2 = i386 (regparm 2) (bytes "i386 SysV regparm(2)") sysv_returns FirstArgument Caller
 
-abbrev pub i386-sysv-regparm-3 : Description
-i386-sysv-regparm-3 = i386 (regparm 3) (bytes "i386 SysV regparm(3)") sysv-returns FirstArgument Caller
+abbrev pub i386_sysv_regparm_3 : Description
+i386_sysv_regparm_3 = i386 (regparm 3) (bytes "i386 SysV regparm(3)") sysv_returns FirstArgument Caller
 
-abbrev pub i386-sysv-reg-struct : Description
-i386-sysv-reg-struct = i386 cdecl (bytes "i386 SysV -freg-struct-return") reg-struct-returns FirstArgumentPopped Caller
+abbrev pub i386_sysv_reg_struct : Description
+i386_sysv_reg_struct = i386 cdecl (bytes "i386 SysV -freg-struct-return") reg_struct_returns FirstArgumentPopped Caller
 
-abbrev pub i386-sysv-regparm-1-reg-struct : Description
-i386-sysv-regparm-1-reg-struct =
-    i386 (regparm 1) (bytes "i386 SysV regparm(1) -freg-struct-return") reg-struct-returns FirstArgument Caller
+abbrev pub i386_sysv_regparm_1_reg_struct : Description
+i386_sysv_regparm_1_reg_struct =
+    i386 (regparm 1) (bytes "i386 SysV regparm(1) -freg-struct-return") reg_struct_returns FirstArgument Caller
 
-abbrev pub i386-sysv-regparm-2-reg-struct : Description
-i386-sysv-regparm-2-reg-struct =
-    i386 (regparm 2) (bytes "i386 SysV regparm(2) -freg-struct-return") reg-struct-returns FirstArgument Caller
+abbrev pub i386_sysv_regparm_2_reg_struct : Description
+i386_sysv_regparm_2_reg_struct =
+    i386 (regparm 2) (bytes "i386 SysV regparm(2) -freg-struct-return") reg_struct_returns FirstArgument Caller
 
-abbrev pub i386-sysv-regparm-3-reg-struct : Description
-i386-sysv-regparm-3-reg-struct =
-    i386 (regparm 3) (bytes "i386 SysV regparm(3) -freg-struct-return") reg-struct-returns FirstArgument Caller
+abbrev pub i386_sysv_regparm_3_reg_struct : Description
+i386_sysv_regparm_3_reg_struct =
+    i386 (regparm 3) (bytes "i386 SysV regparm(3) -freg-struct-return") reg_struct_returns FirstArgument Caller
 
 -- The callee takes the whole argument area off (ret $n), the address of a result with it: that isn't popped apart.
-abbrev pub i386-sysv-stdcall : Description
-i386-sysv-stdcall = i386 cdecl (bytes "i386 SysV stdcall") sysv-returns FirstArgument Callee
+abbrev pub i386_sysv_stdcall : Description
+i386_sysv_stdcall = i386 cdecl (bytes "i386 SysV stdcall") sysv_returns FirstArgument Callee
 
-abbrev pub i386-sysv-regparm-1-stdcall : Description
-i386-sysv-regparm-1-stdcall = i386 (regparm 1) (bytes "i386 SysV stdcall regparm(1)") sysv-returns FirstArgument Callee
+abbrev pub i386_sysv_regparm_1_stdcall : Description
+i386_sysv_regparm_1_stdcall = i386 (regparm 1) (bytes "i386 SysV stdcall regparm(1)") sysv_returns FirstArgument Callee
 
-abbrev pub i386-sysv-regparm-2-stdcall : Description
-i386-sysv-regparm-2-stdcall = i386 (regparm 2) (bytes "i386 SysV stdcall regparm(2)") sysv-returns FirstArgument Callee
+abbrev pub i386_sysv_regparm_2_stdcall : Description
+i386_sysv_regparm_2_stdcall = i386 (regparm 2) (bytes "i386 SysV stdcall regparm(2)") sysv_returns FirstArgument Callee
 
-abbrev pub i386-sysv-regparm-3-stdcall : Description
-i386-sysv-regparm-3-stdcall = i386 (regparm 3) (bytes "i386 SysV stdcall regparm(3)") sysv-returns FirstArgument Callee
+abbrev pub i386_sysv_regparm_3_stdcall : Description
+i386_sysv_regparm_3_stdcall = i386 (regparm 3) (bytes "i386 SysV stdcall regparm(3)") sysv_returns FirstArgument Callee
 
-abbrev pub i386-sysv-reg-struct-stdcall : Description
-i386-sysv-reg-struct-stdcall =
-    i386 cdecl (bytes "i386 SysV stdcall -freg-struct-return") reg-struct-returns FirstArgument Callee
+abbrev pub i386_sysv_reg_struct_stdcall : Description
+i386_sysv_reg_struct_stdcall =
+    i386 cdecl (bytes "i386 SysV stdcall -freg-struct-return") reg_struct_returns FirstArgument Callee
 
-abbrev pub i386-sysv-regparm-1-reg-struct-stdcall : Description
-i386-sysv-regparm-1-reg-struct-stdcall =
-    i386 (regparm 1) (bytes "i386 SysV stdcall regparm(1) -freg-struct-return") reg-struct-returns FirstArgument Callee
+abbrev pub i386_sysv_regparm_1_reg_struct_stdcall : Description
+i386_sysv_regparm_1_reg_struct_stdcall =
+    i386 (regparm 1) (bytes "i386 SysV stdcall regparm(1) -freg-struct-return") reg_struct_returns FirstArgument Callee
 
-abbrev pub i386-sysv-regparm-2-reg-struct-stdcall : Description
-i386-sysv-regparm-2-reg-struct-stdcall =
-    i386 (regparm 2) (bytes "i386 SysV stdcall regparm(2) -freg-struct-return") reg-struct-returns FirstArgument Callee
+abbrev pub i386_sysv_regparm_2_reg_struct_stdcall : Description
+i386_sysv_regparm_2_reg_struct_stdcall =
+    i386 (regparm 2) (bytes "i386 SysV stdcall regparm(2) -freg-struct-return") reg_struct_returns FirstArgument Callee
 
-abbrev pub i386-sysv-regparm-3-reg-struct-stdcall : Description
-i386-sysv-regparm-3-reg-struct-stdcall =
-    i386 (regparm 3) (bytes "i386 SysV stdcall regparm(3) -freg-struct-return") reg-struct-returns FirstArgument Callee
+abbrev pub i386_sysv_regparm_3_reg_struct_stdcall : Description
+i386_sysv_regparm_3_reg_struct_stdcall =
+    i386 (regparm 3) (bytes "i386 SysV stdcall regparm(3) -freg-struct-return") reg_struct_returns FirstArgument Callee
 
 -- The address of a result is in ecx, and ret $n doesn't count it. There is none with regparm: fastcall names its own registers.
-abbrev pub i386-sysv-fastcall : Description
-i386-sysv-fastcall = i386 fastcall (bytes "i386 SysV fastcall") sysv-returns FirstArgument Callee
+abbrev pub i386_sysv_fastcall : Description
+i386_sysv_fastcall = i386 fastcall (bytes "i386 SysV fastcall") sysv_returns FirstArgument Callee
 
-abbrev pub i386-sysv-reg-struct-fastcall : Description
-i386-sysv-reg-struct-fastcall =
-    i386 fastcall (bytes "i386 SysV fastcall -freg-struct-return") reg-struct-returns FirstArgument Callee
+abbrev pub i386_sysv_reg_struct_fastcall : Description
+i386_sysv_reg_struct_fastcall =
+    i386 fastcall (bytes "i386 SysV fastcall -freg-struct-return") reg_struct_returns FirstArgument Callee
 
 -- On Windows the caller takes the address of a result off with the arguments: the callee ends in a plain ret.
-abbrev pub i386-mingw : Description
-i386-mingw = i386 cdecl (bytes "i386 Windows (mingw)") reg-struct-returns FirstArgument Caller
+abbrev pub i386_mingw : Description
+i386_mingw = i386 cdecl (bytes "i386 Windows (mingw)") reg_struct_returns FirstArgument Caller
 
-abbrev pub i386-msvc : Description
-i386-msvc = i386 cdecl (bytes "i386 Windows (MSVC)") msvc-returns FirstArgument Caller
+abbrev pub i386_msvc : Description
+i386_msvc = i386 cdecl (bytes "i386 Windows (MSVC)") msvc_returns FirstArgument Caller
 
 -- Nearly all of the Windows API is declared so (WINAPI, CALLBACK). A function with dots can't be: only its caller knows what it pushed.
-abbrev pub i386-mingw-stdcall : Description
-i386-mingw-stdcall = i386 cdecl (bytes "i386 Windows stdcall (mingw)") reg-struct-returns FirstArgument Callee
+abbrev pub i386_mingw_stdcall : Description
+i386_mingw_stdcall = i386 cdecl (bytes "i386 Windows stdcall (mingw)") reg_struct_returns FirstArgument Callee
 
-abbrev pub i386-mingw-fastcall : Description
-i386-mingw-fastcall = i386 fastcall (bytes "i386 Windows fastcall (mingw)") reg-struct-returns FirstArgument Callee
+abbrev pub i386_mingw_fastcall : Description
+i386_mingw_fastcall = i386 fastcall (bytes "i386 Windows fastcall (mingw)") reg_struct_returns FirstArgument Callee
 
-abbrev pub i386-msvc-stdcall : Description
-i386-msvc-stdcall = i386 cdecl (bytes "i386 Windows stdcall (MSVC)") msvc-returns FirstArgument Callee
+abbrev pub i386_msvc_stdcall : Description
+i386_msvc_stdcall = i386 cdecl (bytes "i386 Windows stdcall (MSVC)") msvc_returns FirstArgument Callee
 
-abbrev pub i386-msvc-fastcall : Description
-i386-msvc-fastcall = i386 fastcall (bytes "i386 Windows fastcall (MSVC)") msvc-returns FirstArgument Callee
+abbrev pub i386_msvc_fastcall : Description
+i386_msvc_fastcall = i386 fastcall (bytes "i386 Windows fastcall (MSVC)") msvc_returns FirstArgument Callee
 
 -- RISC-V by its own book, for three kinds of board: no float registers, those that hold a float, those that hold a double. Each has eight of its
 -- width, or none. They go as row 5 does but for what the Rust has otherwise: each of the three comments here says one.
 
-abbrev pub riscvWith : List ℕ → ℕ → ℕ → Description
-riscvWith name float-registers float-width =
+abbrev pub riscv_with : List ℕ → ℕ → ℕ → Description
+riscv_with name float_registers float-width =
     record {
       name = name;
-      banks = record { integer = 8; float = float-registers; shared = false; integer_width = 8; float_width = float-width };
+      banks = record { integer = 8; float = float_registers; shared = false; integer_width = 8; float_width = float-width };
       scalars = record {
         in_memory = none;
         wide_integer_is_all_or_nothing = false;
@@ -406,8 +406,8 @@ riscvWith name float-registers float-width =
       -- Two words with one register left are split between it and the stack: no register is skipped, so none is drained.
       arguments =
           rule Empty Ignore
-          ∷ ruleShort FloatPair AsFound TryNextRule
-          ∷ ruleShort (SizeAtMost 16) AsIntegers Split
+          ∷ rule_short FloatPair AsFound TryNextRule
+          ∷ rule_short (SizeAtMost 16) AsIntegers Split
           ∷ rule Anything ByReference
           ∷ [];
       return_pointer = FirstArgument;
@@ -420,50 +420,50 @@ riscvWith name float-registers float-width =
     }
 
 -- No register holds a float, of a width of 0 none but an empty one.
-abbrev pub riscv-psabi-lp64 : Description
-riscv-psabi-lp64 = riscvWith (bytes "RISC-V LP64 psABI") 0 0
+abbrev pub riscv_psabi_lp64 : Description
+riscv_psabi_lp64 = riscv_with (bytes "RISC-V LP64 psABI") 0 0
 
-abbrev pub riscv-psabi-lp64f : Description
-riscv-psabi-lp64f = riscvWith (bytes "RISC-V LP64F psABI") 8 4
+abbrev pub riscv_psabi_lp64f : Description
+riscv_psabi_lp64f = riscv_with (bytes "RISC-V LP64F psABI") 8 4
 
-abbrev pub riscv-psabi-lp64d : Description
-riscv-psabi-lp64d = riscvWith (bytes "RISC-V LP64D psABI") 8 8
+abbrev pub riscv_psabi_lp64d : Description
+riscv_psabi_lp64d = riscv_with (bytes "RISC-V LP64D psABI") 8 8
 
 unfoldable pub descriptions : List Description
 descriptions =
-    sysv-amd64
+    sysv_amd64
     ∷ aapcs64
-    ∷ darwin-arm64
-    ∷ windows-arm64
+    ∷ darwin_arm64
+    ∷ windows_arm64
     ∷ win64
-    ∷ riscv-lp64d
-    ∷ i386-sysv
-    ∷ i386-sysv-regparm-1
-    ∷ i386-sysv-regparm-2
-    ∷ i386-sysv-regparm-3
-    ∷ i386-sysv-reg-struct
-    ∷ i386-sysv-regparm-1-reg-struct
-    ∷ i386-sysv-regparm-2-reg-struct
-    ∷ i386-sysv-regparm-3-reg-struct
-    ∷ i386-sysv-stdcall
-    ∷ i386-sysv-regparm-1-stdcall
-    ∷ i386-sysv-regparm-2-stdcall
-    ∷ i386-sysv-regparm-3-stdcall
-    ∷ i386-sysv-reg-struct-stdcall
-    ∷ i386-sysv-regparm-1-reg-struct-stdcall
-    ∷ i386-sysv-regparm-2-reg-struct-stdcall
-    ∷ i386-sysv-regparm-3-reg-struct-stdcall
-    ∷ i386-sysv-fastcall
-    ∷ i386-sysv-reg-struct-fastcall
-    ∷ i386-mingw
-    ∷ i386-msvc
-    ∷ i386-mingw-stdcall
-    ∷ i386-mingw-fastcall
-    ∷ i386-msvc-stdcall
-    ∷ i386-msvc-fastcall
-    ∷ riscv-psabi-lp64
-    ∷ riscv-psabi-lp64f
-    ∷ riscv-psabi-lp64d
+    ∷ riscv_lp64d
+    ∷ i386_sysv
+    ∷ i386_sysv_regparm_1
+    ∷ i386_sysv_regparm_2
+    ∷ i386_sysv_regparm_3
+    ∷ i386_sysv_reg_struct
+    ∷ i386_sysv_regparm_1_reg_struct
+    ∷ i386_sysv_regparm_2_reg_struct
+    ∷ i386_sysv_regparm_3_reg_struct
+    ∷ i386_sysv_stdcall
+    ∷ i386_sysv_regparm_1_stdcall
+    ∷ i386_sysv_regparm_2_stdcall
+    ∷ i386_sysv_regparm_3_stdcall
+    ∷ i386_sysv_reg_struct_stdcall
+    ∷ i386_sysv_regparm_1_reg_struct_stdcall
+    ∷ i386_sysv_regparm_2_reg_struct_stdcall
+    ∷ i386_sysv_regparm_3_reg_struct_stdcall
+    ∷ i386_sysv_fastcall
+    ∷ i386_sysv_reg_struct_fastcall
+    ∷ i386_mingw
+    ∷ i386_msvc
+    ∷ i386_mingw_stdcall
+    ∷ i386_mingw_fastcall
+    ∷ i386_msvc_stdcall
+    ∷ i386_msvc_fastcall
+    ∷ riscv_psabi_lp64
+    ∷ riscv_psabi_lp64f
+    ∷ riscv_psabi_lp64d
     ∷ []
 
 -- What stands past the last: nothing in any field, so that readers of rows need no refusal.
@@ -495,8 +495,8 @@ blank =
     }
 
 -- How many there are.
-abbrev pub description-count : ℕ
-description-count = 33
+abbrev pub description_count : ℕ
+description_count = 33
 
 -- The description of a number.
 unfoldable pub described : ℕ → Description

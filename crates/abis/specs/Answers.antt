@@ -1,38 +1,38 @@
 -- What the questions and the name of a description answer, by its number (REFERENCE 3, 5.5, 5.7).
 use Rattle.std.specs.Prelude.{ℕ, Bool, false, cond, List, eqb, leb, ltb}
-use Rattle.shape.specs.Numbers.{accepted, bad-abi, bad-size, most-size}
-use Rattle.text.specs.Text.{wrote, putAnswer, putWritten}
+use Rattle.shape.specs.Numbers.{accepted, bad_abi, bad_size, most_size}
+use Rattle.text.specs.Text.{wrote, put_answer, put_written}
 use Rattle.text.specs.declared.Written.{Written}
-use Rattle.describe.specs.Questions.{isByReference, returnsByReference, wideReturnsIn}
+use Rattle.describe.specs.Questions.{is_by_reference, returns_by_reference, wide_returns_in}
 use Rattle.abis.specs.declared.Asked.{Asked}
 use Rattle.abis.specs.declared.AskedFormat.{AskedFormat}
-use Rattle.abis.specs.Abis.{described, description-count}
+use Rattle.abis.specs.Abis.{described, description_count}
 
 -- BAD_ABI where there is no such description, then BAD_SIZE above a scalar's limit.
-unfoldable pub questionRefusal : ℕ → ℕ → ℕ
-questionRefusal d size = cond (leb description-count d) bad-abi (cond (ltb most-size size) bad-size accepted)
+unfoldable pub question_refusal : ℕ → ℕ → ℕ
+question_refusal d size = cond (leb description_count d) bad_abi (cond (ltb most_size size) bad_size accepted)
 
 -- A refusal's number with no for an answer, or 0 with the answer.
-unfoldable pub askedYes : ℕ → Bool → Asked
-askedYes refusal answer =
+unfoldable pub asked_yes : ℕ → Bool → Asked
+asked_yes refusal answer =
     cond (eqb refusal accepted) (record { refusal = accepted; answer = answer }) (record { refusal = refusal; answer = false })
 
-unfoldable pub askedFormat : ℕ → ℕ → AskedFormat
-askedFormat refusal format =
+unfoldable pub asked_format : ℕ → ℕ → AskedFormat
+asked_format refusal format =
     cond (eqb refusal accepted) (record { refusal = accepted; format = format }) (record { refusal = refusal; format = 0 })
 
-unfoldable pub isByReferenceAnswer : ℕ → ℕ → Asked
-isByReferenceAnswer d size = askedYes (questionRefusal d size) (isByReference (described d).scalars size)
+unfoldable pub is_by_reference_answer : ℕ → ℕ → Asked
+is_by_reference_answer d size = asked_yes (question_refusal d size) (is_by_reference (described d).scalars size)
 
-unfoldable pub returnsByReferenceAnswer : ℕ → ℕ → Asked
-returnsByReferenceAnswer d size = askedYes (questionRefusal d size) (returnsByReference (described d).scalars size)
+unfoldable pub returns_by_reference_answer : ℕ → ℕ → Asked
+returns_by_reference_answer d size = asked_yes (question_refusal d size) (returns_by_reference (described d).scalars size)
 
-unfoldable pub wideReturnsInAnswer : ℕ → ℕ → AskedFormat
-wideReturnsInAnswer d size = askedFormat (questionRefusal d size) (wideReturnsIn (described d).scalars size)
+unfoldable pub wide_returns_in_answer : ℕ → ℕ → AskedFormat
+wide_returns_in_answer d size = asked_format (question_refusal d size) (wide_returns_in (described d).scalars size)
 
 -- BAD_ABI, or what writing the name answers and leaves.
-unfoldable pub nameAnswer : ℕ → ℕ → Written
-nameAnswer d room = cond (leb description-count d) (wrote bad-abi 0) (putAnswer (described d).name room)
+unfoldable pub name_answer : ℕ → ℕ → Written
+name_answer d room = cond (leb description_count d) (wrote bad_abi 0) (put_answer (described d).name room)
 
-unfoldable pub nameWritten : ℕ → List ℕ → List ℕ
-nameWritten d out = cond (leb description-count d) out (putWritten (described d).name out)
+unfoldable pub name_written : ℕ → List ℕ → List ℕ
+name_written d out = cond (leb description_count d) out (put_written (described d).name out)

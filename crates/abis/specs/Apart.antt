@@ -7,37 +7,37 @@ use Rattle.describe.specs.declared.Travel.TheVariants.{InMemoryAndSpend}
 use Rattle.describe.specs.declared.Short.TheVariants.{Split}
 use Rattle.describe.specs.declared.Variadic.TheVariants.{UnnamedIntegersEven}
 use Rattle.describe.specs.Description.{Description}
-use Rattle.rows.specs.Codes.{travelCode, shortCode, variadicCode}
+use Rattle.rows.specs.Codes.{travel_code, short_code, variadic_code}
 
-abbrev pub fastcallRows : List ℕ
-fastcallRows = 22 ∷ 23 ∷ 27 ∷ 29 ∷ []
+abbrev pub fastcall_rows : List ℕ
+fastcall_rows = 22 ∷ 23 ∷ 27 ∷ 29 ∷ []
 
-abbrev pub isFastcall : ℕ → Bool
-isFastcall d = any (λ row. eqb d row) fastcallRows
+abbrev pub is_fastcall : ℕ → Bool
+is_fastcall d = any (λ row. eqb d row) fastcall_rows
 
 -- a rule of the list travels as InMemoryAndSpend
-abbrev pub spendsInMemory : List Rule → Bool
-spendsInMemory rules = any (λ (rule : Rule). eqb (travelCode rule.then) (travelCode InMemoryAndSpend)) rules
+abbrev pub spends_in_memory : List Rule → Bool
+spends_in_memory rules = any (λ (rule : Rule). eqb (travel_code rule.then) (travel_code InMemoryAndSpend)) rules
 
 -- the rows that the Rust has come first
-abbrev pub rust-count : ℕ
-rust-count = 30
+abbrev pub rust_count : ℕ
+rust_count = 30
 
 -- RISC-V by its own book
-abbrev pub riscvPsabiRows : List ℕ
-riscvPsabiRows = 30 ∷ 31 ∷ 32 ∷ []
+abbrev pub riscv_psabi_rows : List ℕ
+riscv_psabi_rows = 30 ∷ 31 ∷ 32 ∷ []
 
-abbrev pub isRiscvPsabi : ℕ → Bool
-isRiscvPsabi d = any (λ row. eqb d row) riscvPsabiRows
+abbrev pub is_riscv_psabi : ℕ → Bool
+is_riscv_psabi d = any (λ row. eqb d row) riscv_psabi_rows
 
 -- a rule of the list is split where it is short
 abbrev pub splits : List Rule → Bool
-splits rules = any (λ (rule : Rule). eqb (shortCode rule.short) (shortCode Split)) rules
+splits rules = any (λ (rule : Rule). eqb (short_code rule.short) (short_code Split)) rules
 
 -- arguments after the dots start at an even register where they are a pair of words
-abbrev pub pairsStartEven : Description → Bool
-pairsStartEven D = eqb (variadicCode D.variadic) (variadicCode UnnamedIntegersEven)
+abbrev pub pairs_start_even : Description → Bool
+pairs_start_even D = eqb (variadic_code D.variadic) (variadic_code UnnamedIntegersEven)
 
 -- a description says something that no description of the Rust can say
-abbrev pub isBeyondRust : Description → Bool
-isBeyondRust D = splits D.returns || (splits D.arguments || (pairsStartEven D || D.scalars.float_falls_to_integers))
+abbrev pub is_beyond_rust : Description → Bool
+is_beyond_rust D = splits D.returns || (splits D.arguments || (pairs_start_even D || D.scalars.float_falls_to_integers))

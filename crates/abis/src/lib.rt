@@ -1,10 +1,12 @@
 // The descriptions, read by number (REFERENCE 5.5): what classification reads of one, its row and its name; and the questions of
 // REFERENCE 5.7 asked of a number. The table is the one place that has their order.
+#![tactic(auto)]
+
 ghost use Rattle.std.specs.Prelude.{◌≡◌, length};
 ghost use Rattle.rows.specs.Row.{encode};
 ghost use Rattle.abis.specs.Abis.{described};
-ghost use Rattle.abis.specs.Brief.{briefOf, briefFrom};
-ghost use Rattle.abis.specs.Answers.{nameAnswer, nameWritten, isByReferenceAnswer, returnsByReferenceAnswer, wideReturnsInAnswer, questionRefusal};
+ghost use Rattle.abis.specs.Brief.{brief_of, brief_from};
+ghost use Rattle.abis.specs.Answers.{name_answer, name_written, is_by_reference_answer, returns_by_reference_answer, wide_returns_in_answer, question_refusal};
 
 pub mod numbers;
 mod table;
@@ -41,7 +43,7 @@ pub struct Brief {
 // Description `d` as classification reads it; the description of nothing where there is none. Each arm reads a literal place of the table,
 // so what it gives is a constant: a row that is chosen first and read behind the `match` costs two hundred instructions more.
 pub fn read(d: u64) -> Brief
-    ensures { result ≡ briefOf (described d) }
+    ensures { result ≡ brief_of (described d) }
 {
     let table = TABLE;
     match d {
@@ -83,7 +85,7 @@ pub fn read(d: u64) -> Brief
 }
 
 fn read_of(row: [u8; WIDTH]) -> Brief
-    ensures { result ≡ briefFrom row }
+    ensures { result ≡ brief_from row }
 {
     Brief {
         terms: rows::terms_of(row),
@@ -107,7 +109,7 @@ pub fn row(d: u64) -> [u8; WIDTH]
 
 // Its name, into a lent buffer: the bytes go to the front of `out`. A refusal writes nothing.
 pub fn name(d: u64, out: &mut [u8]) -> Written
-    ensures { (result ≡ nameAnswer d (length out.old)) × (out.new ≡ nameWritten d out.old) }
+    ensures { (result ≡ name_answer d (length out.old)) × (out.new ≡ name_written d out.old) }
 {
     if DESCRIPTIONS <= d {
         return Written {
@@ -123,7 +125,7 @@ pub fn name(d: u64, out: &mut [u8]) -> Written
 
 // Whether a scalar of this size travels as the address of a copy.
 pub fn scalar_is_by_reference(d: u64, size: u64) -> Asked
-    ensures { result ≡ isByReferenceAnswer d size }
+    ensures { result ≡ is_by_reference_answer d size }
 {
     let refusal = question_refusal(d, size);
     if refusal == shape::ACCEPTED {
@@ -141,7 +143,7 @@ pub fn scalar_is_by_reference(d: u64, size: u64) -> Asked
 
 // Whether it comes back through the address that the caller passes.
 pub fn scalar_returns_by_reference(d: u64, size: u64) -> Asked
-    ensures { result ≡ returnsByReferenceAnswer d size }
+    ensures { result ≡ returns_by_reference_answer d size }
 {
     let refusal = question_refusal(d, size);
     if refusal == shape::ACCEPTED {
@@ -159,7 +161,7 @@ pub fn scalar_returns_by_reference(d: u64, size: u64) -> Asked
 
 // The format in which an integer of this size comes back where it is by reference otherwise.
 pub fn wide_integer_returns_in(d: u64, size: u64) -> AskedFormat
-    ensures { result ≡ wideReturnsInAnswer d size }
+    ensures { result ≡ wide_returns_in_answer d size }
 {
     let refusal = question_refusal(d, size);
     if refusal == shape::ACCEPTED {
@@ -184,7 +186,7 @@ fn scalars(d: u64) -> Scalars
 }
 
 fn question_refusal(d: u64, size: u64) -> u64
-    ensures { result ≡ questionRefusal d size }
+    ensures { result ≡ question_refusal d size }
 {
     if DESCRIPTIONS <= d {
         return shape::BAD_ABI;

@@ -1,5 +1,7 @@
 // Prints every field, rule and question of the descriptions, a fact to a line, each as its number (REFERENCE 5). The original's own
 // answers are printed in the same form, and the two are compared.
+#![tactic(auto)]
+
 use describe::{Rule, Short, Test, Travel};
 use libc::STDOUT_FILENO;
 use text::{append, append_number};

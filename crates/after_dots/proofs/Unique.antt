@@ -3,14 +3,14 @@ use mathlib.Core.Path.{sym, ◌∙◌}
 use contract.Lifetimes.{Lfts}
 use Rattle.shape.proofs.OneAnswer.{OneAnswer}
 use Rattle.after_dots.proofs.skipped.Reads as skipped
-use Rattle.after_dots.proofs.left_for.Reads as left-for
+use Rattle.after_dots.proofs.left_for.Reads as left_for
 use Rattle.after_dots.proofs.settled.Reads as settled
 
-skipped-decides : (κs : Lfts 0) → OneAnswer (skipped.Post κs)
-skipped-decides κs a r q s t p p' = p ∙ sym p'
+skipped_decides : (κs : Lfts 0) → OneAnswer (skipped.Post κs)
+skipped_decides κs a r q s t p p' = p ∙ sym p'
 
-left-for-decides : (κs : Lfts 0) → OneAnswer (left-for.Post κs)
-left-for-decides κs a r q s t p p' = p ∙ sym p'
+left_for_decides : (κs : Lfts 0) → OneAnswer (left_for.Post κs)
+left_for_decides κs a r q s t p p' = p ∙ sym p'
 
-settled-decides : (κs : Lfts 0) → OneAnswer (settled.Post κs)
-settled-decides κs a r q s t p p' = p ∙ sym p'
+settled_decides : (κs : Lfts 0) → OneAnswer (settled.Post κs)
+settled_decides κs a r q s t p p' = p ∙ sym p'

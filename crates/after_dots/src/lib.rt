@@ -1,7 +1,9 @@
 // An argument after the dots (docs/REFERENCE.md, 9.5): what it finds left, and what it spends then, by what its description's variadic kind comes to.
 // A fixed argument passes `describe::as_fixed`, by which it finds what the call has left and spends what was decided.
+#![tactic(auto)]
+
 ghost use Rattle.std.specs.Prelude.{◌≡◌};
-ghost use Rattle.after_dots.specs.AfterDots.{isPair, skippedFor, behindStart, leftFor, isIgnored, spentBehind, spentFor, settledFor};
+ghost use Rattle.after_dots.specs.AfterDots.{is_pair, skipped_for, behind_start, left_for, is_ignored, spent_behind, spent_for, settled_for};
 
 use describe::{Banks, Dots};
 use shape::minus;
@@ -9,7 +11,7 @@ use spend::{Decision, Left, Spent, Way};
 
 // Integer registers passed over before anything else is decided, so that a value of this size and alignment begins at an even one.
 pub fn skipped(dots: Dots, banks: Banks, left: Left, size: u64, align: u64) -> u64
-    ensures { result ≡ skippedFor dots banks left size align }
+    ensures { result ≡ skipped_for dots banks left size align }
 {
     if !dots.starts_even {
         return 0;
@@ -23,14 +25,14 @@ pub fn skipped(dots: Dots, banks: Banks, left: Left, size: u64, align: u64) -> u
 
 // Whether a value is aligned to two words, and no larger. The words aren't added: two of them may pass 64 bits.
 fn is_pair(width: u64, size: u64, align: u64) -> bool
-    ensures { result ≡ isPair width size align }
+    ensures { result ≡ is_pair width size align }
 {
     (minus(align, width) == width) & (size <= align)
 }
 
 // What a value finds left: banks that are emptied for it, or those behind an even start, and the mark set for it alone.
 pub fn left_for(dots: Dots, left: Left, skipped: u64) -> Left
-    ensures { result ≡ leftFor dots skipped left }
+    ensures { result ≡ left_for dots skipped left }
 {
     if dots.emptied {
         return Left {
@@ -47,7 +49,7 @@ pub fn left_for(dots: Dots, left: Left, skipped: u64) -> Left
 }
 
 fn behind_start(dots: Dots, left: Left, skipped: u64) -> Left
-    ensures { result ≡ behindStart dots skipped left }
+    ensures { result ≡ behind_start dots skipped left }
 {
     if dots.starts_even {
         return Left {
@@ -61,7 +63,7 @@ fn behind_start(dots: Dots, left: Left, skipped: u64) -> Left
 
 // What was decided by that, with what it spends of the call's own registers, of which so many integers are left.
 pub fn settled(dots: Dots, left: u64, skipped: u64, decision: Decision) -> Decision
-    ensures { result ≡ settledFor dots left skipped decision }
+    ensures { result ≡ settled_for dots left skipped decision }
 {
     let way = decision.way;
     let source = decision.source;
@@ -74,7 +76,7 @@ pub fn settled(dots: Dots, left: u64, skipped: u64, decision: Decision) -> Decis
 }
 
 fn spent_for(dots: Dots, left: u64, skipped: u64, decision: Decision) -> Spent
-    ensures { result ≡ spentFor dots left skipped decision }
+    ensures { result ≡ spent_for dots left skipped decision }
 {
     if dots.emptied {
         return spend::nothing_spent();
@@ -87,7 +89,7 @@ fn spent_for(dots: Dots, left: u64, skipped: u64, decision: Decision) -> Spent
 
 // The registers before an even start are passed over as well, unless nothing travels.
 fn spent_behind(left: u64, skipped: u64, decision: Decision) -> Spent
-    ensures { result ≡ spentBehind left skipped decision }
+    ensures { result ≡ spent_behind left skipped decision }
 {
     let way = decision.way;
     if is_ignored(way) {
@@ -104,7 +106,7 @@ fn spent_behind(left: u64, skipped: u64, decision: Decision) -> Spent
 }
 
 fn is_ignored(way: Way) -> bool
-    ensures { result ≡ isIgnored way }
+    ensures { result ≡ is_ignored way }
 {
     match way {
         Way::Ignore => true,

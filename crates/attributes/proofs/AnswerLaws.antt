@@ -6,38 +6,38 @@ use mathlib.Core.Bool.{Bool, true, false, not}
 use Rattle.shape.specs.Numbers.{accepted}
 use Rattle.text.specs.Text.{wrote}
 use Rattle.text.specs.declared.Written.{Written}
-use Rattle.targets.specs.Codes.{isTarget, isConvention, architectureOf, systemOf, conventionOf, noneNumber, code_of}
+use Rattle.targets.specs.Codes.{is_target, is_convention, architecture_of, system_of, convention_of, none_number, code_of}
 use Rattle.targets.specs.declared.codes.Architecture.{Architecture}
 use Rattle.targets.specs.declared.codes.System.{System}
 use Rattle.targets.specs.declared.codes.Convention.{Convention}
 use Rattle.targets.proofs.CodeLaws.{known, unknown}
 use Rattle.attributes.specs.Attributes.{asked}
-use Rattle.attributes.specs.Spellings.{attribute, spellingAnswer, spellingWritten}
-use Rattle.attributes.specs.Answers.{askedAnswer, attributeAnswer, attributeWritten}
+use Rattle.attributes.specs.Spellings.{attribute, spelling_answer, spelling_written}
+use Rattle.attributes.specs.Answers.{asked_answer, attribute_answer, attribute_written}
 
-module _ (architecture system : ℕ) {t : Bool} (e : t ≡ isTarget architecture system) where
-  pub asked-unknown : not t ≡ true → (msvc : Bool) (name : List ℕ) → noneNumber ≡ askedAnswer architecture system msvc name
-  unfolding askedAnswer
-  asked-unknown n msvc name = rw (unknown e n)
+module _ (architecture system : ℕ) {t : Bool} (e : t ≡ is_target architecture system) where
+  pub asked_unknown : not t ≡ true → (msvc : Bool) (name : List ℕ) → none_number ≡ asked_answer architecture system msvc name
+  unfolding asked_answer
+  asked_unknown n msvc name = rw (unknown e n)
 
-  module _ (k : not t ≡ false) {a : Architecture} {s : System} (ea : a ≡ architectureOf architecture) (es : s ≡ systemOf system) where
-    pub asked-known : (msvc : Bool) (name : List ℕ) {r : ℕ} → r ≡ code_of (asked a s name) → r ≡ askedAnswer architecture system msvc name
-    unfolding askedAnswer
-    asked-known msvc name h = rw (known e k, ← ea, ← es) h
+  module _ (k : not t ≡ false) {a : Architecture} {s : System} (ea : a ≡ architecture_of architecture) (es : s ≡ system_of system) where
+    pub asked_known : (msvc : Bool) (name : List ℕ) {r : ℕ} → r ≡ code_of (asked a s name) → r ≡ asked_answer architecture system msvc name
+    unfolding asked_answer
+    asked_known msvc name h = rw (known e k, ← ea, ← es) h
 
-module _ (convention : ℕ) {u : Bool} (e : u ≡ isConvention convention) where
+module _ (convention : ℕ) {u : Bool} (e : u ≡ is_convention convention) where
   module _ (n : not u ≡ true) where
-    pub attribute-unknown : (room : ℕ) → wrote accepted noneNumber ≡ attributeAnswer convention room
-    unfolding spellingAnswer
-    attribute-unknown room = rw (unknown e n)
+    pub attribute_unknown : (room : ℕ) → wrote accepted none_number ≡ attribute_answer convention room
+    unfolding spelling_answer
+    attribute_unknown room = rw (unknown e n)
 
-    pub attribute-unwritten : (out : List ℕ) → out ≡ attributeWritten convention out
-    unfolding spellingWritten
-    attribute-unwritten out = rw (unknown e n)
+    pub attribute_unwritten : (out : List ℕ) → out ≡ attribute_written convention out
+    unfolding spelling_written
+    attribute_unwritten out = rw (unknown e n)
 
-  module _ (k : not u ≡ false) {v : Convention} (ev : v ≡ conventionOf convention) where
-    pub attribute-known : (room : ℕ) {r : Written} → r ≡ spellingAnswer (attribute v) room → r ≡ attributeAnswer convention room
-    attribute-known room h = rw (known e k, ← ev) h
+  module _ (k : not u ≡ false) {v : Convention} (ev : v ≡ convention_of convention) where
+    pub attribute_known : (room : ℕ) {r : Written} → r ≡ spelling_answer (attribute v) room → r ≡ attribute_answer convention room
+    attribute_known room h = rw (known e k, ← ev) h
 
-    pub attribute-written : (out₀ : List ℕ) {out : List ℕ} → out ≡ spellingWritten (attribute v) out₀ → out ≡ attributeWritten convention out₀
-    attribute-written out₀ h = rw (known e k, ← ev) h
+    pub attribute_written_lem : (out₀ : List ℕ) {out : List ℕ} → out ≡ spelling_written (attribute v) out₀ → out ≡ attribute_written convention out₀
+    attribute_written_lem out₀ h = rw (known e k, ← ev) h

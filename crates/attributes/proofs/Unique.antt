@@ -4,23 +4,23 @@ use contract.Lifetimes.{Lfts}
 use Rattle.shape.proofs.OneAnswer.{OneAnswer, OneExit}
 use Rattle.attributes.proofs.asked.Reads as asked
 use Rattle.attributes.proofs.attribute.Reads as attribute
-use Rattle.attributes.proofs.spellings.write_attribute.Reads as write-attribute
+use Rattle.attributes.proofs.spellings.write_attribute.Reads as write_attribute
 use Rattle.attributes.proofs.asking.by_name.Reads as by_name
 
-asked-decides : (κs : Lfts 1) → OneAnswer (asked.Post κs)
-asked-decides κs a r q s t p p' = p ∙ sym p'
+asked_decides : (κs : Lfts 1) → OneAnswer (asked.Post κs)
+asked_decides κs a r q s t p p' = p ∙ sym p'
 
-attribute-decides : (κs : Lfts 1) → OneAnswer (attribute.Post κs)
-attribute-decides κs a r q s t p p' = p.0 ∙ sym p'.0
+attribute_decides : (κs : Lfts 1) → OneAnswer (attribute.Post κs)
+attribute_decides κs a r q s t p p' = p.0 ∙ sym p'.0
 
-attribute-bytes : (κs : Lfts 1) → OneExit (attribute.Post κs) (λ s. s.1.0.now)
-attribute-bytes κs a r q s t p p' = p.1 ∙ sym p'.1
+attribute_bytes : (κs : Lfts 1) → OneExit (attribute.Post κs) (λ s. s.1.0.now)
+attribute_bytes κs a r q s t p p' = p.1 ∙ sym p'.1
 
-write-attribute-decides : (κs : Lfts 1) → OneAnswer (write-attribute.Post κs)
-write-attribute-decides κs a r q s t p p' = p.0 ∙ sym p'.0
+write_attribute_decides : (κs : Lfts 1) → OneAnswer (write_attribute.Post κs)
+write_attribute_decides κs a r q s t p p' = p.0 ∙ sym p'.0
 
-write-attribute-bytes : (κs : Lfts 1) → OneExit (write-attribute.Post κs) (λ s. s.1.0.now)
-write-attribute-bytes κs a r q s t p p' = p.1 ∙ sym p'.1
+write_attribute_bytes : (κs : Lfts 1) → OneExit (write_attribute.Post κs) (λ s. s.1.0.now)
+write_attribute_bytes κs a r q s t p p' = p.1 ∙ sym p'.1
 
-by_name-decides : (κs : Lfts 1) → OneAnswer (by_name.Post κs)
-by_name-decides κs a r q s t p p' = p ∙ sym p'
+by_name_decides : (κs : Lfts 1) → OneAnswer (by_name.Post κs)
+by_name_decides κs a r q s t p p' = p ∙ sym p'

@@ -2,19 +2,19 @@
 use Rattle.std.specs.Prelude.{ℕ, List, Bool, cond}
 use Rattle.std.proofs.Math.Option.{Option, none}
 use Rattle.text.specs.declared.Written.{Written}
-use Rattle.targets.specs.Codes.{isTarget, isConvention, architectureOf, systemOf, conventionOf, code_of}
+use Rattle.targets.specs.Codes.{is_target, is_convention, architecture_of, system_of, convention_of, code_of}
 use Rattle.attributes.specs.Attributes.{asked}
-use Rattle.attributes.specs.Spellings.{attribute, spellingAnswer, spellingWritten}
+use Rattle.attributes.specs.Spellings.{attribute, spelling_answer, spelling_written}
 
-unfoldable pub askedAnswer : ℕ → ℕ → Bool → List ℕ → ℕ
-askedAnswer architecture system msvc name =
-    code_of (cond (isTarget architecture system) (asked (architectureOf architecture) (systemOf system) name) none)
+unfoldable pub asked_answer : ℕ → ℕ → Bool → List ℕ → ℕ
+asked_answer architecture system msvc name =
+    code_of (cond (is_target architecture system) (asked (architecture_of architecture) (system_of system) name) none)
 
 abbrev pub name_of : ℕ → Option (List ℕ)
-name_of convention = cond (isConvention convention) (attribute (conventionOf convention)) none
+name_of convention = cond (is_convention convention) (attribute (convention_of convention)) none
 
-abbrev pub attributeAnswer : ℕ → ℕ → Written
-attributeAnswer convention room = spellingAnswer (name_of convention) room
+abbrev pub attribute_answer : ℕ → ℕ → Written
+attribute_answer convention room = spelling_answer (name_of convention) room
 
-abbrev pub attributeWritten : ℕ → List ℕ → List ℕ
-attributeWritten convention out = spellingWritten (name_of convention) out
+abbrev pub attribute_written : ℕ → List ℕ → List ℕ
+attribute_written convention out = spelling_written (name_of convention) out

@@ -1,7 +1,7 @@
 // Which convention an attribute's name asks for (REFERENCE 6.4).
 ghost use Rattle.std.specs.Prelude.{◌≡◌};
 ghost use Rattle.targets.specs.Codes.{code_of};
-ghost use Rattle.attributes.specs.Attributes.{askedOnX86, askedOnX86-64, sameBytes, asked as asked_of};
+ghost use Rattle.attributes.specs.Attributes.{asked_on_x86, asked_on_x86_64, same_bytes, asked as asked_of};
 
 use targets::{
     Architecture, FASTCALL, MS, NO_CALLEE_SAVED, NONE, PRESERVE_NONE, STDCALL, SYSV, System,
@@ -23,7 +23,7 @@ pub fn by_name(architecture: Architecture, system: System, name: &[u8]) -> u64
 
 // A convention that the target follows already is the target's own.
 fn asked_on_x86_64(system: System, name: &[u8]) -> u64
-    ensures { result ≡ code_of (askedOnX86-64 system name.now) }
+    ensures { result ≡ code_of (asked_on_x86_64 system name.now) }
 {
     let elf = is_elf(system);
     if same(name, b"no_callee_saved_registers") & elf {
@@ -42,7 +42,7 @@ fn asked_on_x86_64(system: System, name: &[u8]) -> u64
 }
 
 fn asked_on_x86(name: &[u8]) -> u64
-    ensures { result ≡ code_of (askedOnX86 name.now) }
+    ensures { result ≡ code_of (asked_on_x86 name.now) }
 {
     if same(name, b"stdcall") {
         return STDCALL;
@@ -57,7 +57,7 @@ fn asked_on_x86(name: &[u8]) -> u64
 }
 
 fn same(name: &[u8], text: &[u8]) -> bool
-    ensures { result ≡ sameBytes name.now text.now }
+    ensures { result ≡ same_bytes name.now text.now }
 {
     if name.len() != text.len() {
         return false;

@@ -1,10 +1,12 @@
 // Attributes (REFERENCE 6.4): which convention a name asks for, and the name that asks for a convention. Architectures, systems and conventions
 // come as codes; a code that isn't known answers none, also where the lookup would not read it.
+#![tactic(auto)]
+
 mod asking;
 mod spellings;
 
 ghost use Rattle.std.specs.Prelude.{◌≡◌, length};
-ghost use Rattle.attributes.specs.Answers.{askedAnswer, attributeAnswer, attributeWritten};
+ghost use Rattle.attributes.specs.Answers.{asked_answer, attribute_answer, attribute_written};
 
 pub use asking::by_name;
 pub use spellings::write_attribute;
@@ -13,7 +15,7 @@ use text::Written;
 
 // The code of the convention that an attribute's name asks for on a target. MSVC changes nothing here; a target is passed whole all the same.
 pub fn asked(architecture: u64, system: u64, msvc: bool, name: &[u8]) -> u64
-    ensures { result ≡ askedAnswer architecture system msvc name.now }
+    ensures { result ≡ asked_answer architecture system msvc name.now }
 {
     if !is_target(architecture, system) {
         return NONE;
@@ -23,7 +25,7 @@ pub fn asked(architecture: u64, system: u64, msvc: bool, name: &[u8]) -> u64
 
 // The name of the attribute that asks for a convention, written to the front of `out`.
 pub fn attribute(convention: u64, out: &mut [u8]) -> Written
-    ensures { (result ≡ attributeAnswer convention (length out.old)) × (out.new ≡ attributeWritten convention out.old) }
+    ensures { (result ≡ attribute_answer convention (length out.old)) × (out.new ≡ attribute_written convention out.old) }
 {
     if !is_convention(convention) {
         return Written {

@@ -1,14 +1,14 @@
 // The attribute's name that asks for a convention, written into a lent buffer (REFERENCE 6.4).
 ghost use Rattle.std.specs.Prelude.{◌≡◌, length, get_or};
 ghost use Rattle.text.specs.Text.{bytes};
-ghost use Rattle.attributes.specs.Spellings.{regparmNames, spellingAnswer, spellingWritten, attribute as attributeOf};
+ghost use Rattle.attributes.specs.Spellings.{regparm_names, spelling_answer, spelling_written, attribute as attributeOf};
 
 use targets::{Convention, NONE};
 use text::{Written, put};
 
 // The name that asks for a convention, written to the front of `out`.
 pub fn write_attribute(convention: Convention, out: &mut [u8]) -> Written
-    ensures { (result ≡ spellingAnswer (attributeOf convention) (length out.old)) × (out.new ≡ spellingWritten (attributeOf convention) out.old) }
+    ensures { (result ≡ spelling_answer (attributeOf convention) (length out.old)) × (out.new ≡ spelling_written (attributeOf convention) out.old) }
 {
     match convention {
         Convention::Target => Written {
@@ -27,7 +27,7 @@ pub fn write_attribute(convention: Convention, out: &mut [u8]) -> Written
 
 // No attribute names more than three registers, so a greater number has the name of three.
 fn regparm_name(n: u64) -> [u8; 10]
-    ensures { result ≡ get_or regparmNames n (bytes "regparm(3)") }
+    ensures { result ≡ get_or regparm_names n (bytes "regparm(3)") }
 {
     match n {
         0 => *b"regparm(0)",

@@ -39,7 +39,7 @@ use Rattle.classify.specs.declared.Call.{Call}
 use Rattle.classify.specs.declared.Answer.{Answer}
 use Rattle.bridge.specs.declared.What.{What}
 use Rattle.classify.specs.Answers.{Leaves}
-use Rattle.bridge.specs.Lent.{argOf}
+use Rattle.bridge.specs.Lent.{arg_of}
 use Rattle.classify.specs.contracts.Call as T
 use Rattle.classify.proofs.Call.TheLaws as T'
 use Rattle.bridge.specs.contracts.What as Q
@@ -50,7 +50,7 @@ use Rattle.classify.proofs.Answer.TheLaws as N'
 use Rattle.bridge.specs.contracts.argument_of as value
 use Rattle.bridge.specs.contracts.barkpaddle_bridge_argument as argument
 use Rattle.bridge.proofs.Promised.{Asks}
-use Rattle.bridge.proofs.Steps.{mach, outcome-value, question, slice, gone, further, apart, last-list, passed_on, copied, answered, handed}
+use Rattle.bridge.proofs.Steps.{mach, outcome_value, question, slice, gone, further, apart, last_list, passed_on, copied, answered, handed}
 
 -- the MIR of such a function
 abbrev function : Name → Fn
@@ -78,7 +78,7 @@ module _ (ans : Call → Arg → List ℕ → List ℕ → Answer) (wri : Call �
     ghost = Unit {0};
     requires = λ _. emp 𝓤;
     ensures = λ _ r e.
-        fact 𝓤 (Leaves (ans a.0 (argOf a.1.0) a.1.1.0.now a.1.1.1.0.now) (wri a.0 (argOf a.1.0) a.1.1.0.now a.1.1.1.0.now) r e.1.1.1.0.now);
+        fact 𝓤 (Leaves (ans a.0 (arg_of a.1.0) a.1.1.0.now a.1.1.1.0.now) (wri a.0 (arg_of a.1.0) a.1.1.0.now a.1.1.1.0.now) r e.1.1.1.0.now);
   }
 
   abbrev stayed : Stays (argument.ended).signature.params (argument.ended).kept
@@ -127,16 +127,16 @@ module _ (ans : Call → Arg → List ℕ → List ℕ → Answer) (wri : Call �
     Ensured = ensured 𝓛 value.ended (full 𝓤) (κ₁, (κ₂, tt)) (h, (n, (ws, (ss, tt)))) tt
 
     abbrev Said : Answer → List ℕ → Type 0
-    Said r zs = Leaves (ans h (argOf n) ws.now ss.now) (wri h (argOf n) ws.now ss.now) r zs
+    Said r zs = Leaves (ans h (arg_of n) ws.now ss.now) (wri h (arg_of n) ws.now ss.now) r zs
 
-    exits : (r : Answer) → Is O.the_row r.outcome (outcome-value r.outcome ∷ [])
-        → ent 𝓤 (⋆ 𝓛 (‵ (fobs γ ((T.the_row).coded.code r.next)) ∷ ‵ (fbor κ (Body (mem T.the_row) b o γ)) ∷ ‵ (flft κ q) ∷ tokens ∷ raw (Ensured r) ∷ ‵ Words ∷ [])) (Post (outcome-value r.outcome))
+    exits : (r : Answer) → Is O.the_row r.outcome (outcome_value r.outcome ∷ [])
+        → ent 𝓤 (⋆ 𝓛 (‵ (fobs γ ((T.the_row).coded.code r.next)) ∷ ‵ (fbor κ (Body (mem T.the_row) b o γ)) ∷ ‵ (flft κ q) ∷ tokens ∷ raw (Ensured r) ∷ ‵ Words ∷ [])) (Post (outcome_value r.outcome))
     exits r is =
         qed 𝓛 (‵ (fobs γ ((T.the_row).coded.code r.next)) ∷ ‵ (fbor κ (Body (mem T.the_row) b o γ)) ∷ ‵ (flft κ q) ∷ tokens ∷ raw (Ensured r) ∷ ‵ Words ∷ []) ∵ move ! (4 ∷ []) $
         use1 𝓛 (some (λ (zs : Lasts value.ended (κ₁, (κ₂, tt)) (h, (n, (ws, (ss, tt))))). ‵ (lasts value.ended (κ₁, (κ₂, tt)) (h, (n, (ws, (ss, tt)))) zs) ⊛ raw (fact 𝓤 (Said r zs.1.1.1.0)))) (id⊢ 𝓤 _) $
-        pick ! (λ zs. split ! $ move ! (1 ∷ []) $ heard ! (Said r zs.1.1.1.0) (λ e. fsplit ! $ drop ! $ last-list ! ss zs.1.1.1.0 (λ l.
+        pick ! (λ zs. split ! $ move ! (1 ∷ []) $ heard ! (Said r zs.1.1.1.0) (λ e. fsplit ! $ drop ! $ last_list ! ss zs.1.1.1.0 (λ l.
         -- [the last list; obs; the borrow; its token; the tokens; what words own]
-        suffices ! _ (ends_at 𝓛 argument.ended stayed (thin 𝓤) bound (outcome-value r.outcome) r.outcome (r.next, (tt, (tt, (zs.1.1.1.0, tt)))) (tt, (tt, (tt, (l, tt))))) $
+        suffices ! _ (ends_at 𝓛 argument.ended stayed (thin 𝓤) bound (outcome_value r.outcome) r.outcome (r.next, (tt, (tt, (zs.1.1.1.0, tt)))) (tt, (tt, (tt, (l, tt))))) $
         says ! (record { outcome = ap (λ (x : Answer). x.outcome) e.answers; call = ap (λ (x : Answer). x.next) e.answers; writes = e.writes }) $ move ! (3 ∷ 4 ∷ []) $ join ! $ frame ! $
         move ! (3 ∷ 0 ∷ []) $ further ! n n-is $ handed ! b o r.outcome is $ done !)))
 

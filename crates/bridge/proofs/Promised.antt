@@ -16,8 +16,8 @@ use Rattle.shape.specs.declared.Arg.{Arg}
 use Rattle.classify.specs.declared.Call.{Call}
 use Rattle.classify.specs.declared.Answer.{Answer}
 use Rattle.classify.specs.declared.Outcome.{Outcome}
-use Rattle.classify.specs.Answers.{variadicAnswer, returnsAnswer, returnsWritten, argumentAnswer, argumentWritten, variadicArgumentAnswer, variadicArgumentWritten}
-use Rattle.bridge.specs.Lent.{argOf, Lends}
+use Rattle.classify.specs.Answers.{variadic_answer, returns_answer, returns_written, argument_answer, argument_written, variadic_argument_answer, variadic_argument_written}
+use Rattle.bridge.specs.Lent.{arg_of, Lends}
 use Rattle.bridge.specs.contracts.barkpaddle_bridge_variadic as variadic
 use Rattle.bridge.specs.contracts.barkpaddle_bridge_returns as returns
 use Rattle.bridge.specs.contracts.barkpaddle_bridge_argument as argument
@@ -25,7 +25,7 @@ use Rattle.bridge.specs.contracts.barkpaddle_bridge_variadic_argument as dots
 
 -- of the mark: the outcome, and the call that stands behind the reference at exit
 abbrev pub Marks : (κs : Lfts 1) → ArgsD variadic.signature κs → Outcome → AtExit variadic.ended κs → Type 0
-Marks κs a r e = (r ≡ (variadicAnswer a.0.now).outcome) × (e.0.now ≡ (variadicAnswer a.0.now).next)
+Marks κs a r e = (r ≡ (variadic_answer a.0.now).outcome) × (e.0.now ≡ (variadic_answer a.0.now).next)
 
 -- of an operation on a value, by its two definitions: the outcome, the call at exit, and the words in the slot buffer at exit
 abbrev Promise : Type 1
@@ -33,31 +33,31 @@ Promise = (κs : Lfts 3) → ArgsD argument.signature κs → Outcome → AtExit
 
 abbrev pub Asks : (Call → Arg → List ℕ → List ℕ → Answer) → (Call → Arg → List ℕ → List ℕ → List ℕ) → Promise
 Asks answer written κs a r e =
-    Lends (answer a.0.now (argOf a.1.0) a.1.1.0.now a.1.1.1.0.now)
-    (written a.0.now (argOf a.1.0) a.1.1.0.now a.1.1.1.0.now) r e.0.now e.1.1.1.0.now
+    Lends (answer a.0.now (arg_of a.1.0) a.1.1.0.now a.1.1.1.0.now)
+    (written a.0.now (arg_of a.1.0) a.1.1.0.now a.1.1.1.0.now) r e.0.now e.1.1.1.0.now
 
 abbrev pub Returns : Promise
-Returns = Asks returnsAnswer returnsWritten
+Returns = Asks returns_answer returns_written
 
 abbrev pub Passes : Promise
-Passes = Asks argumentAnswer argumentWritten
+Passes = Asks argument_answer argument_written
 
 abbrev pub PassesVariadic : Promise
-PassesVariadic = Asks variadicArgumentAnswer variadicArgumentWritten
+PassesVariadic = Asks variadic_argument_answer variadic_argument_written
 
 module _ {M : Type 1} {𝓤 : Ura M} (𝓛 : Logic 𝓤) (mem : Memory → SProp 𝓤) (run : Routine → Fun 𝓤) where
-  pub variadic-promises : (κs : Lfts 1) (a : ArgsD variadic.signature κs) (r : Outcome) (e : AtExit variadic.ended κs)
+  pub variadic_promises : (κs : Lfts 1) (a : ArgsD variadic.signature κs) (r : Outcome) (e : AtExit variadic.ended κs)
       → (variadic.clauses 𝓛 mem run κs a).ensures tt r e ≡ fact 𝓤 (Marks κs a r e)
-  variadic-promises κs a r e = refl
+  variadic_promises κs a r e = refl
 
-  pub returns-promises : (κs : Lfts 3) (a : ArgsD returns.signature κs) (r : Outcome) (e : AtExit returns.ended κs)
+  pub returns_promises : (κs : Lfts 3) (a : ArgsD returns.signature κs) (r : Outcome) (e : AtExit returns.ended κs)
       → (returns.clauses 𝓛 mem run κs a).ensures tt r e ≡ fact 𝓤 (Returns κs a r e)
-  returns-promises κs a r e = refl
+  returns_promises κs a r e = refl
 
-  pub argument-promises : (κs : Lfts 3) (a : ArgsD argument.signature κs) (r : Outcome) (e : AtExit argument.ended κs)
+  pub argument_promises : (κs : Lfts 3) (a : ArgsD argument.signature κs) (r : Outcome) (e : AtExit argument.ended κs)
       → (argument.clauses 𝓛 mem run κs a).ensures tt r e ≡ fact 𝓤 (Passes κs a r e)
-  argument-promises κs a r e = refl
+  argument_promises κs a r e = refl
 
-  pub variadic-argument-promises : (κs : Lfts 3) (a : ArgsD dots.signature κs) (r : Outcome) (e : AtExit dots.ended κs)
+  pub variadic_argument_promises : (κs : Lfts 3) (a : ArgsD dots.signature κs) (r : Outcome) (e : AtExit dots.ended κs)
       → (dots.clauses 𝓛 mem run κs a).ensures tt r e ≡ fact 𝓤 (PassesVariadic κs a r e)
-  variadic-argument-promises κs a r e = refl
+  variadic_argument_promises κs a r e = refl

@@ -46,22 +46,22 @@ use Rattle.classify.proofs.Answer.TheLaws as N'
 abbrev pub mach : Call → Val
 mach c = LL.val T.the_type T'.the_laws c
 
-abbrev pub outcome-value : Outcome → Val
-outcome-value r = LL.val O.the_type O'.the_laws r
+abbrev pub outcome_value : Outcome → Val
+outcome_value r = LL.val O.the_type O'.the_laws r
 
 -- what whoever holds an answer knows of its two parts
-next-is : (r : Answer) (w : Val) → Is N.the_row r (w ∷ []) → Is T.the_row r.next (mach r.next ∷ [])
-next-is r w is = (LL.owed N.the_type N'.the_laws r _ is).0
+next_is : (r : Answer) (w : Val) → Is N.the_row r (w ∷ []) → Is T.the_row r.next (mach r.next ∷ [])
+next_is r w is = (LL.owed N.the_type N'.the_laws r _ is).0
 
-outcome-is : (r : Answer) (w : Val) → Is N.the_row r (w ∷ []) → Is O.the_row r.outcome (outcome-value r.outcome ∷ [])
-outcome-is r w is = (LL.owed N.the_type N'.the_laws r _ is).1.0
+outcome_is : (r : Answer) (w : Val) → Is N.the_row r (w ∷ []) → Is O.the_row r.outcome (outcome_value r.outcome ∷ [])
+outcome_is r w is = (LL.owed N.the_type N'.the_laws r _ is).1.0
 
 module _ {M : Type 1} {𝓤 : Ura M} {𝓛 : Logic 𝓤} {K : Type 0} {Γ : List (Item 𝓤)} where
   -- a place in the local that the environment has at i
   open 𝓛 use {H}
 
-  pub in-local : K → {E : Env 𝓤 H} {i : ℕ} {st : List PStep} {s sp : Spot 𝓤 H} → spot_of 𝓤 H E i ≡ s → Walks K 𝓛 Γ E s st sp → Finds K 𝓛 Γ E (place i st) sp
-  in-local t {E} {i} {st} e w = record { go = λ Kt h. subst (λ (s : Spot 𝓤 H). ent 𝓤 (⋆ 𝓛 Γ) (walk 𝓤 H E s st Kt)) (sym e) (w.go Kt h) }
+  pub in_local : K → {E : Env 𝓤 H} {i : ℕ} {st : List PStep} {s sp : Spot 𝓤 H} → spot_of 𝓤 H E i ≡ s → Walks K 𝓛 Γ E s st sp → Finds K 𝓛 Γ E (place i st) sp
+  in_local t {E} {i} {st} e w = record { go = λ Kt h. subst (λ (s : Spot 𝓤 H). ent 𝓤 (⋆ 𝓛 Γ) (walk 𝓤 H E s st Kt)) (sym e) (w.go Kt h) }
 
   -- a local that holds something is freed
   pub gone : K → {τ : Ty} {l : ℕ} {v : Val} {E : Env 𝓤 H} {g : Goal 𝓤 H} → Step K 𝓛 Γ (frees E g) (‵ (fat full_share τ l zero v) ∷ ‵ (fdies τ l) ∷ Γ) (frees ((τ, l) ∷ E) g)
@@ -95,8 +95,8 @@ module _ {M : Type 1} {𝓤 : Ura M} {𝓛 : Logic 𝓤} {K : Type 0} {Γ : List
       use1 𝓛 (‵ ((ShrSlice ρ κ u64).own_val ws (slice ws ∷ [])) ⊛ ‵ ((ShrSlice ρ κ u64).own_val ws (slice ws ∷ []))) ((shr_slice_copy 𝓛 ρ κ u64).twice ws (slice ws ∷ [])) $
       split t $ move t (2 ∷ []) $ fsplit t $ move t (1 ∷ []) $ drop t $ s)
 
-  pub last-list : K → (s : MutBor (List ℕ)) (zs : List ℕ) → (length zs ≡ length s.now → Seq K 𝓛 (‵ (finally u64 s.ghost_name zs) ∷ Γ) G) → Seq K 𝓛 (‵ (LastList s zs) ∷ Γ) G
-  last-list t s zs k = fsplit t $ drop t $ fsplit t $ drop t $ fsplit t $ fsplit t $ move t (1 ∷ []) $ feq_l t (λ l. move t (1 ∷ []) $ drop t $ k l)
+  pub last_list : K → (s : MutBor (List ℕ)) (zs : List ℕ) → (length zs ≡ length s.now → Seq K 𝓛 (‵ (finally u64 s.ghost_name zs) ∷ Γ) G) → Seq K 𝓛 (‵ (LastList s zs) ∷ Γ) G
+  last_list t s zs k = fsplit t $ drop t $ fsplit t $ drop t $ fsplit t $ fsplit t $ move t (1 ∷ []) $ feq_l t (λ l. move t (1 ∷ []) $ drop t $ k l)
 
 -- the buffer, the parameter 4, goes to a callee: its pointer is made anew in the local i, and the slice in the local j
 pub passed_on : {M : Type 1} {𝓤 : Ura M} {𝓛 : Logic 𝓤} {K : Type 0} {Γ : List (Item 𝓤)} {C : Calls 𝓤 𝓛.H} {Λ : Loops 𝓤 𝓛.H} {E : Env 𝓤 𝓛.H} {p : Post 𝓤 𝓛.H}
@@ -107,9 +107,9 @@ pub passed_on : {M : Type 1} {𝓤 : Ura M} {𝓛 : Logic 𝓤} {K : Type 0} {Γ
     (‵ (fat full_share (slice_ty (ty_ref ρ mut (ty_int w64))) l zero (slice s)) ∷ ‵ (froom (ty_ref erased mut (ty_int w64)) l₁ zero) ∷ ‵ (froom (slice_ty (ty_ref erased mut (ty_int w64))) l₂ zero) ∷ Γ)
     (runs C Λ E (seq (assign (place i []) (addr_of (place 4 (field 0 ∷ deref (ty_int w64) ∷ [])))) (seq (assign (place j []) (aggregate (copy (place i []) ∷ copy (place 4 (field 1 ∷ [])) ∷ []))) rest)) p)
 passed_on t s room at-4 at_i at_j = step (λ k.
-    assigns t (addr t (in-local t at-4 (fld t refl (hop t (look_in t 0 (sub t 0 refl (whole t))) (stop t))))) (in-local t at_i (stop t)) (init t 1 refl (tt, tt)) $
-    assigns t (agg t (and_then t (load t (in-local t at_i (stop t)) (look t 1 refl)) (and_then t (load t (in-local t at-4 (fld t refl (stop t))) (look_in t 0 (sub t 1 refl (whole t)))) (no_more t))))
-    (in-local t at_j (stop t)) (init t 2 refl (tt, (tt, (record { fits = room.0 }, tt)))) $ k)
+    assigns t (addr t (in_local t at-4 (fld t refl (hop t (look_in t 0 (sub t 0 refl (whole t))) (stop t))))) (in_local t at_i (stop t)) (init t 1 refl (tt, tt)) $
+    assigns t (agg t (and_then t (load t (in_local t at_i (stop t)) (look t 1 refl)) (and_then t (load t (in_local t at-4 (fld t refl (stop t))) (look_in t 0 (sub t 1 refl (whole t)))) (no_more t))))
+    (in_local t at_j (stop t)) (init t 2 refl (tt, (tt, (record { fits = room.0 }, tt)))) $ k)
 
 -- ---- a form over a lent call
 
@@ -134,7 +134,7 @@ module _ {M : Type 1} {𝓤 : Ura M} {𝓛 : Logic 𝓤} {K : Type 0} {Γ : List
   copied t b o h e k =
       opens t tt T.the_row {h = h} b o (λ us. spelt t T.the_row (Is T.the_row) (shows 𝓛 T.the_row) (LL.vals T.the_type T'.the_laws) (LL.tells T.the_type T'.the_laws) full_share h us b o $
       move t (1 ∷ []) $ peeks t T.the_row (Is T.the_row) (shows 𝓛 T.the_row) h (mach h ∷ []) (λ g. drop t $
-      assigns t (of_opd t (load t (from t (hop t (look t 4 refl) (stop t))) (look_raw t 0 refl))) (in-local t e (stop t)) (init t 5 refl ((LL.lawful T.the_type T'.the_laws 𝓛).typed h _ g).0) $
+      assigns t (of_opd t (load t (from t (hop t (look t 4 refl) (stop t))) (look_raw t 0 refl))) (in_local t e (stop t)) (init t 5 refl ((LL.lawful T.the_type T'.the_laws 𝓛).typed h _ g).0) $
       move t (2 ∷ 3 ∷ []) $ join t $ move t (2 ∷ 0 ∷ []) $ join t $ move t (1 ∷ 0 ∷ []) $ join t $ k g))
 
   -- the value form is called, by its contract: its answer lands in the local a, at l, the answer's call goes into the place of the old one, where the borrow
@@ -142,27 +142,27 @@ module _ {M : Type 1} {𝓤 : Ura M} {𝓛 : Logic 𝓤} {K : Type 0} {Γ : List
   pub answered : K → FmC 𝓤 H 𝓛.laws C → {f : Name} {xs : List Opd} {a : ℕ} {Kf : Val → SProp 𝓤} (b o : ℕ) (h : Call) (c : Contract 𝓤) → Triple 𝓤 (C f) c → (x : c.Ghost) (tokens : Item 𝓤) (S : Answer → SProp 𝓤)
       → ((w : Val) → ent 𝓤 (c.post x w) (mean 𝓛 (later (some (λ (r : Answer). (tokens ⊛ ‵ ((N.the_row).own_val r (w ∷ []))) ⊛ raw (S r)))))) → spot_of 𝓤 H (Locals τ l₀ l₁ E) a ≡ (N'.mir, l, zero)
       → Opds K 𝓛 (raw (c.pre x) ∷ Open κ q γ b o h ∷ ‵ (fat full_share τ l₁ zero (vptr b o)) ∷ ‵ (froom N'.mir l zero) ∷ ‵ (froom O'.mir l₀ zero) ∷ Γ) (Locals τ l₀ l₁ E) xs (c.args x)
-      → ((r : Answer) (v : Val) → Is O.the_row r.outcome (outcome-value r.outcome ∷ [])
+      → ((r : Answer) (v : Val) → Is O.the_row r.outcome (outcome_value r.outcome ∷ [])
       → Seq K 𝓛 (‵ (fobs γ ((T.the_row).coded.code r.next)) ∷ ‵ (fbor κ (Body (mem T.the_row) b o γ)) ∷ ‵ (flft κ q) ∷ tokens ∷ raw (S r)
-      ∷ ‵ (fat full_share τ l₁ zero (vptr b o)) ∷ ‵ (fat full_share N'.mir l zero v) ∷ ‵ (fat full_share O'.mir l₀ zero (outcome-value r.outcome)) ∷ Γ) (frees (Locals τ l₀ l₁ E) (prop (Kf (outcome-value r.outcome)))))
+      ∷ ‵ (fat full_share τ l₁ zero (vptr b o)) ∷ ‵ (fat full_share N'.mir l zero v) ∷ ‵ (fat full_share O'.mir l₀ zero (outcome_value r.outcome)) ∷ Γ) (frees (Locals τ l₀ l₁ E) (prop (Kf (outcome_value r.outcome)))))
       → Seq K 𝓛 (raw (c.pre x) ∷ Open κ q γ b o h ∷ ‵ (fat full_share τ l₁ zero (vptr b o)) ∷ ‵ (froom N'.mir l zero) ∷ ‵ (froom O'.mir l₀ zero) ∷ Γ)
       (runs C Λ (Locals τ l₀ l₁ E) (seq (call f xs (place a [])) (seq (assign (place 1 (deref T'.mir ∷ [])) (rv_opd (copy (place a (field 0 ∷ []))))) (seq (assign (place 0 []) (rv_opd (copy (place a (field 1 ∷ []))))) return))) (at_ret (Locals τ l₀ l₁ E) Kf))
   answered t fm b o h c known x tokens S gives e os k =
       calls_at t fm c known x os (λ w. use1 𝓛 (later (some (λ (r : Answer). (tokens ⊛ ‵ ((N.the_row).own_val r (w ∷ []))) ⊛ raw (S r)))) (gives w) $ await t tt $ pick t (λ r.
       split t $ split t $ move t (1 ∷ []) $ peeks t N.the_row (Is N.the_row) (shows 𝓛 N.the_row) r (w ∷ []) (λ is. drop t $
       -- [the tokens; what it says; the open call; _1; room for the answer; room for _0]
-      land t (in-local t e (stop t)) (init t 4 refl ((LL.lawful N.the_type N'.the_laws 𝓛).typed r _ is).0) $
+      land t (in_local t e (stop t)) (init t 4 refl ((LL.lawful N.the_type N'.the_laws 𝓛).typed r _ is).0) $
       rewrite t 4 (λ (u : Val). ‵ (fat full_share N'.mir l zero u)) (ap only (LL.tells N.the_type N'.the_laws r _ is)) refl $ move t (2 ∷ []) $ split t $
-      assigns t (of_opd t (load t (in-local t e (fld t refl (stop t))) (look_in t 5 (sub t 0 refl (whole t))))) (from t (hop t (look t 4 refl) (stop t)))
-      (store_raw t 0 refl ((LL.lawful T.the_type T'.the_laws 𝓛).typed r.next _ (next-is r w is)).0) $
-      assigns t (of_opd t (load t (in-local t e (fld t refl (stop t))) (look_in t 5 (sub t 1 refl (whole t))))) (from t (stop t))
-      (init t 6 refl ((LL.lawful O.the_type O'.the_laws 𝓛).typed r.outcome _ (outcome-is r w is)).0) $
-      move t (1 ∷ []) $ split t $ move t (1 ∷ []) $ split t $ owned t T.the_row (Is T.the_row) (LL.makes T.the_type T'.the_plain 𝓛) r.next _ (next-is r w is) $
+      assigns t (of_opd t (load t (in_local t e (fld t refl (stop t))) (look_in t 5 (sub t 0 refl (whole t))))) (from t (hop t (look t 4 refl) (stop t)))
+      (store_raw t 0 refl ((LL.lawful T.the_type T'.the_laws 𝓛).typed r.next _ (next_is r w is)).0) $
+      assigns t (of_opd t (load t (in_local t e (fld t refl (stop t))) (look_in t 5 (sub t 1 refl (whole t))))) (from t (stop t))
+      (init t 6 refl ((LL.lawful O.the_type O'.the_laws 𝓛).typed r.outcome _ (outcome_is r w is)).0) $
+      move t (1 ∷ []) $ split t $ move t (1 ∷ []) $ split t $ owned t T.the_row (Is T.the_row) (LL.makes T.the_type T'.the_plain 𝓛) r.next _ (next_is r w is) $
       move t (4 ∷ 0 ∷ 3 ∷ 1 ∷ 2 ∷ []) $ closes t tt T.the_row r.next (mach r.next ∷ []) b o $
-      returns t (look t 7 refl) $ k r _ (outcome-is r w is))))
+      returns t (look t 7 refl) $ k r _ (outcome_is r w is))))
 
 -- at exit: the reference at its last call, before what is had of the parameters behind it, and the outcome
-pub handed : {M : Type 1} {𝓤 : Ura M} {𝓛 : Logic 𝓤} {K : Type 0} {Γ : List (Item 𝓤)} {G : Goal 𝓤 𝓛.H} → K → {P obs bor : Fml} (b o : ℕ) (r : Outcome) → Is O.the_row r (outcome-value r ∷ [])
-    → Step K 𝓛 (‵ (fsep (fsep (feq (List Val) (vptr b o ∷ []) (vptr b o ∷ [])) (fsep obs bor)) P) ∷ ‵ ((O.the_row).own_val r (outcome-value r ∷ [])) ∷ Γ) G (‵ P ∷ ‵ obs ∷ ‵ bor ∷ Γ) G
+pub handed : {M : Type 1} {𝓤 : Ura M} {𝓛 : Logic 𝓤} {K : Type 0} {Γ : List (Item 𝓤)} {G : Goal 𝓤 𝓛.H} → K → {P obs bor : Fml} (b o : ℕ) (r : Outcome) → Is O.the_row r (outcome_value r ∷ [])
+    → Step K 𝓛 (‵ (fsep (fsep (feq (List Val) (vptr b o ∷ []) (vptr b o ∷ [])) (fsep obs bor)) P) ∷ ‵ ((O.the_row).own_val r (outcome_value r ∷ [])) ∷ Γ) G (‵ P ∷ ‵ obs ∷ ‵ bor ∷ Γ) G
 handed {𝓤 = 𝓤} {𝓛 = 𝓛} t b o r is = step (λ s. move t (1 ∷ 2 ∷ []) $ feq_i t (List Val) (vptr b o ∷ []) (vptr b o ∷ []) refl $ fjoin3 t $ fjoin t $
     owned t O.the_row (Is O.the_row) (LL.makes O.the_type O'.the_plain 𝓛) r _ is $ move t (1 ∷ 0 ∷ []) $ s)

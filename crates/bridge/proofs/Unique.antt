@@ -5,35 +5,35 @@ use contract.Lifetimes.{Lfts}
 use Rattle.shape.proofs.OneAnswer.{OneAnswer, OneExit}
 use Rattle.bridge.proofs.Promised.{Marks, Returns, Passes, PassesVariadic}
 
-variadic-decides : (κs : Lfts 1) → OneAnswer (Marks κs)
-variadic-decides κs a r q s t p p' = p.0 ∙ sym p'.0
+variadic_decides : (κs : Lfts 1) → OneAnswer (Marks κs)
+variadic_decides κs a r q s t p p' = p.0 ∙ sym p'.0
 
-variadic-call : (κs : Lfts 1) → OneExit (Marks κs) (λ s. s.0.now)
-variadic-call κs a r q s t p p' = p.1 ∙ sym p'.1
+variadic_call : (κs : Lfts 1) → OneExit (Marks κs) (λ s. s.0.now)
+variadic_call κs a r q s t p p' = p.1 ∙ sym p'.1
 
-returns-decides : (κs : Lfts 3) → OneAnswer (Returns κs)
-returns-decides κs a r q s t p p' = p.outcome ∙ sym p'.outcome
+returns_decides : (κs : Lfts 3) → OneAnswer (Returns κs)
+returns_decides κs a r q s t p p' = p.outcome ∙ sym p'.outcome
 
-returns-call : (κs : Lfts 3) → OneExit (Returns κs) (λ s. s.0.now)
-returns-call κs a r q s t p p' = p.call ∙ sym p'.call
+returns_call : (κs : Lfts 3) → OneExit (Returns κs) (λ s. s.0.now)
+returns_call κs a r q s t p p' = p.call ∙ sym p'.call
 
-returns-words : (κs : Lfts 3) → OneExit (Returns κs) (λ s. s.1.1.1.0.now)
-returns-words κs a r q s t p p' = p.writes ∙ sym p'.writes
+returns_words : (κs : Lfts 3) → OneExit (Returns κs) (λ s. s.1.1.1.0.now)
+returns_words κs a r q s t p p' = p.writes ∙ sym p'.writes
 
-argument-decides : (κs : Lfts 3) → OneAnswer (Passes κs)
-argument-decides κs a r q s t p p' = p.outcome ∙ sym p'.outcome
+argument_decides : (κs : Lfts 3) → OneAnswer (Passes κs)
+argument_decides κs a r q s t p p' = p.outcome ∙ sym p'.outcome
 
-argument-call : (κs : Lfts 3) → OneExit (Passes κs) (λ s. s.0.now)
-argument-call κs a r q s t p p' = p.call ∙ sym p'.call
+argument_call : (κs : Lfts 3) → OneExit (Passes κs) (λ s. s.0.now)
+argument_call κs a r q s t p p' = p.call ∙ sym p'.call
 
-argument-words : (κs : Lfts 3) → OneExit (Passes κs) (λ s. s.1.1.1.0.now)
-argument-words κs a r q s t p p' = p.writes ∙ sym p'.writes
+argument_words : (κs : Lfts 3) → OneExit (Passes κs) (λ s. s.1.1.1.0.now)
+argument_words κs a r q s t p p' = p.writes ∙ sym p'.writes
 
-variadic-argument-decides : (κs : Lfts 3) → OneAnswer (PassesVariadic κs)
-variadic-argument-decides κs a r q s t p p' = p.outcome ∙ sym p'.outcome
+variadic_argument_decides : (κs : Lfts 3) → OneAnswer (PassesVariadic κs)
+variadic_argument_decides κs a r q s t p p' = p.outcome ∙ sym p'.outcome
 
-variadic-argument-call : (κs : Lfts 3) → OneExit (PassesVariadic κs) (λ s. s.0.now)
-variadic-argument-call κs a r q s t p p' = p.call ∙ sym p'.call
+variadic_argument_call : (κs : Lfts 3) → OneExit (PassesVariadic κs) (λ s. s.0.now)
+variadic_argument_call κs a r q s t p p' = p.call ∙ sym p'.call
 
-variadic-argument-words : (κs : Lfts 3) → OneExit (PassesVariadic κs) (λ s. s.1.1.1.0.now)
-variadic-argument-words κs a r q s t p p' = p.writes ∙ sym p'.writes
+variadic_argument_words : (κs : Lfts 3) → OneExit (PassesVariadic κs) (λ s. s.1.1.1.0.now)
+variadic_argument_words κs a r q s t p p' = p.writes ∙ sym p'.writes

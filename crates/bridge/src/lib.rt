@@ -1,8 +1,10 @@
 // The bridge's forms of a call's operations (docs/REFERENCE.md, 14): the call is lent and updated where it stands, and what is asked and what
 // is answered are numbers. Each form over a lent call is a thin one over a value form, which does all the work.
+#![tactic(auto)]
+
 ghost use Rattle.std.specs.Prelude.{◌≡◌};
-ghost use Rattle.classify.specs.Answers.{variadicAnswer, Returns, Passes, PassesVariadic};
-ghost use Rattle.bridge.specs.Lent.{argOf, LentReturns, LentPasses, LentPassesVariadic};
+ghost use Rattle.classify.specs.Answers.{variadic_answer, Returns, Passes, PassesVariadic};
+ghost use Rattle.bridge.specs.Lent.{arg_of, LentReturns, LentPasses, LentPassesVariadic};
 
 use classify::{Answer, Call, Outcome};
 use shape::{Arg, Scalar};
@@ -28,7 +30,7 @@ const NO_KIND: u64 = 5;
 // The same call, to a function whose parameters end in dots.
 #[unsafe(no_mangle)]
 pub extern "C" fn barkpaddle_bridge_variadic(call: &mut Call) -> Outcome
-    ensures { (result ≡ (variadicAnswer call.old).outcome) × (call.new ≡ (variadicAnswer call.old).next) }
+    ensures { (result ≡ (variadic_answer call.old).outcome) × (call.new ≡ (variadic_answer call.old).next) }
 {
     let answer = variadic_of(*call);
     *call = answer.next;
@@ -83,32 +85,32 @@ pub extern "C" fn barkpaddle_bridge_variadic_argument(
 // ---- the value forms
 
 fn variadic_of(call: Call) -> Answer
-    ensures { result ≡ variadicAnswer call }
+    ensures { result ≡ variadic_answer call }
 {
     call.variadic()
 }
 
 fn returns_of(call: Call, what: What, words: &[u64], slots: &mut [u64]) -> Answer
-    ensures { Returns call (argOf what) words.now slots.old result slots.new }
+    ensures { Returns call (arg_of what) words.now slots.old result slots.new }
 {
     call.returns(arg_of(what), words, slots)
 }
 
 fn argument_of(call: Call, what: What, words: &[u64], slots: &mut [u64]) -> Answer
-    ensures { Passes call (argOf what) words.now slots.old result slots.new }
+    ensures { Passes call (arg_of what) words.now slots.old result slots.new }
 {
     call.argument(arg_of(what), words, slots)
 }
 
 fn variadic_argument_of(call: Call, what: What, words: &[u64], slots: &mut [u64]) -> Answer
-    ensures { PassesVariadic call (argOf what) words.now slots.old result slots.new }
+    ensures { PassesVariadic call (arg_of what) words.now slots.old result slots.new }
 {
     call.variadic_argument(arg_of(what), words, slots)
 }
 
 // A form that isn't known is refused as a scalar of no kind, in the order of the other refusals.
 fn arg_of(what: What) -> Arg
-    ensures { result ≡ argOf what }
+    ensures { result ≡ arg_of what }
 {
     if what.form == shape::FORM_VOID {
         return Arg::Void;

@@ -38,7 +38,7 @@ use Rattle.classify.specs.declared.Call.{Call}
 use Rattle.classify.specs.declared.Answer.{Answer}
 use Rattle.bridge.specs.declared.What.{What}
 use Rattle.classify.specs.declared.Outcome.{Outcome}
-use Rattle.bridge.specs.Lent.{argOf, Lends}
+use Rattle.bridge.specs.Lent.{arg_of, Lends}
 use Rattle.classify.specs.contracts.Call as T
 use Rattle.classify.proofs.Call.TheLaws as T'
 use Rattle.bridge.specs.contracts.What as Q
@@ -47,9 +47,9 @@ use Rattle.classify.proofs.Outcome.TheLaws as O'
 use Rattle.classify.specs.contracts.Answer as N
 use Rattle.classify.proofs.Answer.TheLaws as N'
 use Rattle.bridge.proofs.Asking as form
-use Rattle.bridge.proofs.Steps.{mach, question, slice, LastList, gone, further, apart, last-list, passed_on}
+use Rattle.bridge.proofs.Steps.{mach, question, slice, LastList, gone, further, apart, last_list, passed_on}
 use Rattle.bridge.specs.contracts.barkpaddle_bridge_argument as thin
-use Rattle.bridge_main.proofs.Steps.{left, left-value, lent_ref, Lent, lent, back}
+use Rattle.bridge_main.proofs.Steps.{left, left_value, lent_ref, Lent, lent, back}
 use Rattle.bridge_main.specs.contracts.argument as argument
 
 -- the MIR of such a function
@@ -76,7 +76,7 @@ module _ (ans : Call → Arg → List ℕ → List ℕ → Answer) (wri : Call �
     ghost = Unit {0};
     requires = λ _. emp 𝓤;
     ensures = λ _ r e.
-        fact 𝓤 (Lends (ans a.0 (argOf a.1.0) a.1.1.0.now a.1.1.1.0.now) (wri a.0 (argOf a.1.0) a.1.1.0.now a.1.1.1.0.now) r.outcome r.next e.1.1.1.0.now);
+        fact 𝓤 (Lends (ans a.0 (arg_of a.1.0) a.1.1.0.now a.1.1.1.0.now) (wri a.0 (arg_of a.1.0) a.1.1.0.now a.1.1.1.0.now) r.outcome r.next e.1.1.1.0.now);
   }
 
   abbrev pub Form : {M : Type 1} {𝓤 : Ura M} (𝓛 : Logic 𝓤) → Contract 𝓤
@@ -123,13 +123,13 @@ module _ (ans : Call → Arg → List ℕ → List ℕ → Answer) (wri : Call �
     Last = Call × (Unit {0} × (Unit {0} × (List ℕ × Unit {0})))
 
     abbrev Said : Outcome → Last → Type 0
-    Said r zs = Lends (ans h (argOf n) ws.now ss.now) (wri h (argOf n) ws.now ss.now) r zs.0 zs.1.1.1.0
+    Said r zs = Lends (ans h (arg_of n) ws.now ss.now) (wri h (arg_of n) ws.now ss.now) r zs.0 zs.1.1.1.0
 
-    exits : (r : Outcome) (zs : Last) → Said r zs → Is N.the_row (left zs.0 r) (left-value zs.0 r ∷ [])
-        → ent 𝓤 (⋆ 𝓛 (tokens ∷ ‵ (LastList ss zs.1.1.1.0) ∷ ‵ Words ∷ [])) (Post (left-value zs.0 r))
+    exits : (r : Outcome) (zs : Last) → Said r zs → Is N.the_row (left zs.0 r) (left_value zs.0 r ∷ [])
+        → ent 𝓤 (⋆ 𝓛 (tokens ∷ ‵ (LastList ss zs.1.1.1.0) ∷ ‵ Words ∷ [])) (Post (left_value zs.0 r))
     exits r zs e is =
-        qed 𝓛 (tokens ∷ ‵ (LastList ss zs.1.1.1.0) ∷ ‵ Words ∷ []) ∵ move ! (1 ∷ []) $ last-list ! ss zs.1.1.1.0 (λ l.
-        suffices ! _ (ends_at 𝓛 argument.ended stayed (here 𝓤) bound (left-value zs.0 r) (left zs.0 r) (tt, (tt, (tt, (zs.1.1.1.0, tt)))) (tt, (tt, (tt, (l, tt))))) $
+        qed 𝓛 (tokens ∷ ‵ (LastList ss zs.1.1.1.0) ∷ ‵ Words ∷ []) ∵ move ! (1 ∷ []) $ last_list ! ss zs.1.1.1.0 (λ l.
+        suffices ! _ (ends_at 𝓛 argument.ended stayed (here 𝓤) bound (left_value zs.0 r) (left zs.0 r) (tt, (tt, (tt, (zs.1.1.1.0, tt)))) (tt, (tt, (tt, (l, tt))))) $
         says ! e $ move ! (1 ∷ []) $ frame ! $ move ! (1 ∷ 0 ∷ []) $ further ! n n-is $ owned ! T.the_row (Is T.the_row) (LL.makes T.the_type T'.the_plain 𝓛) h _ h-is $ fjoin ! $
         owned ! N.the_row (Is N.the_row) (LL.makes N.the_type N'.the_plain 𝓛) (left zs.0 r) _ is $ move ! (1 ∷ 0 ∷ []) $ done !)
 

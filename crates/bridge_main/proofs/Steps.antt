@@ -37,24 +37,24 @@ use Rattle.classify.specs.contracts.Outcome as O
 use Rattle.classify.proofs.Outcome.TheLaws as O'
 use Rattle.classify.specs.contracts.Answer as N
 use Rattle.classify.proofs.Answer.TheLaws as N'
-use Rattle.bridge.proofs.Steps.{mach, in-local}
+use Rattle.bridge.proofs.Steps.{mach, in_local}
 
 -- ---- a call in a local's cell is a call in memory, and back: what is lent is what lies in memory
 
 module _ {M : Type 1} {𝓤 : Ura M} (𝓛 : Logic 𝓤) (c : Call) (l : ℕ) where
   open 𝓛 use {H}
 
-  call-in : Is T.the_row c (mach c ∷ []) → ent 𝓤 (H.at full_share T'.mir l 0 (mach c)) (sem 𝓛 (part_at T.the_row full_share c l 0))
+  call_in : Is T.the_row c (mach c ∷ []) → ent 𝓤 (H.at full_share T'.mir l 0 (mach c)) (sem 𝓛 (part_at T.the_row full_share c l 0))
   unfolding part_of
-  call-in is =
+  call_in is =
       qed 𝓛 (‵ (fat full_share T'.mir l 0 (mach c)) ∷ []) ∵
       use1 𝓛 (‵ (cell_at full_share (T.the_row).mir (mach c ∷ []) l 0)) (𝓛.laws.at_raw full_share T'.mir l 0 (mach c)) $
       owned ! T.the_row (Is T.the_row) (LL.makes T.the_type T'.the_plain 𝓛) c _ is $ move ! (1 ∷ 0 ∷ []) $ fjoin ! $
       fpack ! (List Val) (λ vs. fsep (cell_at full_share (T.the_row).mir vs l 0) ((T.the_row).own_val c vs)) (mach c ∷ []) $ done !
 
-  call-out : ent 𝓤 (sem 𝓛 (part_at T.the_row full_share c l 0)) (sep 𝓤 (H.at full_share T'.mir l 0 (mach c)) (sem 𝓛 ((T.the_row).own_val c (mach c ∷ []))))
+  call_out : ent 𝓤 (sem 𝓛 (part_at T.the_row full_share c l 0)) (sep 𝓤 (H.at full_share T'.mir l 0 (mach c)) (sem 𝓛 ((T.the_row).own_val c (mach c ∷ []))))
   unfolding part_of
-  call-out =
+  call_out =
       qed 𝓛 (‵ (part_at T.the_row full_share c l 0) ∷ []) ∵ fpick ! (λ vs. fsplit ! $
       spelt ! T.the_row (Is T.the_row) (shows 𝓛 T.the_row) (LL.vals T.the_type T'.the_laws) (LL.tells T.the_type T'.the_laws) full_share c vs l 0 $
       use1 𝓛 (‵ (fat full_share T'.mir l 0 (mach c))) (𝓛.laws.raw_at full_share T'.mir l 0 (mach c)) $ done !)
@@ -65,14 +65,14 @@ module _ {M : Type 1} {𝓤 : Ura M} (𝓛 : Logic 𝓤) (c : Call) (l : ℕ) wh
 abbrev pub left : Call → Outcome → Answer
 left z r = record { next = z; outcome = r }
 
-abbrev pub left-value : Call → Outcome → Val
-left-value z r = LL.val N.the_type N'.the_laws (left z r)
+abbrev pub left_value : Call → Outcome → Val
+left_value z r = LL.val N.the_type N'.the_laws (left z r)
 
-outcome-is : (r : Outcome) (w : Val) → Is O.the_row r (w ∷ []) → Is O.the_row r (LL.vals O.the_type O'.the_laws r)
-outcome-is r w is = subst (λ (vs : List Val). Is O.the_row r vs) (LL.tells O.the_type O'.the_laws r _ is) is
+outcome_is : (r : Outcome) (w : Val) → Is O.the_row r (w ∷ []) → Is O.the_row r (LL.vals O.the_type O'.the_laws r)
+outcome_is r w is = subst (λ (vs : List Val). Is O.the_row r vs) (LL.tells O.the_type O'.the_laws r _ is) is
 
-left_is : (z : Call) (r : Outcome) (w : Val) → Is T.the_row z (mach z ∷ []) → Is O.the_row r (w ∷ []) → Is N.the_row (left z r) (left-value z r ∷ [])
-left_is z r w z-is is = LL.owes N.the_type N'.the_laws (left z r) (z-is, (outcome-is r w is, tt))
+left_is : (z : Call) (r : Outcome) (w : Val) → Is T.the_row z (mach z ∷ []) → Is O.the_row r (w ∷ []) → Is N.the_row (left z r) (left_value z r ∷ [])
+left_is z r w z-is is = LL.owes N.the_type N'.the_laws (left z r) (z-is, (outcome_is r w is, tt))
 
 -- ---- the two steps
 
@@ -103,9 +103,9 @@ module _ {M : Type 1} {𝓤 : Ura M} {𝓛 : Logic 𝓤} {K : Type 0} {Γ : List
       → Seq K 𝓛 (‵ (fat full_share T'.mir l₁ zero (mach h)) ∷ ‵ (froom T'.mir l zero) ∷ ‵ (froom RefTy m zero) ∷ Γ)
       (runs C Λ (Locals l₀ l₁ E) (seq (assign (place i []) (rv_opd (copy (place 1 [])))) (seq (assign (place j []) (addr_of (place i []))) rest)) p)
   lent t h h-is at_i at_j k =
-      assigns t (of_opd t (load t (from t (stop t)) (look t 0 refl))) (in-local t at_i (stop t)) (init t 1 refl ((LL.lawful T.the_type T'.the_laws 𝓛).typed h _ h-is).0) $
-      assigns t (addr t (in-local t at_i (stop t))) (in-local t at_j (stop t)) (init t 2 refl (tt, tt)) $
-      move t (1 ∷ []) $ use1 𝓛 (‵ (part_at T.the_row full_share h l 0)) (call-in 𝓛 h l h-is) $ lft_new t tt (λ α. move t (1 ∷ []) $
+      assigns t (of_opd t (load t (from t (stop t)) (look t 0 refl))) (in_local t at_i (stop t)) (init t 1 refl ((LL.lawful T.the_type T'.the_laws 𝓛).typed h _ h-is).0) $
+      assigns t (addr t (in_local t at_i (stop t))) (in_local t at_j (stop t)) (init t 2 refl (tt, tt)) $
+      move t (1 ∷ []) $ use1 𝓛 (‵ (part_at T.the_row full_share h l 0)) (call_in 𝓛 h l h-is) $ lft_new t tt (λ α. move t (1 ∷ []) $
       use1 𝓛 (later (some (λ (δ : GName). ‵ (Lent h α l δ) ⊛ ‵ (Lender α l δ)))) (lends_ref 𝓛 T.the_row (named 0) (α ∷ []) h l 0) $ await t tt $ pick t (λ δ. split t $ k α δ))
 
   -- the form is called, by its contract, which ensures `says` and tells the call's last value, `last`, beside `others`: its outcome lands in the local u,
@@ -116,9 +116,9 @@ module _ {M : Type 1} {𝓤 : Ura M} {𝓛 : Logic 𝓤} {K : Type 0} {Γ : List
       ⊛ some (λ (zs : Z). ‵ (fsep (fres δ ((T.the_row).coded.code (last zs))) (others zs)) ⊛ raw (fact 𝓤 (says r zs))))))))
       → spot_of 𝓤 H (Locals l₀ l₁ E) i ≡ (T'.mir, l, zero) → spot_of 𝓤 H (Locals l₀ l₁ E) u ≡ (O'.mir, m, zero) → spot_of 𝓤 H (Locals l₀ l₁ E) z ≡ (T'.mir, n, zero)
       → Opds K 𝓛 (raw (c.pre x) ∷ ‵ (Lender α l δ) ∷ ‵ (froom O'.mir m zero) ∷ ‵ (froom T'.mir n zero) ∷ ‵ (froom N'.mir l₀ zero) ∷ Γ) (Locals l₀ l₁ E) xs (c.args x)
-      → ((r : Outcome) (zs : Z) (v : Val) → says r zs → Is N.the_row (left (last zs) r) (left-value (last zs) r ∷ [])
+      → ((r : Outcome) (zs : Z) (v : Val) → says r zs → Is N.the_row (left (last zs) r) (left_value (last zs) r ∷ [])
       → Seq K 𝓛 (‵ (fat full_share T'.mir l zero (mach (last zs))) ∷ tokens ∷ ‵ (others zs) ∷ ‵ (fat full_share O'.mir m zero v) ∷ ‵ (fat full_share T'.mir n zero (mach (last zs)))
-      ∷ ‵ (fat full_share N'.mir l₀ zero (left-value (last zs) r)) ∷ Γ) (frees (Locals l₀ l₁ E) (prop (Kf (left-value (last zs) r)))))
+      ∷ ‵ (fat full_share N'.mir l₀ zero (left_value (last zs) r)) ∷ Γ) (frees (Locals l₀ l₁ E) (prop (Kf (left_value (last zs) r)))))
       → Seq K 𝓛 (raw (c.pre x) ∷ ‵ (Lender α l δ) ∷ ‵ (froom O'.mir m zero) ∷ ‵ (froom T'.mir n zero) ∷ ‵ (froom N'.mir l₀ zero) ∷ Γ)
       (runs C Λ (Locals l₀ l₁ E) (seq (call f xs (place u [])) (seq (assign (place z []) (rv_opd (copy (place i [])))) (seq (assign (place 0 []) (aggregate (copy (place z []) ∷ copy (place u []) ∷ []))) return))) (at_ret (Locals l₀ l₁ E) Kf))
   back t fm {m = m} α δ c known x tokens {Z} last others says gives at_i at-u at-z os k =
@@ -127,13 +127,13 @@ module _ {M : Type 1} {𝓤 : Ura M} {𝓛 : Logic 𝓤} {K : Type 0} {Γ : List
       pick t (λ r. split t $ move t (1 ∷ []) $ pick t (λ zs. split t $ move t (1 ∷ []) $ heard t (says r zs) (λ e. fsplit t $ move t (2 ∷ []) $ split t $ move t (1 ∷ []) $
       peeks t O.the_row (Is O.the_row) (shows 𝓛 O.the_row) r (w ∷ []) (λ is. drop t $ split t $
       -- [the token; the tokens; the call's last value; the others; the lender's part; room for u; room for z; room for _0]
-      land t (in-local t at-u (stop t)) (init t 5 refl ((LL.lawful O.the_type O'.the_laws 𝓛).typed r _ is).0) $
+      land t (in_local t at-u (stop t)) (init t 5 refl ((LL.lawful O.the_type O'.the_laws 𝓛).typed r _ is).0) $
       rewrite t 5 (λ (v : Val). ‵ (fat full_share O'.mir m zero v)) (ap only (LL.tells O.the_type O'.the_laws r _ is)) refl $
       lft_end t tt $ move t (0 ∷ 4 ∷ 2 ∷ []) $ use3 𝓛 (later (‵ (part_at T.the_row full_share (last zs) l 0))) (ref_back 𝓛 T.the_row (α ∷ []) δ (last zs) l 0) $ await t tt $
-      use1 𝓛 (‵ (fat full_share T'.mir l 0 (mach (last zs))) ⊛ ‵ ((T.the_row).own_val (last zs) (mach (last zs) ∷ []))) (call-out 𝓛 (last zs) l) $ split t $ move t (1 ∷ []) $
+      use1 𝓛 (‵ (fat full_share T'.mir l 0 (mach (last zs))) ⊛ ‵ ((T.the_row).own_val (last zs) (mach (last zs) ∷ []))) (call_out 𝓛 (last zs) l) $ split t $ move t (1 ∷ []) $
       peeks t T.the_row (Is T.the_row) (shows 𝓛 T.the_row) (last zs) _ (λ z-is. drop t $
       -- [the copy; the tokens; the others; u; room for z; room for _0]
-      assigns t (of_opd t (load t (in-local t at_i (stop t)) (look t 0 refl))) (in-local t at-z (stop t)) (init t 4 refl ((LL.lawful T.the_type T'.the_laws 𝓛).typed (last zs) _ z-is).0) $
-      assigns t (agg t (and_then t (load t (in-local t at-z (stop t)) (look t 4 refl)) (and_then t (load t (in-local t at-u (stop t)) (look t 3 refl)) (no_more t)))) (from t (stop t))
+      assigns t (of_opd t (load t (in_local t at_i (stop t)) (look t 0 refl))) (in_local t at-z (stop t)) (init t 4 refl ((LL.lawful T.the_type T'.the_laws 𝓛).typed (last zs) _ z-is).0) $
+      assigns t (agg t (and_then t (load t (in_local t at-z (stop t)) (look t 4 refl)) (and_then t (load t (in_local t at-u (stop t)) (look t 3 refl)) (no_more t)))) (from t (stop t))
       (init t 5 refl ((LL.lawful N.the_type N'.the_laws 𝓛).typed (left (last zs) r) _ (left_is (last zs) r w z-is is)).0) $
       returns t (look t 5 refl) $ k r zs _ e (left_is (last zs) r w z-is is)))))))

@@ -1,9 +1,11 @@
 // Performs one long history of operations twice, on a call by value and on a call that is lent, and compares call, outcome and slot buffer after
 // each operation. The history is drawn from a fixed seed: all descriptions, late and repeated marks, stack offsets up to the limit and
 // above it, and every refusal, which the line that is printed counts.
+#![tactic(auto)]
+
 ghost use Rattle.std.specs.Prelude.{◌≡◌};
 ghost use Rattle.io.specs.Counts.{IsPrefixLen};
-ghost use Rattle.classify.specs.Answers.{variadicAnswer};
+ghost use Rattle.classify.specs.Answers.{variadic_answer};
 ghost use Rattle.bridge.specs.Lent.{LentReturns, LentPasses, LentPassesVariadic};
 
 use bridge::What;
@@ -387,7 +389,7 @@ fn lend(op: u64, call: Call, what: What, words: &[u64], slots: &mut [u64]) -> An
 }
 
 fn mark(call: Call) -> Answer
-    ensures { (result.outcome ≡ (variadicAnswer call).outcome) × (result.next ≡ (variadicAnswer call).next) }
+    ensures { (result.outcome ≡ (variadic_answer call).outcome) × (result.next ≡ (variadic_answer call).next) }
 {
     let mut lent = call;
     let outcome = bridge::barkpaddle_bridge_variadic(&mut lent);

@@ -1,5 +1,7 @@
 // Reads a sheet from standard input and prints its lines. The input comes in large reads; bytes of a record that isn't whole yet wait at the
 // front of the buffer for the rest of it.
+#![tactic(auto)]
+
 ghost use Rattle.std.specs.Prelude.{◌≤◌, length};
 
 use libc::{STDIN_FILENO, STDOUT_FILENO};

@@ -1,8 +1,10 @@
 // Whether a classifier may be asked: the limits of scalars, pieces and shapes, and the refusals in their order. The rules are those of
 // docs/REFERENCE.md, 3.
+#![tactic(auto)]
+
 ghost use Rattle.std.specs.Prelude.{◌≡◌};
 ghost use Rattle.shape.specs.Words.{pieces_of};
-ghost use Rattle.checks.specs.Check.{scalarRefusal, pieceRefusal, piecesRefusal, extentRefusal, listRefusal, shapeRefusal, or_else};
+ghost use Rattle.checks.specs.Check.{scalar_refusal, piece_refusal, pieces_refusal, extent_refusal, list_refusal, shape_refusal, or_else};
 
 use shape::{
     ACCEPTED, BAD_ALIGN, BAD_EXTENT, BAD_KIND, BAD_LIST, BAD_SIZE, PIECE, Piece, QUAD, Scalar,
@@ -20,7 +22,7 @@ pub const MOST_PIECES: usize = 1024;
 
 // The refusal of a shape and its pieces: the list, the shape's size, its alignment, then the pieces from the first, then where they end.
 pub fn check_shape(shape: Shape, words: &[u64]) -> u64
-    ensures { result ≡ shapeRefusal shape words.now }
+    ensures { result ≡ shape_refusal shape words.now }
 {
     let list = check_list(words);
     if list != ACCEPTED {
@@ -37,7 +39,7 @@ pub fn check_shape(shape: Shape, words: &[u64]) -> u64
 
 // The refusal of some words as a list: they don't make whole pieces, or too many.
 pub fn check_list(words: &[u64]) -> u64
-    ensures { result ≡ listRefusal words.now }
+    ensures { result ≡ list_refusal words.now }
 {
     let n = words.len();
     if (n % PIECE != 0) | (n / PIECE > MOST_PIECES) {
@@ -50,7 +52,7 @@ pub fn check_list(words: &[u64]) -> u64
 // so how far they reach is kept to the last: the pieces are walked once. The loop asks for the last place, which takes an instruction less for
 // each piece than to ask for what is left.
 fn check_inside(size: u64, words: &[u64]) -> u64
-    ensures { result ≡ or_else (piecesRefusal (pieces_of words.now)) (extentRefusal size (pieces_of words.now)) }
+    ensures { result ≡ or_else (pieces_refusal (pieces_of words.now)) (extent_refusal size (pieces_of words.now)) }
 {
     let n = words.len();
     if n < PIECE {
@@ -76,7 +78,7 @@ fn check_inside(size: u64, words: &[u64]) -> u64
 
 // The first refusal among the pieces of some words.
 pub fn check_pieces(words: &[u64]) -> u64
-    ensures { result ≡ piecesRefusal (pieces_of words.now) }
+    ensures { result ≡ pieces_refusal (pieces_of words.now) }
 {
     let mut at = 0;
     while words.len() - at >= PIECE {
@@ -91,7 +93,7 @@ pub fn check_pieces(words: &[u64]) -> u64
 
 // The refusal of one piece, by kind, size, offset, alignment.
 pub fn check_piece(p: Piece) -> u64
-    ensures { result ≡ pieceRefusal p }
+    ensures { result ≡ piece_refusal p }
 {
     if p.kind > QUAD {
         return BAD_KIND;
@@ -110,7 +112,7 @@ pub fn check_piece(p: Piece) -> u64
 
 // The refusal of one scalar, by kind, size, alignment.
 pub fn check_scalar(s: Scalar) -> u64
-    ensures { result ≡ scalarRefusal s }
+    ensures { result ≡ scalar_refusal s }
 {
     if s.kind > QUAD {
         return BAD_KIND;

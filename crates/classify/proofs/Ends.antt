@@ -24,47 +24,47 @@ use Rattle.spend.specs.declared.Decision.{Decision}
 use Rattle.spend.specs.declared.Tried.{Tried}
 use Rattle.spend.specs.declared.Tried.TheVariants.{Decided, TryNextRule}
 use Rattle.spend.specs.Ways as made
-use Rattle.spend.specs.Spending.{integerCost, floatCost, whenShort, inSlots, travelBy, travelOf}
+use Rattle.spend.specs.Spending.{integer_cost, float_cost, when_short, in_slots, travel_by, travel_of}
 use Rattle.find.specs.Matches.{matches}
 
-pub decides-found : (B : Banks) (rule : Rule) (shape : Shape) (ps : List Piece) → Decides rule → matches B rule.when shape ps ≡ found []
+pub decides_found : (B : Banks) (rule : Rule) (shape : Shape) (ps : List Piece) → Decides rule → matches B rule.when shape ps ≡ found []
 unfolding matches
-decides-found B rule shape ps h = rw h.anything
+decides_found B rule shape ps h = rw h.anything
 
 decided : (d : Decision) → Decided d ≡ TryNextRule → ⊥
 decided d e = let z : ◌≡◌ {A = ℕ} 0 1 = cc in omega arith
 
 module _ (left : Left) (slots : Wanted) where
-  short-stays : (short : Short) (i f : ℕ) → (short ≡ shorts.TheVariants.TryNextRule → ⊥) → whenShort short left slots i f ≡ TryNextRule → ⊥
-  unfolding whenShort
-  short-stays Unchanged i f h e = decided _ e
-  short-stays Memory i f h e = decided _ e
-  short-stays MemoryAndDrain i f h e = decided _ e
-  short-stays shorts.TheVariants.TryNextRule i f h e = h refl
-  short-stays Split i f h e = decided _ e
+  short_stays : (short : Short) (i f : ℕ) → (short ≡ shorts.TheVariants.TryNextRule → ⊥) → when_short short left slots i f ≡ TryNextRule → ⊥
+  unfolding when_short
+  short_stays Unchanged i f h e = decided _ e
+  short_stays Memory i f h e = decided _ e
+  short_stays MemoryAndDrain i f h e = decided _ e
+  short_stays shorts.TheVariants.TryNextRule i f h e = h refl
+  short_stays Split i f h e = decided _ e
 
-  slots-stay : (shared returning : Bool) (short : Short) → (short ≡ shorts.TheVariants.TryNextRule → ⊥) → inSlots shared returning left short slots ≡ TryNextRule → ⊥
-  unfolding inSlots
-  slots-stay shared returning short h e =
-      let i : ℕ = integerCost shared slots.count slots.floats in
-      let f : ℕ = floatCost shared slots.floats in
-      go returning (leb i left.integer && leb f left.float) (made.in_pieces slots made.nothing) (made.in_pieces slots (made.spends 0 i 0 f)) _ (short-stays short i f h) e
+  slots_stay : (shared returning : Bool) (short : Short) → (short ≡ shorts.TheVariants.TryNextRule → ⊥) → in_slots shared returning left short slots ≡ TryNextRule → ⊥
+  unfolding in_slots
+  slots_stay shared returning short h e =
+      let i : ℕ = integer_cost shared slots.count slots.floats in
+      let f : ℕ = float_cost shared slots.floats in
+      go returning (leb i left.integer && leb f left.float) (made.in_pieces slots made.nothing) (made.in_pieces slots (made.spends 0 i 0 f)) _ (short_stays short i f h) e
     where
       go : (b c : Bool) (d d' : Decision) (s : Tried) → (s ≡ TryNextRule → ⊥) → cond b (Decided d) (cond c (Decided d') s) ≡ TryNextRule → ⊥
       go true c d d' s k x = decided _ x
       go false true d d' s k x = decided _ x
       go false false d d' s k x = k x
 
-pub decides-step : (B : Banks) (pointer : ReturnPointer) (returning : Bool) (left : Left) (rule : Rule) (size : ℕ) (slots : Wanted) → Decides rule
-    → travelOf B pointer returning left rule size slots ≡ TryNextRule → ⊥
-unfolding travelOf
-decides-step B pointer returning left rule size slots h e = go rule.then e
+pub decides_step : (B : Banks) (pointer : ReturnPointer) (returning : Bool) (left : Left) (rule : Rule) (size : ℕ) (slots : Wanted) → Decides rule
+    → travel_of B pointer returning left rule size slots ≡ TryNextRule → ⊥
+unfolding travel_of
+decides_step B pointer returning left rule size slots h e = go rule.then e
   where
-    go : (then : Travel) → travelBy then B pointer returning left rule.short size slots ≡ TryNextRule → ⊥
+    go : (then : Travel) → travel_by then B pointer returning left rule.short size slots ≡ TryNextRule → ⊥
     go Ignore x = decided _ x
-    go AsFound x = slots-stay left _ B.shared returning rule.short h.stays x
-    go AsIntegers x = slots-stay left _ B.shared returning rule.short h.stays x
-    go AsOneInteger x = slots-stay left _ B.shared returning rule.short h.stays x
+    go AsFound x = slots_stay left _ B.shared returning rule.short h.stays x
+    go AsIntegers x = slots_stay left _ B.shared returning rule.short h.stays x
+    go AsOneInteger x = slots_stay left _ B.shared returning rule.short h.stays x
     go ByReference x = decided _ x
     go InMemory x = decided _ x
     go InMemoryAndSpend x = decided _ x

@@ -7,13 +7,13 @@ use native.Mathlib.Nat.{div-add-mod', mod-lt, suc-mul}
 use borrow.Author.Tests.{ltb-true, ltb-false}
 use lib.Arith.{digits_div}
 use lib.Dec.{ltb}
-use Rattle.shape.specs.Numbers.{oneIf}
-use Rattle.slots.specs.Cut.{ceilDiv}
-use Rattle.spend.specs.Spending.{wantOf}
-use Rattle.classify.specs.Classify.{divCeil, registers}
+use Rattle.shape.specs.Numbers.{one_if}
+use Rattle.slots.specs.Cut.{ceil_div}
+use Rattle.spend.specs.Spending.{want_of}
+use Rattle.classify.specs.Classify.{div_ceil, registers}
 
 -- the quotient and one more for what is left over, or what the quotient becomes with a divisor less one added: a rounded quotient both times
-rounded : (n d : ℕ) → 0 < d → divCeil n d ≡ ceilDiv n d
+rounded : (n d : ℕ) → 0 < d → div_ceil n d ≡ ceil_div n d
 rounded n d p = go (ltb 0 (n % d)) refl
   where
     l : n % d < d
@@ -22,7 +22,7 @@ rounded n d p = go (ltb 0 (n % d)) refl
     whole : n / d * d + n % d ≡ n
     whole = div-add-mod' n d
 
-    go : (b : Bool) → ltb 0 (n % d) ≡ b → n / d + oneIf b ≡ ceilDiv n d
+    go : (b : Bool) → ltb 0 (n % d) ≡ b → n / d + one_if b ≡ ceil_div n d
     go true t =
         let h : 0 < n % d = ltb-true 0 (n % d) t in
         let m : suc (n / d) * d ≡ n / d * d + d = suc-mul (n / d) d in
@@ -33,6 +33,6 @@ rounded n d p = go (ltb 0 (n % d)) refl
         let e : n + (d - 1) ≡ n / d * d + (d - 1) = omega (arith, whole) in
         rw (e, digits_div (n / d) {m = d} {r = d - 1} (omega arith)) (omega arith)
 
-pub registers-wanted : (size width : ℕ) → registers size width ≡ wantOf size width
-unfolding registers wantOf
-registers-wanted size width = rw (rounded size (max width 1) (omega arith)) refl
+pub registers_wanted : (size width : ℕ) → registers size width ≡ want_of size width
+unfolding registers want_of
+registers_wanted size width = rw (rounded size (max width 1) (omega arith)) refl

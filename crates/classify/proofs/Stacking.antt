@@ -11,17 +11,17 @@ use Rattle.describe.specs.declared.Terms.{Terms}
 use Rattle.spend.specs.declared.Spent.{Spent}
 use Rattle.spend.specs.declared.Way.{Way}
 use Rattle.stack_place.specs.Stacked.{length_of}
-use Rattle.stack_place.proofs.Standing.{Stands, behind-stands, rounding-some}
-use Rattle.classify.specs.Stacking.{areaOf, bytesFor, roundingFor, stackedOf}
+use Rattle.stack_place.proofs.Standing.{Stands, behind_stands, rounding_some}
+use Rattle.classify.specs.Stacking.{area_of, bytes_for, rounding_for, stacked_of}
 
 module _ (T : Terms) (rules : List Rule) (returning : Bool) (dots : Dots) where
-  some-rounding : (arg : args.Arg) (ps : List Piece) (way : Way) → 0 < roundingFor T rules returning dots arg ps way
-  some-rounding args.TheVariants.Void ps way = omega arith
-  some-rounding (args.TheVariants.Scalar s) ps way = rounding-some (areaOf T dots) _
-  some-rounding (args.TheVariants.Aggregate shape) ps way = rounding-some (areaOf T dots) _
+  some_rounding : (arg : args.Arg) (ps : List Piece) (way : Way) → 0 < rounding_for T rules returning dots arg ps way
+  some_rounding args.TheVariants.Void ps way = omega arith
+  some_rounding (args.TheVariants.Scalar s) ps way = rounding_some (area_of T dots) _
+  some_rounding (args.TheVariants.Aggregate shape) ps way = rounding_some (area_of T dots) _
 
-  pub stacked-stands : (stack : ℕ) (arg : args.Arg) (ps : List Piece) (way : Way) (spent : Spent) (slots : ℕ)
-      → Stands stack (length_of (areaOf T dots) (bytesFor T returning arg way spent slots)) (roundingFor T rules returning dots arg ps way)
-      (stackedOf T rules returning dots stack arg ps way spent slots)
-  unfolding stackedOf
-  stacked-stands stack arg ps way spent slots = behind-stands stack _ _ (some-rounding arg ps way)
+  pub stacked_stands : (stack : ℕ) (arg : args.Arg) (ps : List Piece) (way : Way) (spent : Spent) (slots : ℕ)
+      → Stands stack (length_of (area_of T dots) (bytes_for T returning arg way spent slots)) (rounding_for T rules returning dots arg ps way)
+      (stacked_of T rules returning dots stack arg ps way spent slots)
+  unfolding stacked_of
+  stacked_stands stack arg ps way spent slots = behind_stands stack _ _ (some_rounding arg ps way)

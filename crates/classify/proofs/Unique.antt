@@ -6,94 +6,94 @@ use Rattle.classify.proofs.Call.fresh.Reads as fresh
 use Rattle.classify.proofs.Call.variadic.Reads as variadic
 use Rattle.classify.proofs.Call.returns.Reads as returns
 use Rattle.classify.proofs.Call.argument.Reads as argument
-use Rattle.classify.proofs.Call.variadic_argument.Reads as variadic-argument
+use Rattle.classify.proofs.Call.variadic_argument.Reads as variadic_argument
 use Rattle.classify.proofs.Call.nothing.Reads as nothing
-use Rattle.classify.proofs.Call.returns_scalar.Reads as returns-scalar
-use Rattle.classify.proofs.Call.returns_aggregate.Reads as returns-aggregate
-use Rattle.classify.proofs.Call.argument_scalar.Reads as argument-scalar
-use Rattle.classify.proofs.Call.argument_aggregate.Reads as argument-aggregate
-use Rattle.classify.proofs.Call.variadic_argument_scalar.Reads as variadic-argument-scalar
-use Rattle.classify.proofs.Call.variadic_argument_aggregate.Reads as variadic-argument-aggregate
+use Rattle.classify.proofs.Call.returns_scalar.Reads as returns_scalar
+use Rattle.classify.proofs.Call.returns_aggregate.Reads as returns_aggregate
+use Rattle.classify.proofs.Call.argument_scalar.Reads as argument_scalar
+use Rattle.classify.proofs.Call.argument_aggregate.Reads as argument_aggregate
+use Rattle.classify.proofs.Call.variadic_argument_scalar.Reads as variadic_argument_scalar
+use Rattle.classify.proofs.Call.variadic_argument_aggregate.Reads as variadic_argument_aggregate
 use Rattle.classify.proofs.Call.in_memory.Reads as in_memory
 use Rattle.classify.proofs.Call.abi.Reads as abi
-use Rattle.classify.proofs.Call.integer_left.Reads as integer-left
-use Rattle.classify.proofs.Call.float_left.Reads as float-left
+use Rattle.classify.proofs.Call.integer_left.Reads as integer_left
+use Rattle.classify.proofs.Call.float_left.Reads as float_left
 use Rattle.classify.proofs.Call.stack.Reads as stack
 
-fresh-decides : (κs : Lfts 0) → OneAnswer (fresh.Post κs)
-fresh-decides κs a r q s t p p' = p ∙ sym p'
+fresh_decides : (κs : Lfts 0) → OneAnswer (fresh.Post κs)
+fresh_decides κs a r q s t p p' = p ∙ sym p'
 
-variadic-decides : (κs : Lfts 0) → OneAnswer (variadic.Post κs)
-variadic-decides κs a r q s t p p' = p ∙ sym p'
+variadic_decides : (κs : Lfts 0) → OneAnswer (variadic.Post κs)
+variadic_decides κs a r q s t p p' = p ∙ sym p'
 
-returns-decides : (κs : Lfts 2) → OneAnswer (returns.Post κs)
-returns-decides κs a r q s t p p' = p.answers ∙ sym p'.answers
+returns_decides : (κs : Lfts 2) → OneAnswer (returns.Post κs)
+returns_decides κs a r q s t p p' = p.answers ∙ sym p'.answers
 
-returns-words : (κs : Lfts 2) → OneExit (returns.Post κs) (λ s. s.1.1.1.0.now)
-returns-words κs a r q s t p p' = p.writes ∙ sym p'.writes
+returns_words : (κs : Lfts 2) → OneExit (returns.Post κs) (λ s. s.1.1.1.0.now)
+returns_words κs a r q s t p p' = p.writes ∙ sym p'.writes
 
-argument-decides : (κs : Lfts 2) → OneAnswer (argument.Post κs)
-argument-decides κs a r q s t p p' = p.answers ∙ sym p'.answers
+argument_decides : (κs : Lfts 2) → OneAnswer (argument.Post κs)
+argument_decides κs a r q s t p p' = p.answers ∙ sym p'.answers
 
-argument-words : (κs : Lfts 2) → OneExit (argument.Post κs) (λ s. s.1.1.1.0.now)
-argument-words κs a r q s t p p' = p.writes ∙ sym p'.writes
+argument_words : (κs : Lfts 2) → OneExit (argument.Post κs) (λ s. s.1.1.1.0.now)
+argument_words κs a r q s t p p' = p.writes ∙ sym p'.writes
 
-variadic-argument-decides : (κs : Lfts 2) → OneAnswer (variadic-argument.Post κs)
-variadic-argument-decides κs a r q s t p p' = p.answers ∙ sym p'.answers
+variadic_argument_decides : (κs : Lfts 2) → OneAnswer (variadic_argument.Post κs)
+variadic_argument_decides κs a r q s t p p' = p.answers ∙ sym p'.answers
 
-variadic-argument-words : (κs : Lfts 2) → OneExit (variadic-argument.Post κs) (λ s. s.1.1.1.0.now)
-variadic-argument-words κs a r q s t p p' = p.writes ∙ sym p'.writes
+variadic_argument_words : (κs : Lfts 2) → OneExit (variadic_argument.Post κs) (λ s. s.1.1.1.0.now)
+variadic_argument_words κs a r q s t p p' = p.writes ∙ sym p'.writes
 
-nothing-decides : (κs : Lfts 0) → OneAnswer (nothing.Post κs)
-nothing-decides κs a r q s t p p' = p ∙ sym p'
+nothing_decides : (κs : Lfts 0) → OneAnswer (nothing.Post κs)
+nothing_decides κs a r q s t p p' = p ∙ sym p'
 
-returns-scalar-decides : (κs : Lfts 1) → OneAnswer (returns-scalar.Post κs)
-returns-scalar-decides κs a r q s t p p' = p.answers ∙ sym p'.answers
+returns_scalar_decides : (κs : Lfts 1) → OneAnswer (returns_scalar.Post κs)
+returns_scalar_decides κs a r q s t p p' = p.answers ∙ sym p'.answers
 
-returns-scalar-words : (κs : Lfts 1) → OneExit (returns-scalar.Post κs) (λ s. s.1.1.0.now)
-returns-scalar-words κs a r q s t p p' = p.writes ∙ sym p'.writes
+returns_scalar_words : (κs : Lfts 1) → OneExit (returns_scalar.Post κs) (λ s. s.1.1.0.now)
+returns_scalar_words κs a r q s t p p' = p.writes ∙ sym p'.writes
 
-returns-aggregate-decides : (κs : Lfts 2) → OneAnswer (returns-aggregate.Post κs)
-returns-aggregate-decides κs a r q s t p p' = p.answers ∙ sym p'.answers
+returns_aggregate_decides : (κs : Lfts 2) → OneAnswer (returns_aggregate.Post κs)
+returns_aggregate_decides κs a r q s t p p' = p.answers ∙ sym p'.answers
 
-returns-aggregate-words : (κs : Lfts 2) → OneExit (returns-aggregate.Post κs) (λ s. s.1.1.1.0.now)
-returns-aggregate-words κs a r q s t p p' = p.writes ∙ sym p'.writes
+returns_aggregate_words : (κs : Lfts 2) → OneExit (returns_aggregate.Post κs) (λ s. s.1.1.1.0.now)
+returns_aggregate_words κs a r q s t p p' = p.writes ∙ sym p'.writes
 
-argument-scalar-decides : (κs : Lfts 1) → OneAnswer (argument-scalar.Post κs)
-argument-scalar-decides κs a r q s t p p' = p.answers ∙ sym p'.answers
+argument_scalar_decides : (κs : Lfts 1) → OneAnswer (argument_scalar.Post κs)
+argument_scalar_decides κs a r q s t p p' = p.answers ∙ sym p'.answers
 
-argument-scalar-words : (κs : Lfts 1) → OneExit (argument-scalar.Post κs) (λ s. s.1.1.0.now)
-argument-scalar-words κs a r q s t p p' = p.writes ∙ sym p'.writes
+argument_scalar_words : (κs : Lfts 1) → OneExit (argument_scalar.Post κs) (λ s. s.1.1.0.now)
+argument_scalar_words κs a r q s t p p' = p.writes ∙ sym p'.writes
 
-argument-aggregate-decides : (κs : Lfts 2) → OneAnswer (argument-aggregate.Post κs)
-argument-aggregate-decides κs a r q s t p p' = p.answers ∙ sym p'.answers
+argument_aggregate_decides : (κs : Lfts 2) → OneAnswer (argument_aggregate.Post κs)
+argument_aggregate_decides κs a r q s t p p' = p.answers ∙ sym p'.answers
 
-argument-aggregate-words : (κs : Lfts 2) → OneExit (argument-aggregate.Post κs) (λ s. s.1.1.1.0.now)
-argument-aggregate-words κs a r q s t p p' = p.writes ∙ sym p'.writes
+argument_aggregate_words : (κs : Lfts 2) → OneExit (argument_aggregate.Post κs) (λ s. s.1.1.1.0.now)
+argument_aggregate_words κs a r q s t p p' = p.writes ∙ sym p'.writes
 
-variadic-argument-scalar-decides : (κs : Lfts 1) → OneAnswer (variadic-argument-scalar.Post κs)
-variadic-argument-scalar-decides κs a r q s t p p' = p.answers ∙ sym p'.answers
+variadic_argument_scalar_decides : (κs : Lfts 1) → OneAnswer (variadic_argument_scalar.Post κs)
+variadic_argument_scalar_decides κs a r q s t p p' = p.answers ∙ sym p'.answers
 
-variadic-argument-scalar-words : (κs : Lfts 1) → OneExit (variadic-argument-scalar.Post κs) (λ s. s.1.1.0.now)
-variadic-argument-scalar-words κs a r q s t p p' = p.writes ∙ sym p'.writes
+variadic_argument_scalar_words : (κs : Lfts 1) → OneExit (variadic_argument_scalar.Post κs) (λ s. s.1.1.0.now)
+variadic_argument_scalar_words κs a r q s t p p' = p.writes ∙ sym p'.writes
 
-variadic-argument-aggregate-decides : (κs : Lfts 2) → OneAnswer (variadic-argument-aggregate.Post κs)
-variadic-argument-aggregate-decides κs a r q s t p p' = p.answers ∙ sym p'.answers
+variadic_argument_aggregate_decides : (κs : Lfts 2) → OneAnswer (variadic_argument_aggregate.Post κs)
+variadic_argument_aggregate_decides κs a r q s t p p' = p.answers ∙ sym p'.answers
 
-variadic-argument-aggregate-words : (κs : Lfts 2) → OneExit (variadic-argument-aggregate.Post κs) (λ s. s.1.1.1.0.now)
-variadic-argument-aggregate-words κs a r q s t p p' = p.writes ∙ sym p'.writes
+variadic_argument_aggregate_words : (κs : Lfts 2) → OneExit (variadic_argument_aggregate.Post κs) (λ s. s.1.1.1.0.now)
+variadic_argument_aggregate_words κs a r q s t p p' = p.writes ∙ sym p'.writes
 
-in-memory-decides : (κs : Lfts 1) → OneAnswer (in_memory.Post κs)
-in-memory-decides κs a r q s t p p' = p ∙ sym p'
+in_memory_decides : (κs : Lfts 1) → OneAnswer (in_memory.Post κs)
+in_memory_decides κs a r q s t p p' = p ∙ sym p'
 
-abi-decides : (κs : Lfts 0) → OneAnswer (abi.Post κs)
-abi-decides κs a r q s t p p' = p ∙ sym p'
+abi_decides : (κs : Lfts 0) → OneAnswer (abi.Post κs)
+abi_decides κs a r q s t p p' = p ∙ sym p'
 
-integer-left-decides : (κs : Lfts 0) → OneAnswer (integer-left.Post κs)
-integer-left-decides κs a r q s t p p' = p ∙ sym p'
+integer_left_decides : (κs : Lfts 0) → OneAnswer (integer_left.Post κs)
+integer_left_decides κs a r q s t p p' = p ∙ sym p'
 
-float-left-decides : (κs : Lfts 0) → OneAnswer (float-left.Post κs)
-float-left-decides κs a r q s t p p' = p ∙ sym p'
+float_left_decides : (κs : Lfts 0) → OneAnswer (float_left.Post κs)
+float_left_decides κs a r q s t p p' = p ∙ sym p'
 
-stack-decides : (κs : Lfts 0) → OneAnswer (stack.Post κs)
-stack-decides κs a r q s t p p' = p ∙ sym p'
+stack_decides : (κs : Lfts 0) → OneAnswer (stack.Post κs)
+stack_decides κs a r q s t p p' = p ∙ sym p'

@@ -6,85 +6,85 @@ use Rattle.std.specs.Prelude.{ℕ, zero, suc, ◌/◌, ◌≡◌, List, Bool, tr
 use Rattle.shape.specs.declared.Arg as args
 use Rattle.shape.specs.declared.Piece.{Piece}
 use Rattle.shape.specs.declared.Shape.{Shape}
-use Rattle.shape.specs.Numbers.{accepted, bad-abi, bad-call, no_room}
+use Rattle.shape.specs.Numbers.{accepted, bad_abi, bad_call, no_room}
 use Rattle.shape.specs.Words.{pieces_of}
-use Rattle.checks.specs.Check.{refuse, or_else, unlessRefused, scalarRefusal, shapeRefusal}
+use Rattle.checks.specs.Check.{refuse, or_else, unless_refused, scalar_refusal, shape_refusal}
 use Rattle.slots.specs.declared.Slot.{Slot}
-use Rattle.slots.specs.Words.{slotSize, written}
+use Rattle.slots.specs.Words.{slot_size, written}
 use Rattle.describe.specs.declared.Dots.{Dots}
 use Rattle.describe.specs.declared.Rule.{Rule}
 use Rattle.describe.specs.declared.Terms.{Terms}
-use Rattle.describe.specs.Description.{Description, termsOf}
-use Rattle.describe.specs.Dots.{asFixed, dotsOf}
-use Rattle.abis.specs.Abis.{described, description-count}
+use Rattle.describe.specs.Description.{Description, terms_of}
+use Rattle.describe.specs.Dots.{as_fixed, dots_of}
+use Rattle.abis.specs.Abis.{described, description_count}
 use Rattle.spend.specs.declared.Left.{Left}
 use Rattle.spend.specs.declared.Way as ways
 use Rattle.spend.specs.declared.Spent.{Spent}
 use Rattle.spend.specs.Ways as made
-use Rattle.spend.specs.Ways.{marked, wayNumber}
+use Rattle.spend.specs.Ways.{marked, way_number}
 use Rattle.stack_align.specs.InMemory.{in_memory}
 use Rattle.stack_place.specs.declared.Stacked.{Stacked}
 use Rattle.stack_place.specs.declared.Placed.{Placed}
-use Rattle.stack_place.specs.Stacked.{most-stack, stands}
+use Rattle.stack_place.specs.Stacked.{most_stack, stands}
 use Rattle.classify.specs.declared.Call.{Call}
 use Rattle.classify.specs.declared.Answer.{Answer}
 use Rattle.classify.specs.declared.InMemory.{InMemory}
-use Rattle.classify.specs.Pass.{way_of, passSlots}
-use Rattle.classify.specs.Classify.{Passed, counts, call, variadic, isIntegersOnly, returns, argument, variadicArgument}
-use Rattle.classify.specs.Spending.{returnChoice, argumentChoice, variadicArgumentChoice}
-use Rattle.classify.specs.Stacking.{stackedOf}
+use Rattle.classify.specs.Pass.{way_of, pass_slots}
+use Rattle.classify.specs.Classify.{Passed, counts, call, variadic, is_integers_only, returns, argument, variadic_argument}
+use Rattle.classify.specs.Spending.{return_choice, argument_choice, variadic_argument_choice}
+use Rattle.classify.specs.Stacking.{stacked_of}
 
 -- ---- calls
 
-abbrev pub callWith : ℕ → Left → ℕ → Call
-callWith abi left stack = record { abi = abi; left = left; stack = stack }
+abbrev pub call_with : ℕ → Left → ℕ → Call
+call_with abi left stack = record { abi = abi; left = left; stack = stack }
 
 -- without the mark, and with nothing on the stack
 abbrev pub unmarked : ℕ → ℕ → ℕ → Call
-unmarked abi i f = callWith abi (counts i f) 0
+unmarked abi i f = call_with abi (counts i f) 0
 
 -- ---- refusals
 
 -- a count left above its bank's start, a stack offset above the limit, or the integers-only mark on a description whose variadic functions don't
 -- use it
-abbrev pub isBadCall : Terms → Call → Bool
-isBadCall T c =
+abbrev pub is_bad_call : Terms → Call → Bool
+is_bad_call T c =
     (ltb T.banks.integer c.left.integer || ltb T.banks.float c.left.float)
-    || (ltb most-stack c.stack || (marked c.left && not (isIntegersOnly T.variadic)))
+    || (ltb most_stack c.stack || (marked c.left && not (is_integers_only T.variadic)))
 
-unfoldable pub stateRefusal : Terms → Call → ℕ
-stateRefusal T c = refuse (isBadCall T c) bad-call accepted
+unfoldable pub state_refusal : Terms → Call → ℕ
+state_refusal T c = refuse (is_bad_call T c) bad_call accepted
 
 -- void has nothing to check
-unfoldable pub argRefusal : args.Arg → List ℕ → ℕ
-argRefusal args.TheVariants.Void ws = accepted
-argRefusal (args.TheVariants.Scalar s) ws = scalarRefusal s
-argRefusal (args.TheVariants.Aggregate shape) ws = shapeRefusal shape ws
+unfoldable pub arg_refusal : args.Arg → List ℕ → ℕ
+arg_refusal args.TheVariants.Void ws = accepted
+arg_refusal (args.TheVariants.Scalar s) ws = scalar_refusal s
+arg_refusal (args.TheVariants.Aggregate shape) ws = shape_refusal shape ws
 
 -- the checks of the call and of the value
 unfoldable pub checked : Terms → Call → args.Arg → List ℕ → ℕ
-checked T c arg ws = or_else (stateRefusal T c) (argRefusal arg ws)
+checked T c arg ws = or_else (state_refusal T c) (arg_refusal arg ws)
 
 -- the description's source refuses first
-unfoldable pub callRefusalBy : ℕ → Description → Call → ℕ
-callRefusalBy source D c = or_else source (stateRefusal (termsOf D) c)
+unfoldable pub call_refusal_by : ℕ → Description → Call → ℕ
+call_refusal_by source D c = or_else source (state_refusal (terms_of D) c)
 
-unfoldable pub refusalBy : ℕ → Description → Call → args.Arg → List ℕ → ℕ
-refusalBy source D c arg ws = or_else source (checked (termsOf D) c arg ws)
+unfoldable pub refusal_by : ℕ → Description → Call → args.Arg → List ℕ → ℕ
+refusal_by source D c arg ws = or_else source (checked (terms_of D) c arg ws)
 
 -- BAD_ABI where no row has the number
-unfoldable pub rowRefusal : ℕ → ℕ
-rowRefusal abi = refuse (leb description-count abi) bad-abi accepted
+unfoldable pub row_refusal : ℕ → ℕ
+row_refusal abi = refuse (leb description_count abi) bad_abi accepted
 
-unfoldable pub callRefusal : Call → ℕ
-callRefusal c = callRefusalBy (rowRefusal c.abi) (described c.abi) c
+unfoldable pub call_refusal : Call → ℕ
+call_refusal c = call_refusal_by (row_refusal c.abi) (described c.abi) c
 
-unfoldable pub refusalOf : Call → args.Arg → List ℕ → ℕ
-refusalOf c arg ws = refusalBy (rowRefusal c.abi) (described c.abi) c arg ws
+unfoldable pub refusal_of : Call → args.Arg → List ℕ → ℕ
+refusal_of c arg ws = refusal_by (row_refusal c.abi) (described c.abi) c arg ws
 
 -- NO_ROOM where so many slots don't all fit: a refusal of an operation after those of its checks
-abbrev pub roomRefusal : ℕ → List ℕ → ℕ
-roomRefusal count out = refuse (ltb (length out / slotSize) count) no_room accepted
+abbrev pub room_refusal : ℕ → List ℕ → ℕ
+room_refusal count out = refuse (ltb (length out / slot_size) count) no_room accepted
 
 -- ---- answers
 
@@ -94,16 +94,16 @@ pub record Account : Type 0 where
   pub spent : Spent
   pub placed : Placed
 
-abbrev pub accountOf : Terms → List Rule → Bool → Dots → Call → args.Arg → List Piece → Passed → Spent → Account
-accountOf T rules returning dots c arg ps p spent =
-    record { passed = p; spent = spent; placed = stackedOf T rules returning dots c.stack arg ps (way_of p.pass) spent (length (passSlots p.pass)) }
+abbrev pub account_of : Terms → List Rule → Bool → Dots → Call → args.Arg → List Piece → Passed → Spent → Account
+account_of T rules returning dots c arg ps p spent =
+    record { passed = p; spent = spent; placed = stacked_of T rules returning dots c.stack arg ps (way_of p.pass) spent (length (pass_slots p.pass)) }
 
 abbrev pub slots_of : Account → List Slot
-slots_of account = passSlots account.passed.pass
+slots_of account = pass_slots account.passed.pass
 
 abbrev pub answered : Call → ℕ → ways.Way → Spent → ℕ → Stacked → Answer
 answered next refusal way spent slots stacked =
-    record { next = next; outcome = record { refusal = refusal; way = wayNumber way; spent = spent; slots = slots; stacked = stacked } }
+    record { next = next; outcome = record { refusal = refusal; way = way_number way; spent = spent; slots = slots; stacked = stacked } }
 
 -- a refusal comes with the call that was handed in, and every other number 0
 abbrev pub refused : Call → ℕ → Answer
@@ -115,27 +115,27 @@ done c = answered c accepted ways.TheVariants.Ignore made.nothing 0 (stands 0 0)
 
 -- the call with what the Rust leaves and with the next stack offset, the Rust's way and how many slots it has, what the rules spend, and the
 -- place on the stack
-abbrev pub acceptedAnswer : Call → Account → Answer
-acceptedAnswer c account =
-    answered (callWith c.abi account.passed.left account.placed.next) accepted (way_of account.passed.pass) account.spent
+abbrev pub accepted_answer : Call → Account → Answer
+accepted_answer c account =
+    answered (call_with c.abi account.passed.left account.placed.next) accepted (way_of account.passed.pass) account.spent
     (length (slots_of account)) account.placed.stacked
 
 -- the refusal, if there is one, or the answer
-abbrev pub orAnswer : ℕ → Call → Answer → Answer
-orAnswer zero c rest = rest
-orAnswer (suc n) c rest = refused c (suc n)
+abbrev pub or_answer : ℕ → Call → Answer → Answer
+or_answer zero c rest = rest
+or_answer (suc n) c rest = refused c (suc n)
 
 -- the refusal of an operation that its checks refuse so: NO_ROOM is judged by the slots that the value travels in, and last by its place on the
 -- stack
-abbrev pub wholeRefusal : ℕ → Account → List ℕ → ℕ
-wholeRefusal checks account out = or_else checks (or_else (roomRefusal (length (slots_of account)) out) account.placed.refusal)
+abbrev pub whole_refusal : ℕ → Account → List ℕ → ℕ
+whole_refusal checks account out = or_else checks (or_else (room_refusal (length (slots_of account)) out) account.placed.refusal)
 
-unfoldable pub answerTo : ℕ → Call → Account → List ℕ → Answer
-answerTo checks c account out = orAnswer (wholeRefusal checks account out) c (acceptedAnswer c account)
+unfoldable pub answer_to : ℕ → Call → Account → List ℕ → Answer
+answer_to checks c account out = or_answer (whole_refusal checks account out) c (accepted_answer c account)
 
 -- the slots stand at the front, and all later words are as they were
-unfoldable pub writtenTo : ℕ → Account → List ℕ → List ℕ
-writtenTo checks account out = unlessRefused (wholeRefusal checks account out) (written (slots_of account) out) out
+unfoldable pub written_to : ℕ → Account → List ℕ → List ℕ
+written_to checks account out = unless_refused (whole_refusal checks account out) (written (slots_of account) out) out
 
 -- what an operation leaves: its answer, and the words of the buffer
 pub record Leaves (answer : Answer) (words : List ℕ) (r : Answer) (out : List ℕ) : Type 0 where
@@ -144,92 +144,92 @@ pub record Leaves (answer : Answer) (words : List ℕ) (r : Answer) (out : List 
 
 -- ---- the operations, by a description and what its source refuses
 
-unfoldable pub variadicAnswerBy : ℕ → Description → Call → Answer
-variadicAnswerBy source D c = orAnswer (callRefusalBy source D c) c (done (callWith c.abi (variadic D c.left) c.stack))
+unfoldable pub variadic_answer_by : ℕ → Description → Call → Answer
+variadic_answer_by source D c = or_answer (call_refusal_by source D c) c (done (call_with c.abi (variadic D c.left) c.stack))
 
 -- a void return or argument, on each operation
-unfoldable pub voidAnswerBy : ℕ → Description → Call → Answer
-voidAnswerBy source D c = orAnswer (callRefusalBy source D c) c (done c)
+unfoldable pub void_answer_by : ℕ → Description → Call → Answer
+void_answer_by source D c = or_answer (call_refusal_by source D c) c (done c)
 
 -- what comes back, a fixed argument, and one after the dots
-unfoldable pub returnsAccount : Description → Call → args.Arg → List Piece → Account
-returnsAccount D c arg ps =
-    accountOf (termsOf D) D.returns true asFixed c arg ps (returns D c.left arg ps) (returnChoice D c.left arg ps).decision.spent
+unfoldable pub returns_account : Description → Call → args.Arg → List Piece → Account
+returns_account D c arg ps =
+    account_of (terms_of D) D.returns true as_fixed c arg ps (returns D c.left arg ps) (return_choice D c.left arg ps).decision.spent
 
-unfoldable pub argumentAccount : Description → Call → args.Arg → List Piece → Account
-argumentAccount D c arg ps =
-    accountOf (termsOf D) D.arguments false asFixed c arg ps (argument D c.left arg ps) (argumentChoice D c.left arg ps).decision.spent
+unfoldable pub argument_account : Description → Call → args.Arg → List Piece → Account
+argument_account D c arg ps =
+    account_of (terms_of D) D.arguments false as_fixed c arg ps (argument D c.left arg ps) (argument_choice D c.left arg ps).decision.spent
 
-unfoldable pub variadicArgumentAccount : Description → Call → args.Arg → List Piece → Account
-variadicArgumentAccount D c arg ps =
-    accountOf (termsOf D) D.arguments false (dotsOf D.variadic) c arg ps (variadicArgument D c.left arg ps)
-    (variadicArgumentChoice D c.left arg ps).decision.spent
+unfoldable pub variadic_argument_account : Description → Call → args.Arg → List Piece → Account
+variadic_argument_account D c arg ps =
+    account_of (terms_of D) D.arguments false (dots_of D.variadic) c arg ps (variadic_argument D c.left arg ps)
+    (variadic_argument_choice D c.left arg ps).decision.spent
 
-unfoldable pub returnsAnswerBy : ℕ → Description → Call → args.Arg → List ℕ → List ℕ → Answer
-returnsAnswerBy source D c arg ws out = answerTo (refusalBy source D c arg ws) c (returnsAccount D c arg (pieces_of ws)) out
+unfoldable pub returns_answer_by : ℕ → Description → Call → args.Arg → List ℕ → List ℕ → Answer
+returns_answer_by source D c arg ws out = answer_to (refusal_by source D c arg ws) c (returns_account D c arg (pieces_of ws)) out
 
-unfoldable pub returnsWrittenBy : ℕ → Description → Call → args.Arg → List ℕ → List ℕ → List ℕ
-returnsWrittenBy source D c arg ws out = writtenTo (refusalBy source D c arg ws) (returnsAccount D c arg (pieces_of ws)) out
+unfoldable pub returns_written_by : ℕ → Description → Call → args.Arg → List ℕ → List ℕ → List ℕ
+returns_written_by source D c arg ws out = written_to (refusal_by source D c arg ws) (returns_account D c arg (pieces_of ws)) out
 
-unfoldable pub argumentAnswerBy : ℕ → Description → Call → args.Arg → List ℕ → List ℕ → Answer
-argumentAnswerBy source D c arg ws out = answerTo (refusalBy source D c arg ws) c (argumentAccount D c arg (pieces_of ws)) out
+unfoldable pub argument_answer_by : ℕ → Description → Call → args.Arg → List ℕ → List ℕ → Answer
+argument_answer_by source D c arg ws out = answer_to (refusal_by source D c arg ws) c (argument_account D c arg (pieces_of ws)) out
 
-unfoldable pub argumentWrittenBy : ℕ → Description → Call → args.Arg → List ℕ → List ℕ → List ℕ
-argumentWrittenBy source D c arg ws out = writtenTo (refusalBy source D c arg ws) (argumentAccount D c arg (pieces_of ws)) out
+unfoldable pub argument_written_by : ℕ → Description → Call → args.Arg → List ℕ → List ℕ → List ℕ
+argument_written_by source D c arg ws out = written_to (refusal_by source D c arg ws) (argument_account D c arg (pieces_of ws)) out
 
-unfoldable pub variadicArgumentAnswerBy : ℕ → Description → Call → args.Arg → List ℕ → List ℕ → Answer
-variadicArgumentAnswerBy source D c arg ws out = answerTo (refusalBy source D c arg ws) c (variadicArgumentAccount D c arg (pieces_of ws)) out
+unfoldable pub variadic_argument_answer_by : ℕ → Description → Call → args.Arg → List ℕ → List ℕ → Answer
+variadic_argument_answer_by source D c arg ws out = answer_to (refusal_by source D c arg ws) c (variadic_argument_account D c arg (pieces_of ws)) out
 
-unfoldable pub variadicArgumentWrittenBy : ℕ → Description → Call → args.Arg → List ℕ → List ℕ → List ℕ
-variadicArgumentWrittenBy source D c arg ws out = writtenTo (refusalBy source D c arg ws) (variadicArgumentAccount D c arg (pieces_of ws)) out
+unfoldable pub variadic_argument_written_by : ℕ → Description → Call → args.Arg → List ℕ → List ℕ → List ℕ
+variadic_argument_written_by source D c arg ws out = written_to (refusal_by source D c arg ws) (variadic_argument_account D c arg (pieces_of ws)) out
 
 -- the alignment in the argument area, or a refusal of the call or of the shape
-abbrev pub orAlign : ℕ → ℕ → InMemory
-orAlign zero align = record { refusal = accepted; align = align }
-orAlign (suc n) align = record { refusal = suc n; align = 0 }
+abbrev pub or_align : ℕ → ℕ → InMemory
+or_align zero align = record { refusal = accepted; align = align }
+or_align (suc n) align = record { refusal = suc n; align = 0 }
 
-unfoldable pub inMemoryAnswerBy : ℕ → Description → Call → Shape → List ℕ → InMemory
-inMemoryAnswerBy source D c shape ws = orAlign (refusalBy source D c (args.TheVariants.Aggregate shape) ws) (in_memory D shape (pieces_of ws))
+unfoldable pub in_memory_answer_by : ℕ → Description → Call → Shape → List ℕ → InMemory
+in_memory_answer_by source D c shape ws = or_align (refusal_by source D c (args.TheVariants.Aggregate shape) ws) (in_memory D shape (pieces_of ws))
 
 -- ---- the operations of a call on a row
 
 -- a fresh call: all zeros where it is refused
-unfoldable pub freshAnswer : ℕ → Answer
-freshAnswer abi = cond (leb description-count abi) (refused (unmarked 0 0 0) bad-abi) (done (callWith abi (call (described abi)) 0))
+unfoldable pub fresh_answer : ℕ → Answer
+fresh_answer abi = cond (leb description_count abi) (refused (unmarked 0 0 0) bad_abi) (done (call_with abi (call (described abi)) 0))
 
-unfoldable pub variadicAnswer : Call → Answer
-variadicAnswer c = variadicAnswerBy (rowRefusal c.abi) (described c.abi) c
+unfoldable pub variadic_answer : Call → Answer
+variadic_answer c = variadic_answer_by (row_refusal c.abi) (described c.abi) c
 
-unfoldable pub voidAnswer : Call → Answer
-voidAnswer c = voidAnswerBy (rowRefusal c.abi) (described c.abi) c
+unfoldable pub void_answer : Call → Answer
+void_answer c = void_answer_by (row_refusal c.abi) (described c.abi) c
 
-unfoldable pub returnsAnswer : Call → args.Arg → List ℕ → List ℕ → Answer
-returnsAnswer c = returnsAnswerBy (rowRefusal c.abi) (described c.abi) c
+unfoldable pub returns_answer : Call → args.Arg → List ℕ → List ℕ → Answer
+returns_answer c = returns_answer_by (row_refusal c.abi) (described c.abi) c
 
-unfoldable pub returnsWritten : Call → args.Arg → List ℕ → List ℕ → List ℕ
-returnsWritten c = returnsWrittenBy (rowRefusal c.abi) (described c.abi) c
+unfoldable pub returns_written : Call → args.Arg → List ℕ → List ℕ → List ℕ
+returns_written c = returns_written_by (row_refusal c.abi) (described c.abi) c
 
-unfoldable pub argumentAnswer : Call → args.Arg → List ℕ → List ℕ → Answer
-argumentAnswer c = argumentAnswerBy (rowRefusal c.abi) (described c.abi) c
+unfoldable pub argument_answer : Call → args.Arg → List ℕ → List ℕ → Answer
+argument_answer c = argument_answer_by (row_refusal c.abi) (described c.abi) c
 
-unfoldable pub argumentWritten : Call → args.Arg → List ℕ → List ℕ → List ℕ
-argumentWritten c = argumentWrittenBy (rowRefusal c.abi) (described c.abi) c
+unfoldable pub argument_written : Call → args.Arg → List ℕ → List ℕ → List ℕ
+argument_written c = argument_written_by (row_refusal c.abi) (described c.abi) c
 
-unfoldable pub variadicArgumentAnswer : Call → args.Arg → List ℕ → List ℕ → Answer
-variadicArgumentAnswer c = variadicArgumentAnswerBy (rowRefusal c.abi) (described c.abi) c
+unfoldable pub variadic_argument_answer : Call → args.Arg → List ℕ → List ℕ → Answer
+variadic_argument_answer c = variadic_argument_answer_by (row_refusal c.abi) (described c.abi) c
 
-unfoldable pub variadicArgumentWritten : Call → args.Arg → List ℕ → List ℕ → List ℕ
-variadicArgumentWritten c = variadicArgumentWrittenBy (rowRefusal c.abi) (described c.abi) c
+unfoldable pub variadic_argument_written : Call → args.Arg → List ℕ → List ℕ → List ℕ
+variadic_argument_written c = variadic_argument_written_by (row_refusal c.abi) (described c.abi) c
 
-unfoldable pub inMemoryAnswer : Call → Shape → List ℕ → InMemory
-inMemoryAnswer c = inMemoryAnswerBy (rowRefusal c.abi) (described c.abi) c
+unfoldable pub in_memory_answer : Call → Shape → List ℕ → InMemory
+in_memory_answer c = in_memory_answer_by (row_refusal c.abi) (described c.abi) c
 
 -- what an operation of a call promises of its answer r and of the buffer, which held `out` and holds `after`
 abbrev pub Returns : Call → args.Arg → List ℕ → List ℕ → Answer → List ℕ → Type 0
-Returns c arg ws out r after = Leaves (returnsAnswer c arg ws out) (returnsWritten c arg ws out) r after
+Returns c arg ws out r after = Leaves (returns_answer c arg ws out) (returns_written c arg ws out) r after
 
 abbrev pub Passes : Call → args.Arg → List ℕ → List ℕ → Answer → List ℕ → Type 0
-Passes c arg ws out r after = Leaves (argumentAnswer c arg ws out) (argumentWritten c arg ws out) r after
+Passes c arg ws out r after = Leaves (argument_answer c arg ws out) (argument_written c arg ws out) r after
 
 abbrev pub PassesVariadic : Call → args.Arg → List ℕ → List ℕ → Answer → List ℕ → Type 0
-PassesVariadic c arg ws out r after = Leaves (variadicArgumentAnswer c arg ws out) (variadicArgumentWritten c arg ws out) r after
+PassesVariadic c arg ws out r after = Leaves (variadic_argument_answer c arg ws out) (variadic_argument_written c arg ws out) r after

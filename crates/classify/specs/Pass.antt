@@ -20,17 +20,17 @@ way_of reference = Reference
 way_of memory = Memory
 
 -- nothing of the value travels
-abbrev pub isIgnore : Pass → Bool
-isIgnore ignore = true
-isIgnore direct = false
-isIgnore (pieces ss) = false
-isIgnore reference = false
-isIgnore memory = false
+abbrev pub is_ignore : Pass → Bool
+is_ignore ignore = true
+is_ignore direct = false
+is_ignore (pieces ss) = false
+is_ignore reference = false
+is_ignore memory = false
 
 -- its slots: a way other than Pieces has none
-abbrev pub passSlots : Pass → List Slot
-passSlots ignore = []
-passSlots direct = []
-passSlots (pieces ss) = ss
-passSlots reference = []
-passSlots memory = []
+abbrev pub pass_slots : Pass → List Slot
+pass_slots ignore = []
+pass_slots direct = []
+pass_slots (pieces ss) = ss
+pass_slots reference = []
+pass_slots memory = []

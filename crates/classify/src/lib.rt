@@ -1,14 +1,16 @@
 // One call and its operations: a return value, an argument, an argument after the dots, and the mark of a variadic function (docs/REFERENCE.md, 9).
 // A call is a value, and each operation hands back the next one. Anyone can hand in any numbers: every operation checks for itself.
+#![tactic(auto)]
+
 ghost use Rattle.std.specs.Prelude.{◌≡◌, []};
 ghost use Rattle.shape.specs.Words.{pieces_of};
 ghost use Rattle.describe.specs.Description.{Ends};
 ghost use Rattle.rows.specs.Row.{listed};
-ghost use Rattle.slot_writing.specs.Sources.{scalarSlots};
-ghost use Rattle.stack_place.specs.Stacked.{returnPlaced};
-ghost use Rattle.classify.specs.Stacking.{areaOf, stackedOf};
+ghost use Rattle.slot_writing.specs.Sources.{scalar_slots};
+ghost use Rattle.stack_place.specs.Stacked.{return_placed};
+ghost use Rattle.classify.specs.Stacking.{area_of, stacked_of};
 ghost use Rattle.classify.specs.Spending as rules;
-ghost use Rattle.classify.specs.Answers.{freshAnswer, voidAnswer, variadicAnswer, inMemoryAnswer, Returns, Passes, PassesVariadic};
+ghost use Rattle.classify.specs.Answers.{fresh_answer, void_answer, variadic_answer, in_memory_answer, Returns, Passes, PassesVariadic};
 ghost use Rattle.classify.specs.Answers as answers;
 ghost use Rattle.classify.specs.Parts as parts;
 
@@ -59,7 +61,7 @@ pub struct InMemory {
 impl Call {
     // The start of a call on a description, with every register still to spend; all zeros where it is refused.
     pub fn fresh(abi: u64) -> Answer
-        ensures { result ≡ freshAnswer abi }
+        ensures { result ≡ fresh_answer abi }
     {
         if abi >= abis::DESCRIPTIONS {
             return refused(unmarked(0, 0, 0), shape::BAD_ABI);
@@ -72,7 +74,7 @@ impl Call {
 
     // The same call, to a function whose parameters end in dots.
     pub fn variadic(self) -> Answer
-        ensures { result ≡ variadicAnswer self }
+        ensures { result ≡ variadic_answer self }
     {
         if self.abi >= abis::DESCRIPTIONS {
             return refused(self, shape::BAD_ABI);
@@ -126,7 +128,7 @@ impl Call {
 
     // A void return or argument: nothing travels, so the call alone is checked.
     pub fn nothing(self) -> Answer
-        ensures { result ≡ voidAnswer self }
+        ensures { result ≡ void_answer self }
     {
         if self.abi >= abis::DESCRIPTIONS {
             return refused(self, shape::BAD_ABI);
@@ -141,45 +143,45 @@ impl Call {
 
     // The three operations for a scalar.
     pub fn returns_scalar(self, s: Scalar, out: &mut [u64]) -> Answer
-        ensures { Returns self (parts.scalarArg s) [] out.old result out.new }
+        ensures { Returns self (parts.scalar_arg s) [] out.old result out.new }
     {
         perform_scalar(self, true, false, s, out)
     }
 
     pub fn argument_scalar(self, s: Scalar, out: &mut [u64]) -> Answer
-        ensures { Passes self (parts.scalarArg s) [] out.old result out.new }
+        ensures { Passes self (parts.scalar_arg s) [] out.old result out.new }
     {
         perform_scalar(self, false, false, s, out)
     }
 
     pub fn variadic_argument_scalar(self, s: Scalar, out: &mut [u64]) -> Answer
-        ensures { PassesVariadic self (parts.scalarArg s) [] out.old result out.new }
+        ensures { PassesVariadic self (parts.scalar_arg s) [] out.old result out.new }
     {
         perform_scalar(self, false, true, s, out)
     }
 
     // The three operations for an aggregate.
     pub fn returns_aggregate(self, shape: Shape, words: &[u64], out: &mut [u64]) -> Answer
-        ensures { Returns self (parts.aggregateArg shape) words.now out.old result out.new }
+        ensures { Returns self (parts.aggregate_arg shape) words.now out.old result out.new }
     {
         perform_aggregate(self, true, false, shape, words, out)
     }
 
     pub fn argument_aggregate(self, shape: Shape, words: &[u64], out: &mut [u64]) -> Answer
-        ensures { Passes self (parts.aggregateArg shape) words.now out.old result out.new }
+        ensures { Passes self (parts.aggregate_arg shape) words.now out.old result out.new }
     {
         perform_aggregate(self, false, false, shape, words, out)
     }
 
     pub fn variadic_argument_aggregate(self, shape: Shape, words: &[u64], out: &mut [u64]) -> Answer
-        ensures { PassesVariadic self (parts.aggregateArg shape) words.now out.old result out.new }
+        ensures { PassesVariadic self (parts.aggregate_arg shape) words.now out.old result out.new }
     {
         perform_aggregate(self, false, true, shape, words, out)
     }
 
     // What a fixed argument that travels as Memory is aligned to in the argument area.
     pub fn in_memory(self, shape: Shape, words: &[u64]) -> InMemory
-        ensures { result ≡ inMemoryAnswer self shape words.now }
+        ensures { result ≡ in_memory_answer self shape words.now }
     {
         if self.abi >= abis::DESCRIPTIONS {
             return InMemory {
@@ -236,7 +238,7 @@ fn perform_scalar(
     s: Scalar,
     out: &mut [u64],
 ) -> Answer
-    ensures { parts.Performs returning variadic_argument call (parts.scalarArg s) [] out.old result out.new }
+    ensures { parts.Performs returning variadic_argument call (parts.scalar_arg s) [] out.old result out.new }
 {
     if call.abi >= abis::DESCRIPTIONS {
         return refused(call, shape::BAD_ABI);
@@ -262,7 +264,7 @@ fn perform_aggregate(
     words: &[u64],
     out: &mut [u64],
 ) -> Answer
-    ensures { parts.Performs returning variadic_argument call (parts.aggregateArg shape) words.now out.old result out.new }
+    ensures { parts.Performs returning variadic_argument call (parts.aggregate_arg shape) words.now out.old result out.new }
 {
     if call.abi >= abis::DESCRIPTIONS {
         return refused(call, shape::BAD_ABI);
@@ -282,7 +284,7 @@ fn perform_aggregate(
 
 // One of the two lists.
 fn list_for(returning: bool, brief: Brief) -> Rules
-    ensures { result ≡ parts.listFor returning brief }
+    ensures { result ≡ parts.list_for returning brief }
 {
     if returning {
         return brief.returns;
@@ -292,7 +294,7 @@ fn list_for(returning: bool, brief: Brief) -> Rules
 
 // An argument after the dots does what its description's variadic kind comes to, any other value what a fixed argument does.
 fn dots_for(variadic_argument: bool, variadic: Variadic) -> Dots
-    ensures { result ≡ parts.dotsFor variadic_argument variadic }
+    ensures { result ≡ parts.dots_for variadic_argument variadic }
 {
     if variadic_argument {
         return describe::dots_of(variadic);
@@ -311,7 +313,7 @@ fn scalar_by(
     s: Scalar,
     out: &mut [u64],
 ) -> Answer
-    ensures { parts.By terms [] returning dots call (parts.scalarArg s) [] out.old result out.new }
+    ensures { parts.By terms [] returning dots call (parts.scalar_arg s) [] out.old result out.new }
 {
     let decision = decide_scalar(terms, returning, dots, call.left, s);
     if decision.count > slots::room(out.len()) as u64 {
@@ -332,7 +334,7 @@ fn aggregate_by(
     out: &mut [u64],
 ) -> Answer
     requires { Ends (listed list) }
-    ensures { parts.By terms (listed list) returning dots call (parts.aggregateArg shape) words.now out.old result out.new }
+    ensures { parts.By terms (listed list) returning dots call (parts.aggregate_arg shape) words.now out.old result out.new }
 {
     let decided = decide_aggregate(terms, list, returning, dots, call.left, shape, words);
     let decision = decided.decision;
@@ -348,7 +350,7 @@ fn aggregate_by(
 // ---- check
 
 fn check_scalar(terms: Terms, call: Call, s: Scalar) -> u64
-    ensures { result ≡ answers.checked terms call (parts.scalarArg s) [] }
+    ensures { result ≡ answers.checked terms call (parts.scalar_arg s) [] }
 {
     let refusal = check_call(terms, call);
     if refusal != shape::ACCEPTED {
@@ -358,7 +360,7 @@ fn check_scalar(terms: Terms, call: Call, s: Scalar) -> u64
 }
 
 fn check_aggregate(terms: Terms, call: Call, shape: Shape, words: &[u64]) -> u64
-    ensures { result ≡ answers.checked terms call (parts.aggregateArg shape) words.now }
+    ensures { result ≡ answers.checked terms call (parts.aggregate_arg shape) words.now }
 {
     let refusal = check_call(terms, call);
     if refusal != shape::ACCEPTED {
@@ -370,7 +372,7 @@ fn check_aggregate(terms: Terms, call: Call, shape: Shape, words: &[u64]) -> u64
 // A count above its bank's start, an offset above the limit, or a mark that the description doesn't use. What a good call passes is three
 // comparisons and a test for 0.
 fn check_call(terms: Terms, call: Call) -> u64
-    ensures { result ≡ answers.stateRefusal terms call }
+    ensures { result ≡ answers.state_refusal terms call }
 {
     let banks = terms.banks;
     let left = call.left;
@@ -433,7 +435,7 @@ fn decide_aggregate(
     words: &[u64],
 ) -> Decided
     requires { Ends (listed list) }
-    ensures { result ≡ parts.aggregateDecided terms (listed list) returning dots left shape (pieces_of words.now) }
+    ensures { result ≡ parts.aggregate_decided terms (listed list) returning dots left shape (pieces_of words.now) }
 {
     let skipped = after_dots::skipped(dots, terms.banks, left, shape.size, shape.align);
     let found = after_dots::left_for(dots, left, skipped);
@@ -505,7 +507,7 @@ fn place_scalar(
     s: Scalar,
     decision: Decision,
 ) -> Placed
-    ensures { result ≡ stackedOf terms [] returning dots stack (parts.scalarArg s) [] decision.way decision.spent decision.count }
+    ensures { result ≡ stacked_of terms [] returning dots stack (parts.scalar_arg s) [] decision.way decision.spent decision.count }
 {
     if returning {
         return place_return(terms, dots, stack, decision);
@@ -525,7 +527,7 @@ fn place_aggregate(
     words: &[u64],
     decision: Decision,
 ) -> Placed
-    ensures { result ≡ stackedOf terms (listed list) returning dots stack (parts.aggregateArg shape) (pieces_of words.now) decision.way decision.spent decision.count }
+    ensures { result ≡ stacked_of terms (listed list) returning dots stack (parts.aggregate_arg shape) (pieces_of words.now) decision.way decision.spent decision.count }
 {
     if returning {
         return place_return(terms, dots, stack, decision);
@@ -542,7 +544,7 @@ fn place_aggregate(
 }
 
 fn place_return(terms: Terms, dots: Dots, stack: u64, decision: Decision) -> Placed
-    ensures { result ≡ returnPlaced (areaOf terms dots) stack decision.way terms.return_pointer decision.spent }
+    ensures { result ≡ return_placed (area_of terms dots) stack decision.way terms.return_pointer decision.spent }
 {
     let way = decision.way;
     let pointer = terms.return_pointer;
@@ -550,7 +552,7 @@ fn place_return(terms: Terms, dots: Dots, stack: u64, decision: Decision) -> Pla
 }
 
 fn area_of(terms: Terms, dots: Dots) -> Area
-    ensures { result ≡ areaOf terms dots }
+    ensures { result ≡ area_of terms dots }
 {
     let banks = terms.banks;
     let arguments = terms.stack_args;
@@ -564,7 +566,7 @@ fn area_of(terms: Terms, dots: Dots) -> Area
 // ---- writing, and the answer
 
 fn finish_scalar(call: Call, decision: Decision, placed: Placed, out: &mut [u64]) -> Answer
-    ensures { parts.Settles call decision placed (scalarSlots decision.source) out.old result out.new }
+    ensures { parts.Settles call decision placed (scalar_slots decision.source) out.old result out.new }
 {
     if placed.refusal != shape::ACCEPTED {
         return refused(call, placed.refusal);
@@ -575,7 +577,7 @@ fn finish_scalar(call: Call, decision: Decision, placed: Placed, out: &mut [u64]
 }
 
 fn finish(call: Call, decided: Decided, placed: Placed, words: &[u64], out: &mut [u64]) -> Answer
-    ensures { parts.Settles call decided.decision placed (parts.decidedSlots decided (pieces_of words.now)) out.old result out.new }
+    ensures { parts.Settles call decided.decision placed (parts.decided_slots decided (pieces_of words.now)) out.old result out.new }
 {
     let decision = decided.decision;
     if placed.refusal != shape::ACCEPTED {
@@ -589,7 +591,7 @@ fn finish(call: Call, decided: Decided, placed: Placed, words: &[u64], out: &mut
 
 // The call that is handed back has what is left after what was spent, and the offset behind what was placed.
 fn accept(call: Call, decision: Decision, placed: Placed) -> Answer
-    ensures { result ≡ parts.acceptedBy call decision placed }
+    ensures { result ≡ parts.accepted_by call decision placed }
 {
     let spent = decision.spent;
     let travels = decision.way;
@@ -651,7 +653,7 @@ fn unmarked(abi: u64, integer: u64, float: u64) -> Call
 
 // What a call to a variadic function has left: marked, where the kind says so.
 fn marked(variadic: Variadic, left: Left) -> Left
-    ensures { result ≡ parts.markedBy variadic left }
+    ensures { result ≡ parts.marked_by variadic left }
 {
     let dots = describe::dots_of(variadic);
     if dots.mark {

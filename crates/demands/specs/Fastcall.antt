@@ -3,27 +3,27 @@
 -- the registers, one for each word of four bytes, as far as there are any. These carry nothing: they are passed over, and none is given.
 use Rattle.std.specs.Prelude.{ℕ, max, ◌||◌, cond, eqb}
 use Rattle.shape.specs.declared.Shape.{Shape}
-use Rattle.shape.specs.Arithmetic.{roundUp}
+use Rattle.shape.specs.Arithmetic.{round_up}
 use Rattle.shape.specs.Numbers.{accepted}
 use Rattle.spend.specs.declared.Way.{Way}
 use Rattle.spend.specs.declared.Way.TheVariants.{Ignore, Memory}
 use Rattle.spend.specs.declared.Spent.{Spent}
-use Rattle.spend.specs.Ways.{wayNumber, spends, nothing}
-use Rattle.spend.specs.Spending.{takes, wantOf}
+use Rattle.spend.specs.Ways.{way_number, spends, nothing}
+use Rattle.spend.specs.Spending.{takes, want_of}
 use Rattle.stack_place.specs.declared.Stacked.{Stacked}
 use Rattle.stack_place.specs.Stacked.{stands}
 use Rattle.classify.specs.declared.Outcome.{Outcome}
 
 abbrev slotless : Way → Spent → Stacked → Outcome
-slotless way spent stacked = record { refusal = accepted; way = wayNumber way; spent = spent; slots = 0; stacked = stacked }
+slotless way spent stacked = record { refusal = accepted; way = way_number way; spent = spent; slots = 0; stacked = stacked }
 
 -- its bytes on the stack are whole words, and stand behind the others at its alignment, or at a word's
-abbrev pub fastcallStands : Shape → ℕ → Stacked
-fastcallStands shape stack = stands (roundUp stack (max shape.align 4)) (roundUp shape.size 4)
+abbrev pub fastcall_stands : Shape → ℕ → Stacked
+fastcall_stands shape stack = stands (round_up stack (max shape.align 4)) (round_up shape.size 4)
 
 -- where so many integer registers are left, and the stack goes on from there
-abbrev pub fastcallOutcome : Shape → ℕ → ℕ → Outcome
-fastcallOutcome shape I stack =
+abbrev pub fastcall_outcome : Shape → ℕ → ℕ → Outcome
+fastcall_outcome shape I stack =
     cond (eqb shape.size 0) (slotless Ignore nothing (stands 0 0))
-    (cond (shape.complex || shape.floating) (slotless Memory nothing (fastcallStands shape stack))
-    (slotless Memory (spends (takes (wantOf shape.size 4) I) 0 0 0) (fastcallStands shape stack)))
+    (cond (shape.complex || shape.floating) (slotless Memory nothing (fastcall_stands shape stack))
+    (slotless Memory (spends (takes (want_of shape.size 4) I) 0 0 0) (fastcall_stands shape stack)))

@@ -11,14 +11,14 @@ use Rattle.ledger.specs.Ledger.{Operation}
 use Rattle.varargs.specs.declared.Offsets.{Offsets}
 use Rattle.varargs.specs.declared.Located.{Located}
 use Rattle.varargs.specs.declared.Reading.{Reading}
-use Rattle.varargs.specs.Lists.{Shown, shown, shownAt}
+use Rattle.varargs.specs.Lists.{Shown, shown, shown_at}
 use Rattle.varargs.specs.contracts.read as on_read
 use Rattle.varargs.proofs.Promised.{Reads}
-use Rattle.varargs.proofs.find.Reads as list-find
-use Rattle.placement.specs.Caller.{Value, State, placedBy}
+use Rattle.varargs.proofs.find.Reads as list_find
+use Rattle.placement.specs.Caller.{Value, State, placed_by}
 use Rattle.export_varargs.specs.declared.Part.{Part}
-use Rattle.export_varargs.specs.Numbers.{shownBy}
-use Rattle.export_varargs.proofs.barkpaddle_read_scalar.Reads as entry-read-scalar
+use Rattle.export_varargs.specs.Numbers.{shown_by}
+use Rattle.export_varargs.proofs.barkpaddle_read_scalar.Reads as entry_read_scalar
 use Rattle.demands.specs.Performed.{Performed, Asks, MetAlone}
 
 -- ---- placed
@@ -27,7 +27,7 @@ use Rattle.demands.specs.Performed.{Performed, Asks, MetAlone}
 pub data AllPlaced : State → List Value → State → Type 0 where
   none : (st : State) → AllPlaced st [] st
   next : (st to : State) (v : Value) (vs : List Value) (op : Operation) (a : Answer) (after : List ℕ)
-      → Asks (Scalar v.scalar) op → Performed st.call op a after → AllPlaced (placedBy a st v) vs to → AllPlaced st (v ∷ vs) to
+      → Asks (Scalar v.scalar) op → Performed st.call op a after → AllPlaced (placed_by a st v) vs to → AllPlaced st (v ∷ vs) to
 
 -- ---- read
 
@@ -36,10 +36,10 @@ pub data IsRead (save overflow : List ℕ) (at : Offsets) (s : scalars.Scalar) :
   read : (κs : Lfts 1) (sv ov : Bor (List ℕ)) (r : Reading) (e : AtExit on_read.ended κs) → sv.now ≡ save → ov.now ≡ overflow
       → Reads κs (sv, (ov, (at, (s, tt)))) r e → IsRead save overflow at s (shown r)
   find : (κs : Lfts 1) (sv ov : Bor (List ℕ)) (r : Located) → sv.now ≡ save → ov.now ≡ overflow
-      → MetAlone (list-find.Post κs) (sv, (ov, (at, (s, tt)))) r → IsRead save overflow at s (shownAt save overflow r)
-  barkpaddle-read-scalar : (κs : Lfts 1) (sv ov : Bor (List ℕ)) (r : Part) → sv.now ≡ save → ov.now ≡ overflow
-      → MetAlone (entry-read-scalar.Post κs) (sv, (ov, (at.integer, (at.float, (at.overflow, (s.kind, (s.size, (s.align, tt)))))))) r
-      → IsRead save overflow at s (shownBy save overflow r)
+      → MetAlone (list_find.Post κs) (sv, (ov, (at, (s, tt)))) r → IsRead save overflow at s (shown_at save overflow r)
+  barkpaddle_read_scalar : (κs : Lfts 1) (sv ov : Bor (List ℕ)) (r : Part) → sv.now ≡ save → ov.now ≡ overflow
+      → MetAlone (entry_read_scalar.Post κs) (sv, (ov, (at.integer, (at.float, (at.overflow, (s.kind, (s.size, (s.align, tt)))))))) r
+      → IsRead save overflow at s (shown_by save overflow r)
 
 -- one scalar after the other, each from the offsets that the read before handed back
 pub data AllRead (save overflow : List ℕ) : Offsets → List Value → List Shown → Type 0 where

@@ -6,21 +6,21 @@ use Rattle.shape.specs.declared.Shape.{Shape}
 use Rattle.shape.specs.Words.{pieces_of}
 use Rattle.slots.specs.declared.Slot.{Slot}
 use Rattle.abis.specs.Abis.{described}
-use Rattle.spend.specs.Ways.{wayFrom}
+use Rattle.spend.specs.Ways.{way_from}
 use Rattle.classify.specs.declared.Call.{Call}
 use Rattle.classify.specs.declared.Answer.{Answer}
 use Rattle.aapcs64.specs.Aapcs64.{parameter, result}
-use Rattle.aapcs64.specs.Reading.{state_of, reads, readsResult, composite}
-use Rattle.aapcs64.proofs.Answered as row-1
+use Rattle.aapcs64.specs.Reading.{state_of, reads, reads_result, composite}
+use Rattle.aapcs64.proofs.Answered as row_1
 
 abbrev pub SaysArgument : Call → Shape → List ℕ → ℕ → Answer → List ℕ → List ℕ → Type 0
 SaysArgument c shape words natural a out after =
-    row-1.Answers a out after
+    row_1.Answers a out after
     (λ (slots : List Slot).
-    reads c.left (wayFrom a.outcome.way) slots a.next.left ≡ some (parameter (state_of c.left) (composite natural shape (pieces_of words))))
+    reads c.left (way_from a.outcome.way) slots a.next.left ≡ some (parameter (state_of c.left) (composite natural shape (pieces_of words))))
 
 abbrev pub SaysResult : Call → Shape → List ℕ → ℕ → Answer → List ℕ → List ℕ → Type 0
 SaysResult c shape words natural a out after =
-    row-1.Answers a out after
+    row_1.Answers a out after
     (λ (slots : List Slot).
-    readsResult (described 1).return_pointer (wayFrom a.outcome.way) slots a.next.left ≡ some (result (state_of c.left) (composite natural shape (pieces_of words))))
+    reads_result (described 1).return_pointer (way_from a.outcome.way) slots a.next.left ≡ some (result (state_of c.left) (composite natural shape (pieces_of words))))

@@ -16,20 +16,20 @@ use Rattle.describe.specs.declared.Short.TheVariants.{Unchanged, Memory, MemoryA
 use Rattle.describe.specs.Description.{Decides, Ends, past}
 
 -- The test of a rule, part by part.
-abbrev isAnything : Test → Bool
-isAnything Anything = true
-isAnything Empty = false
-isAnything (SizeOneOf k a b c d) = false
-isAnything (SizeAtMost limit) = false
-isAnything (Homogeneous limit) = false
-isAnything FloatPair = false
-isAnything X87Stack = false
-isAnything LoneFloat = false
-isAnything FloatingMode = false
-isAnything ComplexFloat = false
-isAnything (Eightbytes limit) = false
+abbrev is_anything : Test → Bool
+is_anything Anything = true
+is_anything Empty = false
+is_anything (SizeOneOf k a b c d) = false
+is_anything (SizeAtMost limit) = false
+is_anything (Homogeneous limit) = false
+is_anything FloatPair = false
+is_anything X87Stack = false
+is_anything LoneFloat = false
+is_anything FloatingMode = false
+is_anything ComplexFloat = false
+is_anything (Eightbytes limit) = false
 
-anything : (t : Test) → T (isAnything t) → t ≡ Anything
+anything : (t : Test) → T (is_anything t) → t ≡ Anything
 anything Anything h = refl
 anything Empty h = absurd h
 anything (SizeOneOf k a b c d) h = absurd h
@@ -42,46 +42,46 @@ anything FloatingMode h = absurd h
 anything ComplexFloat h = absurd h
 anything (Eightbytes limit) h = absurd h
 
-abbrev isUnsought : Travel → Bool
-isUnsought Ignore = true
-isUnsought AsFound = false
-isUnsought AsIntegers = true
-isUnsought AsOneInteger = true
-isUnsought ByReference = true
-isUnsought InMemory = true
-isUnsought InMemoryAndSpend = true
+abbrev is_unsought : Travel → Bool
+is_unsought Ignore = true
+is_unsought AsFound = false
+is_unsought AsIntegers = true
+is_unsought AsOneInteger = true
+is_unsought ByReference = true
+is_unsought InMemory = true
+is_unsought InMemoryAndSpend = true
 
-unsought : (t : Travel) → T (isUnsought t) → t ≡ AsFound → ⊥
+unsought : (t : Travel) → T (is_unsought t) → t ≡ AsFound → ⊥
 unsought t h e = rw e at h
 
-abbrev isStaying : Short → Bool
-isStaying Unchanged = true
-isStaying Memory = true
-isStaying MemoryAndDrain = true
-isStaying TryNextRule = false
-isStaying Split = true
+abbrev is_staying : Short → Bool
+is_staying Unchanged = true
+is_staying Memory = true
+is_staying MemoryAndDrain = true
+is_staying TryNextRule = false
+is_staying Split = true
 
-stays : (s : Short) → T (isStaying s) → s ≡ TryNextRule → ⊥
+stays : (s : Short) → T (is_staying s) → s ≡ TryNextRule → ⊥
 stays s h e = rw e at h
 
-abbrev pub isDeciding : Rule → Bool
-isDeciding r = isAnything r.when && (isUnsought r.then && isStaying r.short)
+abbrev pub is_deciding : Rule → Bool
+is_deciding r = is_anything r.when && (is_unsought r.then && is_staying r.short)
 
-pub decides : (r : Rule) → T (isDeciding r) → Decides r
+pub decides : (r : Rule) → T (is_deciding r) → Decides r
 decides r h =
-    let rest = and_right (isAnything r.when) (isUnsought r.then && isStaying r.short) h in
+    let rest = and_right (is_anything r.when) (is_unsought r.then && is_staying r.short) h in
     record {
-      anything = anything r.when (and_left (isAnything r.when) (isUnsought r.then && isStaying r.short) h);
-      unsought = unsought r.then (and_left (isUnsought r.then) (isStaying r.short) rest);
-      stays = stays r.short (and_right (isUnsought r.then) (isStaying r.short) rest);
+      anything = anything r.when (and_left (is_anything r.when) (is_unsought r.then && is_staying r.short) h);
+      unsought = unsought r.then (and_left (is_unsought r.then) (is_staying r.short) rest);
+      stays = stays r.short (and_right (is_unsought r.then) (is_staying r.short) rest);
     }
 
-abbrev pub isEnding : List Rule → Bool
-isEnding rules = ltb 0 (length rules) && isDeciding (get_or rules (length rules - 1) past)
+abbrev pub is_ending : List Rule → Bool
+is_ending rules = ltb 0 (length rules) && is_deciding (get_or rules (length rules - 1) past)
 
-pub ends : (rules : List Rule) → T (isEnding rules) → Ends rules
+pub ends : (rules : List Rule) → T (is_ending rules) → Ends rules
 ends rules h =
     record {
-      some = ltb→lt 0 (length rules) (and_left (ltb 0 (length rules)) (isDeciding (get_or rules (length rules - 1) past)) h);
-      last = decides (get_or rules (length rules - 1) past) (and_right (ltb 0 (length rules)) (isDeciding (get_or rules (length rules - 1) past)) h);
+      some = ltb→lt 0 (length rules) (and_left (ltb 0 (length rules)) (is_deciding (get_or rules (length rules - 1) past)) h);
+      last = decides (get_or rules (length rules - 1) past) (and_right (ltb 0 (length rules)) (is_deciding (get_or rules (length rules - 1) past)) h);
     }

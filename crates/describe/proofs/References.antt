@@ -5,14 +5,14 @@ use mathlib.Core.Bool.{Bool, true, false, not}
 use borrow.Author.Tests.{ne_eqb}
 use native.Mathlib.Omega.{arith}
 use Rattle.describe.specs.declared.Scalars.{Scalars}
-use Rattle.describe.specs.Questions.{registerSize, isByReference}
+use Rattle.describe.specs.Questions.{register_size, is_by_reference}
 
-pub beyond-registers : (size : ℕ) → 8 < size → false ≡ registerSize size
-beyond-registers size h = rw (ne_eqb size 1 (λ e. omega arith), ne_eqb size 2 (λ e. omega arith), ne_eqb size 4 (λ e. omega arith), ne_eqb size 8 (λ e. omega arith))
+pub beyond_registers : (size : ℕ) → 8 < size → false ≡ register_size size
+beyond_registers size h = rw (ne_eqb size 1 (λ e. omega arith), ne_eqb size 2 (λ e. omega arith), ne_eqb size 4 (λ e. omega arith), ne_eqb size 8 (λ e. omega arith))
 
 module _ (S : Scalars) (size : ℕ) (r : Bool) where
-  pub reference-where : S.wide_is_by_reference ≡ true → (b : Bool) → b ≡ registerSize size → r ≡ not b → r ≡ isByReference S size
-  reference-where h b eb er = rw (er, eb, h)
+  pub reference_where : S.wide_is_by_reference ≡ true → (b : Bool) → b ≡ register_size size → r ≡ not b → r ≡ is_by_reference S size
+  reference_where h b eb er = rw (er, eb, h)
 
-  pub reference-nowhere : S.wide_is_by_reference ≡ false → r ≡ false → r ≡ isByReference S size
-  reference-nowhere h er = rw (er, h)
+  pub reference_nowhere : S.wide_is_by_reference ≡ false → r ≡ false → r ≡ is_by_reference S size
+  reference_nowhere h er = rw (er, h)

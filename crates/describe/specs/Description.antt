@@ -38,8 +38,8 @@ pub record Description : Type 0 where
   pub cleanup : Cleanup
 
 -- What classification reads of it beside the rules, and what it doesn't, as the code's own records have them.
-abbrev pub termsOf : Description → Terms
-termsOf D =
+abbrev pub terms_of : Description → Terms
+terms_of D =
     record {
       banks = D.banks;
       scalars = D.scalars;
@@ -48,8 +48,8 @@ termsOf D =
       stack_args = D.stack_args;
     }
 
-abbrev pub othersOf : Description → Others
-othersOf D =
+abbrev pub others_of : Description → Others
+others_of D =
     record {
       narrow = D.narrow;
       bit_ints = D.bit_ints;
@@ -57,11 +57,11 @@ othersOf D =
     }
 
 -- A rule whose shortage has its own answer, and one that can't run short.
-abbrev pub ruleShort : Test → Travel → Short → Rule
-ruleShort when then short = record { when = when; then = then; short = short }
+abbrev pub rule_short : Test → Travel → Short → Rule
+rule_short when then short = record { when = when; then = then; short = short }
 
 abbrev pub rule : Test → Travel → Rule
-rule when then = ruleShort when then Unchanged
+rule when then = rule_short when then Unchanged
 
 -- What stands past the end of a list of rules. Nothing comes to it: every list ends before (Ends, below).
 abbrev pub past : Rule

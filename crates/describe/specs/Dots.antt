@@ -6,21 +6,21 @@ use Rattle.describe.specs.declared.Variadic.{Variadic}
 use Rattle.describe.specs.declared.Variadic.TheVariants.{SameAsFixed, AlwaysMemory, BothBanks, IntegersOnly, UnnamedIntegers, UnnamedIntegersEven}
 
 abbrev pub dots : Bool → Bool → Bool → Bool → Dots
-dots mark emptied integers-only starts-even = record { mark = mark; emptied = emptied; integers_only = integers-only; starts_even = starts-even }
+dots mark emptied integers_only starts-even = record { mark = mark; emptied = emptied; integers_only = integers_only; starts_even = starts-even }
 
 -- a fixed argument and a return
-abbrev pub asFixed : Dots
-asFixed = dots false false false false
+abbrev pub as_fixed : Dots
+as_fixed = dots false false false false
 
-abbrev pub dotsOf : Variadic → Dots
-dotsOf SameAsFixed = asFixed
+abbrev pub dots_of : Variadic → Dots
+dots_of SameAsFixed = as_fixed
 -- emptied: with no register left every rule falls short, and that is what "always in memory" means
-dotsOf AlwaysMemory = dots false true false false
+dots_of AlwaysMemory = dots false true false false
 -- which registers are written, and not the form of the value
-dotsOf BothBanks = asFixed
+dots_of BothBanks = as_fixed
 -- a mark of the whole call, for the callee walks named arguments with the same pointer
-dotsOf IntegersOnly = dots true false false false
+dots_of IntegersOnly = dots true false false false
 -- of the argument alone, for named ones keep their float registers
-dotsOf UnnamedIntegers = dots false false true false
+dots_of UnnamedIntegers = dots false false true false
 -- a pair of words begins at an even register, so that it is aligned where the callee stores its registers
-dotsOf UnnamedIntegersEven = dots false false true true
+dots_of UnnamedIntegersEven = dots false false true true

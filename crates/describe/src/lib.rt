@@ -1,8 +1,10 @@
 // The language of descriptions (REFERENCE 5): what a description says, the questions that its scalar rules answer by themselves, and
 // what its variadic kind comes to. The crate rows reads a description from a row of bytes.
+#![tactic(auto)]
+
 ghost use Rattle.std.specs.Prelude.{◌≡◌};
-ghost use Rattle.describe.specs.Questions.{isByReference, returnsByReference, wideReturnsIn, registerSize};
-ghost use Rattle.describe.specs.Dots.{dotsOf, asFixed};
+ghost use Rattle.describe.specs.Questions.{is_by_reference, returns_by_reference, wide_returns_in, register_size};
+ghost use Rattle.describe.specs.Dots.{dots_of, as_fixed};
 
 // What an aggregate has to look like for a rule to apply. A test is an idea that several conventions share; which of them a convention
 // asks, in which order and with which limit, is its description. SizeOneOf has a count, and of the four sizes behind it the first so many.
@@ -217,7 +219,7 @@ pub struct Dots {
 
 // A float in both banks has the form of a fixed argument: which registers are written is the generator's part.
 pub fn dots_of(variadic: Variadic) -> Dots
-    ensures { result ≡ dotsOf variadic }
+    ensures { result ≡ dots_of variadic }
 {
     match variadic {
         Variadic::SameAsFixed => as_fixed(),
@@ -251,7 +253,7 @@ pub fn dots_of(variadic: Variadic) -> Dots
 
 // Nothing that a fixed argument wouldn't do, and nothing marked.
 pub fn as_fixed() -> Dots
-    ensures { result ≡ asFixed }
+    ensures { result ≡ as_fixed }
 {
     Dots {
         mark: false,
@@ -264,7 +266,7 @@ pub fn as_fixed() -> Dots
 // Whether a scalar of this size travels as the address of a copy. The rule knows no more than the size, so whoever writes a call to a
 // runtime routine can ask it without a C type.
 pub fn scalar_is_by_reference(scalars: Scalars, size: u64) -> bool
-    ensures { result ≡ isByReference scalars size }
+    ensures { result ≡ is_by_reference scalars size }
 {
     if scalars.wide_is_by_reference {
         return !register_size(size);
@@ -274,7 +276,7 @@ pub fn scalar_is_by_reference(scalars: Scalars, size: u64) -> bool
 
 // Whether a scalar of this size comes back through the address that the caller passes.
 pub fn scalar_returns_by_reference(scalars: Scalars, size: u64) -> bool
-    ensures { result ≡ returnsByReference scalars size }
+    ensures { result ≡ returns_by_reference scalars size }
 {
     scalar_is_by_reference(scalars, size) | (scalars.quad_returns_by_reference & (size == 16))
 }
@@ -282,7 +284,7 @@ pub fn scalar_returns_by_reference(scalars: Scalars, size: u64) -> bool
 // The format that an integer of this size comes back in where it is by reference otherwise, or 0 for none. It isn't the question above
 // turned round: on Windows x64 an integer of 16 goes in as an address and comes back in xmm0.
 pub fn wide_integer_returns_in(scalars: Scalars, size: u64) -> u64
-    ensures { result ≡ wideReturnsIn scalars size }
+    ensures { result ≡ wide_returns_in scalars size }
 {
     if scalar_is_by_reference(scalars, size) {
         scalars.wide_integer_returns_in
@@ -293,7 +295,7 @@ pub fn wide_integer_returns_in(scalars: Scalars, size: u64) -> u64
 
 // The sizes beyond a register's, 16 first of all, are told by one comparison.
 fn register_size(size: u64) -> bool
-    ensures { result ≡ registerSize size }
+    ensures { result ≡ register_size size }
 {
     if size > 8 {
         return false;

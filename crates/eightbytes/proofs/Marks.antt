@@ -15,88 +15,88 @@ use Rattle.shape.specs.declared.Piece.{Piece}
 use Rattle.shape.specs.Questions.{end_of}
 use Rattle.shape.specs.Words.{pieces_of, piece_at}
 use Rattle.shape.proofs.Words.{pieces_step, pieces_end}
-use Rattle.eightbytes.specs.Class.{Class, None, code, classOf, merge, kindClass, later}
-use Rattle.eightbytes.specs.Eightbytes.{cover, mark, classesAfter, Coded}
+use Rattle.eightbytes.specs.Class.{Class, None, code, class_of, merge, kind_class, later}
+use Rattle.eightbytes.specs.Eightbytes.{cover, mark, classes_after, Coded}
 use Rattle.eightbytes.specs.Reach.{last_of, aligned, fits}
-use Rattle.eightbytes.proofs.Class.{class-code, coded-lt}
-use Rattle.eightbytes.proofs.Codes.{map-set, map-drop, class-at, codes-classes, classes-codes, coded_set}
+use Rattle.eightbytes.proofs.Class.{class_code, coded_lt}
+use Rattle.eightbytes.proofs.Codes.{map_set, map_drop, class_at, codes_classes, classes_codes, coded_set}
 
 -- ---- the loop over the eightbytes of a piece
 
-cover-suc : (cs : List Class) (at : ℕ) (c : Class) (n m : ℕ) → n ≡ suc m
+cover_suc : (cs : List Class) (at : ℕ) (c : Class) (n m : ℕ) → n ≡ suc m
     → cover cs at c n ≡ cover (set cs at (merge (get_or cs at None) c)) (at + 1) (later c) m
 unfolding cover
-cover-suc cs at c n m e = rw e
+cover_suc cs at c n m e = rw e
 
-cover-zero : (cs : List Class) (at : ℕ) (c : Class) (n : ℕ) → n ≡ 0 → cover cs at c n ≡ cs
+cover_zero : (cs : List Class) (at : ℕ) (c : Class) (n : ℕ) → n ≡ 0 → cover cs at c n ≡ cs
 unfolding cover
-cover-zero cs at c n e = rw e
+cover_zero cs at c n e = rw e
 
-pub mark-start : (xs : List ℕ) (p : Piece) (e c : ℕ) → e ≡ end_of p → c ≡ code (kindClass p.kind)
-    → cover (map classOf xs) (p.offset / 8) (classOf c) ((e - 1) / 8 + 1 - p.offset / 8) ≡ mark (map classOf xs) p
+pub mark_start : (xs : List ℕ) (p : Piece) (e c : ℕ) → e ≡ end_of p → c ≡ code (kind_class p.kind)
+    → cover (map class_of xs) (p.offset / 8) (class_of c) ((e - 1) / 8 + 1 - p.offset / 8) ≡ mark (map class_of xs) p
 unfolding mark
-mark-start xs p e c he hc = rw (he, hc, class-code)
+mark_start xs p e c he hc = rw (he, hc, class_code)
 
-module _ (total : List Class) (xs : List ℕ) (at class last : ℕ) (inv : cover (map classOf xs) at (classOf class) (last + 1 - at) ≡ total) where
-  pub cover-end : Coded xs → last < at → xs ≡ map code total
-  cover-end h l =
+module _ (total : List Class) (xs : List ℕ) (at class last : ℕ) (inv : cover (map class_of xs) at (class_of class) (last + 1 - at) ≡ total) where
+  pub cover_end : Coded xs → last < at → xs ≡ map code total
+  cover_end h l =
       let z : last + 1 - at ≡ 0 = omega arith in
-      let e : map classOf xs ≡ total = sym (cover-zero (map classOf xs) at (classOf class) _ z) ∙ inv in
-      sym (codes-classes xs h) ∙ ap (map code) e
+      let e : map class_of xs ≡ total = sym (cover_zero (map class_of xs) at (class_of class) _ z) ∙ inv in
+      sym (codes_classes xs h) ∙ ap (map code) e
 
-  pub cover-turn : (v class' : ℕ) → at ≤ last → v ≡ code (merge (classOf (get_or xs at 0)) (classOf class)) → class' ≡ code (later (classOf class))
-      → cover (map classOf (set xs at v)) (at + 1) (classOf class') (last + 1 - (at + 1)) ≡ total
-  cover-turn v class' l ev ec =
+  pub cover_turn : (v class' : ℕ) → at ≤ last → v ≡ code (merge (class_of (get_or xs at 0)) (class_of class)) → class' ≡ code (later (class_of class))
+      → cover (map class_of (set xs at v)) (at + 1) (class_of class') (last + 1 - (at + 1)) ≡ total
+  cover_turn v class' l ev ec =
       let m : last + 1 - at ≡ suc (last + 1 - (at + 1)) = omega arith in
-      let s = cover-suc (map classOf xs) at (classOf class) (last + 1 - at) (last + 1 - (at + 1)) m in
-      rw (ev, ec, map-set, class-code, class-code) (rw (class-at xs at) at (sym s) ∙ inv)
+      let s = cover_suc (map class_of xs) at (class_of class) (last + 1 - at) (last + 1 - (at + 1)) m in
+      rw (ev, ec, map_set, class_code, class_code) (rw (class_at xs at) at (sym s) ∙ inv)
 
-pub cover-less : (at last : ℕ) → at ≤ last → last + 1 - (at + 1) < last + 1 - at
-cover-less at last h = omega arith
+pub cover_less : (at last : ℕ) → at ≤ last → last + 1 - (at + 1) < last + 1 - at
+cover_less at last h = omega arith
 
 -- a piece inside one eightbyte: one turn is all
-pub cover_one : (xs : List ℕ) (at class last v : ℕ) → Coded xs → at ≡ last → v ≡ code (merge (classOf (get_or xs at 0)) (classOf class))
-    → set xs at v ≡ map code (cover (map classOf xs) at (classOf class) (last + 1 - at))
+pub cover_one : (xs : List ℕ) (at class last v : ℕ) → Coded xs → at ≡ last → v ≡ code (merge (class_of (get_or xs at 0)) (class_of class))
+    → set xs at v ≡ map code (cover (map class_of xs) at (class_of class) (last + 1 - at))
 cover_one xs at class last v h e ev =
-    let total : List Class = cover (map classOf xs) at (classOf class) (last + 1 - at) in
-    let t = cover-turn total xs at class last refl v (code (later (classOf class))) (omega arith) ev refl in
-    cover-end total (set xs at v) (at + 1) (code (later (classOf class))) last t (coded_set xs at v h (coded-lt _ ev)) (omega arith)
+    let total : List Class = cover (map class_of xs) at (class_of class) (last + 1 - at) in
+    let t = cover_turn total xs at class last refl v (code (later (class_of class))) (omega arith) ev refl in
+    cover_end total (set xs at v) (at + 1) (code (later (class_of class))) last t (coded_set xs at v h (coded_lt _ ev)) (omega arith)
 
 -- ---- the eightbytes of a shape are the first n of some
 
-cover-length : (cs : List Class) (at : ℕ) (c : Class) (k : ℕ) → length (cover cs at c k) ≡ length cs
+cover_length : (cs : List Class) (at : ℕ) (c : Class) (k : ℕ) → length (cover cs at c k) ≡ length cs
 unfolding cover
-cover-length cs at c zero = refl
-cover-length cs at c (suc k) = cover-length _ (at + 1) (later c) k ∙ length-set cs at _
+cover_length cs at c zero = refl
+cover_length cs at c (suc k) = cover_length _ (at + 1) (later c) k ∙ length-set cs at _
 
-pub mark-length : (cs : List Class) (p : Piece) → length (mark cs p) ≡ length cs
+pub mark_length : (cs : List Class) (p : Piece) → length (mark cs p) ≡ length cs
 unfolding mark
-mark-length cs p = cover-length cs _ _ _
+mark_length cs p = cover_length cs _ _ _
 
-cover-take : (n : ℕ) (cs : List Class) (at : ℕ) (c : Class) (k : ℕ) → (0 < k → at + k ≤ n) → take n (cover cs at c k) ≡ cover (take n cs) at c k
+cover_take : (n : ℕ) (cs : List Class) (at : ℕ) (c : Class) (k : ℕ) → (0 < k → at + k ≤ n) → take n (cover cs at c k) ≡ cover (take n cs) at c k
 unfolding cover
-cover-take n cs at c zero h = refl
-cover-take n cs at c (suc k) h =
+cover_take n cs at c zero h = refl
+cover_take n cs at c (suc k) h =
     let l : at + suc k ≤ n = h (omega arith) in
     let v : Class = merge (get_or cs at None) c in
-    let i = cover-take n (set cs at v) (at + 1) (later c) k (λ _. omega arith) in
+    let i = cover_take n (set cs at v) (at + 1) (later c) k (λ _. omega arith) in
     i ∙ rw (take-set-lt n cs at v (omega arith), get_or-take n cs at None (omega arith))
 
-cover-drop : (n : ℕ) (cs : List Class) (at : ℕ) (c : Class) (k : ℕ) → (0 < k → at + k ≤ n) → drop n (cover cs at c k) ≡ drop n cs
+cover_drop : (n : ℕ) (cs : List Class) (at : ℕ) (c : Class) (k : ℕ) → (0 < k → at + k ≤ n) → drop n (cover cs at c k) ≡ drop n cs
 unfolding cover
-cover-drop n cs at c zero h = refl
-cover-drop n cs at c (suc k) h =
+cover_drop n cs at c zero h = refl
+cover_drop n cs at c (suc k) h =
     let l : at + suc k ≤ n = h (omega arith) in
-    cover-drop n _ (at + 1) (later c) k (λ _. omega arith) ∙ drop-set-lt n cs at _ (omega arith)
+    cover_drop n _ (at + 1) (later c) k (λ _. omega arith) ∙ drop-set-lt n cs at _ (omega arith)
 
 module _ (n : ℕ) (cs : List Class) (p : Piece) (h : last_of p < n) where
-  pub mark-take : take n (mark cs p) ≡ mark (take n cs) p
+  pub mark_take : take n (mark cs p) ≡ mark (take n cs) p
   unfolding mark
-  mark-take = cover-take n cs _ _ _ (λ z. omega arith)
+  mark_take = cover_take n cs _ _ _ (λ z. omega arith)
 
-  pub mark-drop : drop n (mark cs p) ≡ drop n cs
+  pub mark_drop : drop n (mark cs p) ≡ drop n cs
   unfolding mark
-  mark-drop = cover-drop n cs _ _ _ (λ z. omega arith)
+  mark_drop = cover_drop n cs _ _ _ (λ z. omega arith)
 
 -- ---- the loop over the pieces
 
@@ -109,36 +109,36 @@ fits_last n p b e h = ltb-true _ _ (go (aligned p) (sym e ∙ not-false b h))
     go false x = absurd (false≢true x)
 
 module _ (total : Option (List Class)) (ws : List ℕ) (at n : ℕ) (xs : List ℕ)
-    (inv : total ≡ classesAfter (take n (map classOf xs)) (pieces_of (drop at ws))) (w : at ≤ length ws) where
-  pub marked-end : length ws - at < 4 → total ≡ some (take n (map classOf xs))
-  unfolding classesAfter
-  marked-end h = rw (inv, pieces_end ws at (omega arith))
+    (inv : total ≡ classes_after (take n (map class_of xs)) (pieces_of (drop at ws))) (w : at ≤ length ws) where
+  pub marked_end : length ws - at < 4 → total ≡ some (take n (map class_of xs))
+  unfolding classes_after
+  marked_end h = rw (inv, pieces_end ws at (omega arith))
 
   module _ (h : 4 ≤ length ws - at) (l : n ≤ length xs) (p : Piece) (ep : p ≡ piece_at ws at) (b : Bool) (eb : b ≡ fits n p) where
-    own : length (take n (map classOf xs)) ≡ n
+    own : length (take n (map class_of xs)) ≡ n
     own = simp (length-take, length-map) (omega arith)
 
-    pub marked-stop : not b ≡ true → total ≡ none
-    unfolding classesAfter
-    marked-stop f = rw (inv, pieces_step ws at (omega arith), ← ep, own, ← eb, not-true b f)
+    pub marked_stop : not b ≡ true → total ≡ none
+    unfolding classes_after
+    marked_stop f = rw (inv, pieces_step ws at (omega arith), ← ep, own, ← eb, not-true b f)
 
     pub inside : not b ≡ false → last_of p < n
     inside f = fits_last n p b eb f
 
-    module _ (f : not b ≡ false) (ys : List ℕ) (ey : ys ≡ map code (mark (map classOf xs) p)) where
-      pub marked_turn : total ≡ classesAfter (take n (map classOf ys)) (pieces_of (drop (at + 4) ws))
-      unfolding classesAfter
+    module _ (f : not b ≡ false) (ys : List ℕ) (ey : ys ≡ map code (mark (map class_of xs) p)) where
+      pub marked_turn : total ≡ classes_after (take n (map class_of ys)) (pieces_of (drop (at + 4) ws))
+      unfolding classes_after
       marked_turn =
-          let t : take n (map classOf ys) ≡ mark (take n (map classOf xs)) p =
-          rw (ey, classes-codes) (mark-take n (map classOf xs) p (inside f)) in
+          let t : take n (map class_of ys) ≡ mark (take n (map class_of xs)) p =
+          rw (ey, classes_codes) (mark_take n (map class_of xs) p (inside f)) in
           rw (inv, pieces_step ws at (omega arith), ← ep, own, ← eb, not-false b f, t)
 
-      pub marked-behind : Coded xs → drop n ys ≡ drop n xs
-      marked-behind cx =
-          rw (ey, ← map-drop code n (mark (map classOf xs) p), mark-drop n (map classOf xs) p (inside f), map-drop code, codes-classes xs cx)
+      pub marked_behind : Coded xs → drop n ys ≡ drop n xs
+      marked_behind cx =
+          rw (ey, ← map_drop code n (mark (map class_of xs) p), mark_drop n (map class_of xs) p (inside f), map_drop code, codes_classes xs cx)
 
-      pub marked-length : length ys ≡ length xs
-      marked-length = rw (ey, length-map, mark-length, length-map)
+      pub marked_length : length ys ≡ length xs
+      marked_length = rw (ey, length-map, mark_length, length-map)
 
 -- where it starts: eight zeros
 take_same : (n m : ℕ) (c : Class) → n ≤ m → take n (replicate m c) ≡ replicate n c
@@ -146,14 +146,14 @@ take_same zero m c h = refl
 take_same (suc n) zero c h = absurd (omega arith)
 take_same (suc n) (suc m) c h = ap {B = List Class} (λ r. c ∷ r) (take_same n m c (omega arith))
 
-pub marked_start : (n : ℕ) (ps : List Piece) → n ≤ 8 → classesAfter (replicate n None) ps ≡ classesAfter (take n (map classOf (replicate 8 0))) ps
-unfolding classOf
-marked_start n ps h = ap (λ (cs : List Class). classesAfter cs ps) (sym (take_same n 8 None h))
+pub marked_start : (n : ℕ) (ps : List Piece) → n ≤ 8 → classes_after (replicate n None) ps ≡ classes_after (take n (map class_of (replicate 8 0))) ps
+unfolding class_of
+marked_start n ps h = ap (λ (cs : List Class). classes_after cs ps) (sym (take_same n 8 None h))
 
-drop-same : (n m : ℕ) → n ≤ m → drop {A = ℕ} n (replicate m 0) ≡ replicate (m - n) 0
-drop-same zero m h = rw sub-zero
-drop-same (suc n) zero h = absurd (omega arith)
-drop-same (suc n) (suc m) h = let e : suc m - suc n ≡ m - n = omega arith in rw e (drop-same n m (omega arith))
+drop_same : (n m : ℕ) → n ≤ m → drop {A = ℕ} n (replicate m 0) ≡ replicate (m - n) 0
+drop_same zero m h = rw sub-zero
+drop_same (suc n) zero h = absurd (omega arith)
+drop_same (suc n) (suc m) h = let e : suc m - suc n ≡ m - n = omega arith in rw e (drop_same n m (omega arith))
 
-pub behind-start : (n : ℕ) → n ≤ 8 → drop {A = ℕ} n (replicate 8 0) ≡ replicate (8 - n) 0
-behind-start n h = drop-same n 8 h
+pub behind_start : (n : ℕ) → n ≤ 8 → drop {A = ℕ} n (replicate 8 0) ≡ replicate (8 - n) 0
+behind_start n h = drop_same n 8 h

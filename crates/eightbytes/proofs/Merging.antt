@@ -2,11 +2,11 @@
 use Prim.Native.Nat.{ℕ, zero, suc, ◌<◌}
 use mathlib.Core.Path.{◌≡◌, refl}
 use native.Mathlib.Omega.{arith}
-use Rattle.eightbytes.specs.Class.{None, code, classOf, same, merge}
+use Rattle.eightbytes.specs.Class.{None, code, class_of, same, merge}
 
 -- what stands nowhere gives way
-none_first : (b : ℕ) → b < 6 → b ≡ code (merge None (classOf b))
-unfolding code classOf same merge
+none_first : (b : ℕ) → b < 6 → b ≡ code (merge None (class_of b))
+unfolding code class_of same merge
 none_first zero h = refl
 none_first (suc zero) h = refl
 none_first (suc (suc zero)) h = refl
@@ -15,19 +15,19 @@ none_first (suc (suc (suc (suc zero)))) h = refl
 none_first (suc (suc (suc (suc (suc zero))))) h = refl
 none_first (suc (suc (suc (suc (suc (suc n)))))) h = absurd (omega arith)
 
-pub merge_none : (a b : ℕ) → a ≡ 0 → b < 6 → b ≡ code (merge (classOf a) (classOf b))
-unfolding classOf
+pub merge_none : (a b : ℕ) → a ≡ 0 → b < 6 → b ≡ code (merge (class_of a) (class_of b))
+unfolding class_of
 merge_none a b e h = rw e (none_first b h)
 
-same-twice : (b : ℕ) → b < 6 → b ≡ code (merge (classOf b) (classOf b))
-unfolding code classOf same merge
-same-twice zero h = refl
-same-twice (suc zero) h = refl
-same-twice (suc (suc zero)) h = refl
-same-twice (suc (suc (suc zero))) h = refl
-same-twice (suc (suc (suc (suc zero)))) h = refl
-same-twice (suc (suc (suc (suc (suc zero))))) h = refl
-same-twice (suc (suc (suc (suc (suc (suc n)))))) h = absurd (omega arith)
+same_twice : (b : ℕ) → b < 6 → b ≡ code (merge (class_of b) (class_of b))
+unfolding code class_of same merge
+same_twice zero h = refl
+same_twice (suc zero) h = refl
+same_twice (suc (suc zero)) h = refl
+same_twice (suc (suc (suc zero))) h = refl
+same_twice (suc (suc (suc (suc zero)))) h = refl
+same_twice (suc (suc (suc (suc (suc zero))))) h = refl
+same_twice (suc (suc (suc (suc (suc (suc n)))))) h = absurd (omega arith)
 
-pub merge-same : (a b : ℕ) → a ≡ b → b < 6 → b ≡ code (merge (classOf a) (classOf b))
-merge-same a b e h = rw e (same-twice b h)
+pub merge_same : (a b : ℕ) → a ≡ b → b < 6 → b ≡ code (merge (class_of a) (class_of b))
+merge_same a b e h = rw e (same_twice b h)

@@ -13,17 +13,17 @@ use Rattle.eightbytes.proofs.classes.mended.Reads as mended
 both : (r q : Classified) → r.found ≡ q.found → r.classes ≡ q.classes → r ≡ q
 both r q e f = ap₂ {C = Classified} (λ x y. record { found = x; classes = y }) e f
 
-eightbytes-decides : (κs : Lfts 1) → OneAnswer (eightbytes.Post κs)
-eightbytes-decides κs a r q s t p p' = both r q (p.0 ∙ sym p'.0) (p.1 ∙ sym p'.1)
+eightbytes_decides : (κs : Lfts 1) → OneAnswer (eightbytes.Post κs)
+eightbytes_decides κs a r q s t p p' = both r q (p.0 ∙ sym p'.0) (p.1 ∙ sym p'.1)
 
-fits-decides : (κs : Lfts 0) → OneAnswer (fits.Post κs)
-fits-decides κs a r q s t p p' = p ∙ sym p'
+fits_decides : (κs : Lfts 0) → OneAnswer (fits.Post κs)
+fits_decides κs a r q s t p p' = p ∙ sym p'
 
-class-of-decides : (κs : Lfts 0) → OneAnswer (class_of.Post κs)
-class-of-decides κs a r q s t p p' = p ∙ sym p'
+class_of_decides : (κs : Lfts 0) → OneAnswer (class_of.Post κs)
+class_of_decides κs a r q s t p p' = p ∙ sym p'
 
-later-decides : (κs : Lfts 0) → OneAnswer (later.Post κs)
-later-decides κs a r q s t p p' = p ∙ sym p'
+later_decides : (κs : Lfts 0) → OneAnswer (later.Post κs)
+later_decides κs a r q s t p p' = p ∙ sym p'
 
-mended-decides : (κs : Lfts 0) → OneAnswer (mended.Post κs)
-mended-decides κs a r q s t p p' = p ∙ sym p'
+mended_decides : (κs : Lfts 0) → OneAnswer (mended.Post κs)
+mended_decides κs a r q s t p p' = p ∙ sym p'

@@ -2,7 +2,7 @@
 -- (REFERENCE 8). The psABI's X87UP and COMPLEX_X87 aren't here: an x87 value ends the search, whatever stands beside it, and what comes back on
 -- the x87's stack has a test of its own (find/specs/Find.antt), so that they would change nothing.
 use Rattle.std.specs.Prelude.{Bool, cond, ◌||◌, not, ◌&&◌, ℕ, [], ◌∷◌, eqb, ltb, get_or}
-use Rattle.shape.specs.Numbers.{integer, x87-extended}
+use Rattle.shape.specs.Numbers.{integer, x87_extended}
 
 pub data Class : Type 0 where
   None Integer Sse SseUp X87 Memory : Class
@@ -16,16 +16,16 @@ code X87 = 4
 code Memory = 5
 
 -- the class of a code; a number that is no class's code counts as Memory
-unfoldable pub classOf : ℕ → Class
-classOf n = get_or (None ∷ Integer ∷ Sse ∷ SseUp ∷ X87 ∷ []) n Memory
+unfoldable pub class_of : ℕ → Class
+class_of n = get_or (None ∷ Integer ∷ Sse ∷ SseUp ∷ X87 ∷ []) n Memory
 
 unfoldable pub same : Class → Class → Bool
 same a b = eqb (code a) (code b)
 
 -- a piece's class, by its kind: every kind but the integer's is a float's. x87 values have a class of their own since no argument register takes
 -- them
-abbrev pub kindClass : ℕ → Class
-kindClass kind = cond (eqb kind integer) Integer (cond (eqb kind x87-extended) X87 Sse)
+abbrev pub kind_class : ℕ → Class
+kind_class kind = cond (eqb kind integer) Integer (cond (eqb kind x87_extended) X87 Sse)
 
 -- the class of its eightbytes after one of this class: those of an Sse piece are SseUp, for a Quad is one value in one register. An integer of 16
 -- takes two, and both of its eightbytes are Integer

@@ -4,21 +4,21 @@ use Rattle.std.proofs.Math.Option.{Option}
 use Rattle.std.proofs.Math.Option.Option.{none, some}
 use Rattle.shape.specs.declared.Piece.{Piece}
 use Rattle.shape.specs.declared.Shape.{Shape}
-use Rattle.shape.specs.Numbers.{single, double, quad, oneIf}
+use Rattle.shape.specs.Numbers.{single, double, quad, one_if}
 use Rattle.slots.specs.declared.Slot.{Slot}
-use Rattle.slots.specs.Words.{integerSlot, floatSlot}
-use Rattle.slots.specs.Cut.{ceilDiv}
+use Rattle.slots.specs.Words.{integer_slot, float_slot}
+use Rattle.slots.specs.Cut.{ceil_div}
 use Rattle.slots.specs.Search.{Search, found, nothing}
-use Rattle.eightbytes.specs.Class.{Class, None, Sse, SseUp, X87, Memory, code, classOf, same, kindClass, later, merge, mended}
+use Rattle.eightbytes.specs.Class.{Class, None, Sse, SseUp, X87, Memory, code, class_of, same, kind_class, later, merge, mended}
 use Rattle.eightbytes.specs.Reach.{first_of, last_of, fits}
 
 -- a limit above eight eightbytes counts as eight
-abbrev pub most-limit : ℕ
-most-limit = 64
+abbrev pub most_limit : ℕ
+most_limit = 64
 
 -- how many eightbytes a size has, the last perhaps narrower
-abbrev pub eightbytesIn : ℕ → ℕ
-eightbytesIn size = ceilDiv size 8
+abbrev pub eightbytes_in : ℕ → ℕ
+eightbytes_in size = ceil_div size 8
 
 -- ---- one piece
 
@@ -29,14 +29,14 @@ cover cs at c (suc n) = cover (set cs at (merge (get_or cs at None) c)) (at + 1)
 
 -- its class merged into each eightbyte that it reaches into
 unfoldable pub mark : List Class → Piece → List Class
-mark cs p = cover cs (first_of p) (kindClass p.kind) (last_of p + 1 - first_of p)
+mark cs p = cover cs (first_of p) (kind_class p.kind) (last_of p + 1 - first_of p)
 
 -- ---- the classes of a shape
 
 -- the classes after some pieces, none where a piece doesn't fit
-unfoldable pub classesAfter : List Class → List Piece → Option (List Class)
-classesAfter cs [] = some cs
-classesAfter cs (p ∷ ps) = cond (fits (length cs) p) (classesAfter (mark cs p) ps) none
+unfoldable pub classes_after : List Class → List Piece → Option (List Class)
+classes_after cs [] = some cs
+classes_after cs (p ∷ ps) = cond (fits (length cs) p) (classes_after (mark cs p) ps) none
 
 -- X87 or Memory anywhere: an argument isn't split between registers and memory, so one such eightbyte takes the rest along. X87 counts as memory,
 -- for so an argument goes, and what comes back on the x87's stack was found by a rule before this one
@@ -60,8 +60,8 @@ and_then (some cs) f = f cs
 -- a class for each eightbyte of the shape, or none: over the limit, a piece that doesn't fit, X87 or Memory
 unfoldable pub classified : ℕ → Shape → List Piece → Option (List Class)
 classified limit shape ps =
-    cond (ltb (min limit most-limit) shape.size) none
-    (and_then (classesAfter (replicate (eightbytesIn shape.size) None) ps) settled)
+    cond (ltb (min limit most_limit) shape.size) none
+    (and_then (classes_after (replicate (eightbytes_in shape.size) None) ps) settled)
 
 -- ---- its slots
 
@@ -73,30 +73,30 @@ format_of up left = cond up quad (cond (leb left 4) single double)
 -- the slot of an eightbyte at an offset, with so many bytes left: what is not Sse is an integer, None too, for the Rust leaves no hole in the
 -- middle of an argument; the psABI names no register for it, and compilers spend none (DIFFERENCES, COMPILERS). An integer is only as wide as what
 -- is left, so that no byte past the object is read
-abbrev pub ownSlot : Class → Bool → ℕ → ℕ → Slot
-ownSlot c up at left = cond (same c Sse) (floatSlot (format_of up left) at) (integerSlot at (min left 8))
+abbrev pub own_slot : Class → Bool → ℕ → ℕ → Slot
+own_slot c up at left = cond (same c Sse) (float_slot (format_of up left) at) (integer_slot at (min left 8))
 
 -- SseUp is part of the slot below: one value, one register
-abbrev pub classSlot : Class → Bool → ℕ → ℕ → List Slot
-classSlot c up at left = cond (same c SseUp) [] (ownSlot c up at left ∷ [])
+abbrev pub class_slot : Class → Bool → ℕ → ℕ → List Slot
+class_slot c up at left = cond (same c SseUp) [] (own_slot c up at left ∷ [])
 
 -- whether the classes from the eightbyte above on begin with SseUp
-abbrev pub upFirst : List Class → Bool
-upFirst [] = false
-upFirst (c ∷ cs) = same c SseUp
+abbrev pub up_first : List Class → Bool
+up_first [] = false
+up_first (c ∷ cs) = same c SseUp
 
 -- the slots of the eightbytes from an offset on, with so many bytes left there
-unfoldable pub slotsFrom : ℕ → ℕ → List Class → List Slot
-slotsFrom at left [] = []
-slotsFrom at left (c ∷ cs) = classSlot c (upFirst cs) at left ++ slotsFrom (at + 8) (left - 8) cs
+unfoldable pub slots_from : ℕ → ℕ → List Class → List Slot
+slots_from at left [] = []
+slots_from at left (c ∷ cs) = class_slot c (up_first cs) at left ++ slots_from (at + 8) (left - 8) cs
 
-unfoldable pub slotsFound : ℕ → Option (List Class) → Search
-slotsFound size none = nothing
-slotsFound size (some cs) = found (slotsFrom 0 size cs)
+unfoldable pub slots_found : ℕ → Option (List Class) → Search
+slots_found size none = nothing
+slots_found size (some cs) = found (slots_from 0 size cs)
 
 -- the whole search
 unfoldable pub eightbytes : ℕ → Shape → List Piece → Search
-eightbytes limit shape ps = slotsFound shape.size (classified limit shape ps)
+eightbytes limit shape ps = slots_found shape.size (classified limit shape ps)
 
 -- ---- the classes that stand beside the answer
 
@@ -106,19 +106,19 @@ codes none = replicate 8 0
 codes (some cs) = map code cs ++ replicate (8 - length cs) 0
 
 -- the codes of a shape
-unfoldable pub classesOf : ℕ → Shape → List Piece → List ℕ
-classesOf limit shape ps = codes (classified limit shape ps)
+unfoldable pub classes_of : ℕ → Shape → List Piece → List ℕ
+classes_of limit shape ps = codes (classified limit shape ps)
 
 -- the slots that eight codes stand for in a shape of this size: those of the shape's eightbytes, as far as there are codes
-unfoldable pub codedSlots : ℕ → List ℕ → List Slot
-codedSlots size cs = slotsFrom 0 size (take (eightbytesIn size) (map classOf cs))
+unfoldable pub coded_slots : ℕ → List ℕ → List Slot
+coded_slots size cs = slots_from 0 size (take (eightbytes_in size) (map class_of cs))
 
 -- ---- for the code's own functions
 
 -- how many slots some classes have
-unfoldable pub slotCount : List Class → ℕ
-slotCount [] = 0
-slotCount (c ∷ cs) = oneIf (not (same c SseUp)) + slotCount cs
+unfoldable pub slot_count : List Class → ℕ
+slot_count [] = 0
+slot_count (c ∷ cs) = one_if (not (same c SseUp)) + slot_count cs
 
 -- each is the code of a class
 abbrev pub Coded : List ℕ → Type 0

@@ -1,7 +1,7 @@
 // One piece and one class at a time: whether a piece fits in a shape's eightbytes, the classes that it brings to them, and the rule after the
 // merge (docs/REFERENCE.md, 8).
 ghost use Rattle.std.specs.Prelude.{◌≡◌};
-ghost use Rattle.eightbytes.specs.Class.{code, classOf, kept, kindClass, later as later·, mended as mended·};
+ghost use Rattle.eightbytes.specs.Class.{code, class_of, kept, kind_class, later as later·, mended as mended·};
 ghost use Rattle.eightbytes.specs.Reach.{aligned as aligned·, fits as fits·};
 
 use shape::Piece;
@@ -41,7 +41,7 @@ fn aligned(p: Piece) -> bool
 
 // x87 values are told apart from other floats, since no argument register takes them.
 pub fn class_of(kind: u64) -> u8
-    ensures { result ≡ code (kindClass kind) }
+    ensures { result ≡ code (kind_class kind) }
 {
     if kind == shape::INTEGER {
         return INTEGER;
@@ -54,7 +54,7 @@ pub fn class_of(kind: u64) -> u8
 
 // The class of a piece's next eightbyte: a float wider than one is one value in one register, where an integer of 16 has two.
 pub fn later(class: u8) -> u8
-    ensures { result ≡ kept class (later· (classOf class)) }
+    ensures { result ≡ kept class (later· (class_of class)) }
 {
     if class == SSE {
         return SSE_UP;
@@ -65,7 +65,7 @@ pub fn later(class: u8) -> u8
 // The rule after the merge: the upper half of a value whose lower half is something else stands on its own, as in a union of a Quad and an
 // integer of 8.
 pub fn mended(below: u8, class: u8) -> u8
-    ensures { result ≡ kept class (mended· (classOf below) (classOf class)) }
+    ensures { result ≡ kept class (mended· (class_of below) (class_of class)) }
 {
     if (class == SSE_UP) & !((below == SSE) | (below == SSE_UP)) {
         return SSE;

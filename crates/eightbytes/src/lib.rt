@@ -1,14 +1,16 @@
 // The eightbytes of a shape, as the System V convention classifies them: each piece gives its class to the eightbytes that it reaches into,
 // and the classes decide the slots, which the crate slot_writing writes. What concerns one piece or one class stands in `classes`. The rules
 // are those of docs/REFERENCE.md, 8.
+#![tactic(auto)]
+
 mod classes;
 
 ghost use Rattle.std.specs.Prelude.{◌≡◌, map, ℕ, ◌-◌, ◌<◌, ◌≤◌, take, drop, replicate};
 ghost use Rattle.std.proofs.Math.Option.Option.{none};
 ghost use Rattle.shape.specs.Words.{pieces_of};
-ghost use Rattle.slots.specs.Search.{foundOf};
-ghost use Rattle.eightbytes.specs.Class.{code, classOf, merge as merge·};
-ghost use Rattle.eightbytes.specs.Eightbytes.{eightbytesIn, mark as mark·, settled, slotsFound, codes, classesOf, Coded};
+ghost use Rattle.slots.specs.Search.{found_of};
+ghost use Rattle.eightbytes.specs.Class.{code, class_of, merge as merge·};
+ghost use Rattle.eightbytes.specs.Eightbytes.{eightbytes_in, mark as mark·, settled, slots_found, codes, classes_of, Coded};
 ghost use Rattle.eightbytes.specs.Reach.{last_of};
 ghost use Rattle.eightbytes.specs.Eightbytes.{eightbytes as eightbytes·};
 
@@ -33,7 +35,7 @@ pub struct Classified {
 
 // The slots of a shape of at most so many bytes, by the classes of its eightbytes.
 pub fn eightbytes(shape: Shape, words: &[u64], limit: u64) -> Classified
-    ensures { (result.found ≡ foundOf (eightbytes· limit shape (pieces_of words.now))) × (result.classes ≡ classesOf limit shape (pieces_of words.now)) }
+    ensures { (result.found ≡ found_of (eightbytes· limit shape (pieces_of words.now))) × (result.classes ≡ classes_of limit shape (pieces_of words.now)) }
 {
     let size = shape.size;
     if size > shape::least(limit, MOST_LIMIT) {
@@ -66,7 +68,7 @@ fn nothing() -> Classified
 // Merges a piece's class into each eightbyte that it reaches into.
 fn mark(classes: [u8; 8], p: Piece) -> [u8; 8]
     requires { (Coded classes) × (last_of p < 8) }
-    ensures { result ≡ map code (mark· (map classOf classes) p) }
+    ensures { result ≡ map code (mark· (map class_of classes) p) }
 {
     let last = ((p.end() - 1) / EIGHTBYTE) as usize;
     let mut at = (p.offset / EIGHTBYTE) as usize;
@@ -87,7 +89,7 @@ fn mark(classes: [u8; 8], p: Piece) -> [u8; 8]
 // What two classes make. Where nothing stands yet, or the same, the one that comes goes in as it is.
 fn joined(a: u8, b: u8) -> u8
     requires { (a < 6) × (b < 6) }
-    ensures { result ≡ code (merge· (classOf a) (classOf b)) }
+    ensures { result ≡ code (merge· (class_of a) (class_of b)) }
 {
     if a == NONE {
         return b;
@@ -103,7 +105,7 @@ fn joined(a: u8, b: u8) -> u8
 // own and MEMORY. Comparisons take no constant data, as a table would in every archive that classifies.
 fn merge(a: u8, b: u8) -> u8
     requires { (a < 6) × (b < 6) }
-    ensures { result ≡ code (merge· (classOf a) (classOf b)) }
+    ensures { result ≡ code (merge· (class_of a) (class_of b)) }
 {
     if a == b {
         return b;
@@ -125,8 +127,8 @@ fn merge(a: u8, b: u8) -> u8
 
 // The rule after the merge, and the counts. At most two eightbytes whose classes come before SSE_UP stay as they are, a slot for each.
 fn settle(classes: [u8; 8], size: u64, n: usize) -> Classified
-    requires { (Coded classes) × (n ≤ 8) × (drop n classes ≡ replicate (8 - n) 0) × (n ≡ eightbytesIn size) }
-    ensures { (result.found ≡ foundOf (slotsFound size (settled (take n (map classOf classes))))) × (result.classes ≡ codes (settled (take n (map classOf classes)))) }
+    requires { (Coded classes) × (n ≤ 8) × (drop n classes ≡ replicate (8 - n) 0) × (n ≡ eightbytes_in size) }
+    ensures { (result.found ≡ found_of (slots_found size (settled (take n (map class_of classes))))) × (result.classes ≡ codes (settled (take n (map class_of classes)))) }
 {
     if size > PAIR {
         return settle_all(classes, n);
@@ -150,7 +152,7 @@ fn settle(classes: [u8; 8], size: u64, n: usize) -> Classified
 // In one pass from the first eightbyte up. How many slots there are doesn't depend on the size.
 fn settle_all(classes: [u8; 8], n: usize) -> Classified
     requires { (Coded classes) × (n ≤ 8) × (drop n classes ≡ replicate (8 - n) 0) }
-    ensures { ((size : ℕ) → result.found ≡ foundOf (slotsFound size (settled (take n (map classOf classes))))) × (result.classes ≡ codes (settled (take n (map classOf classes)))) }
+    ensures { ((size : ℕ) → result.found ≡ found_of (slots_found size (settled (take n (map class_of classes))))) × (result.classes ≡ codes (settled (take n (map class_of classes)))) }
 {
     // said once more: the compiler doesn't know the promise, and makes less of a loop with a bound
     let most = shape::least(n as u64, 8) as usize;

@@ -1,9 +1,11 @@
 // The exported entries that start a call, mark it, and ask for its fixed arguments, in numbers and slices (REFERENCE 13.2). The call comes as
 // its description, the counts left, the mark and the stack offset, and goes back in the answer. Returns, arguments after the dots and questions are entries of
 // crates of their own: what the entries of one archive share isn't inlined into any of them (docs/DECISIONS.md).
+#![tactic(auto)]
+
 ghost use Rattle.std.specs.Prelude.{◌≡◌, []};
-ghost use Rattle.export_numbers.specs.Numbers.{callFrom, voidArg, scalarFrom, aggregateFrom};
-ghost use Rattle.classify.specs.Answers.{freshAnswer, variadicAnswer, Passes};
+ghost use Rattle.export_numbers.specs.Numbers.{call_from, void_arg, scalar_from, aggregate_from};
+ghost use Rattle.classify.specs.Answers.{fresh_answer, variadic_answer, Passes};
 
 use classify::{Answer, Call};
 use shape::Scalar;
@@ -11,7 +13,7 @@ use shape::Scalar;
 // The start of a call on a description.
 #[unsafe(no_mangle)]
 pub extern "C" fn barkpaddle_fresh(abi: u64) -> Answer
-    ensures { result ≡ freshAnswer abi }
+    ensures { result ≡ fresh_answer abi }
 {
     Call::fresh(abi)
 }
@@ -25,7 +27,7 @@ pub extern "C" fn barkpaddle_variadic(
     integers_only: u64,
     stack: u64,
 ) -> Answer
-    ensures { result ≡ variadicAnswer (callFrom abi integer float integers_only stack) }
+    ensures { result ≡ variadic_answer (call_from abi integer float integers_only stack) }
 {
     let call = export_numbers::call_from(abi, integer, float, integers_only, stack);
     call.variadic()
@@ -41,7 +43,7 @@ pub extern "C" fn barkpaddle_argument_void(
     stack: u64,
     slots: &mut [u64],
 ) -> Answer
-    ensures { Passes (callFrom abi integer float integers_only stack) voidArg [] slots.old result slots.new }
+    ensures { Passes (call_from abi integer float integers_only stack) void_arg [] slots.old result slots.new }
 {
     let call = export_numbers::call_from(abi, integer, float, integers_only, stack);
     call.nothing()
@@ -60,7 +62,7 @@ pub extern "C" fn barkpaddle_argument_scalar(
     align: u64,
     slots: &mut [u64],
 ) -> Answer
-    ensures { Passes (callFrom abi integer float integers_only stack) (scalarFrom kind size align) [] slots.old result slots.new }
+    ensures { Passes (call_from abi integer float integers_only stack) (scalar_from kind size align) [] slots.old result slots.new }
 {
     let call = export_numbers::call_from(abi, integer, float, integers_only, stack);
     call.argument_scalar(Scalar { kind, size, align }, slots)
@@ -81,7 +83,7 @@ pub extern "C" fn barkpaddle_argument_aggregate(
     words: &[u64],
     slots: &mut [u64],
 ) -> Answer
-    ensures { Passes (callFrom abi integer float integers_only stack) (aggregateFrom size align complex floating) words.now slots.old result slots.new }
+    ensures { Passes (call_from abi integer float integers_only stack) (aggregate_from size align complex floating) words.now slots.old result slots.new }
 {
     let call = export_numbers::call_from(abi, integer, float, integers_only, stack);
     let shape = export_numbers::shape_from(size, align, complex, floating);

@@ -4,8 +4,8 @@ use contract.Lifetimes.{Lfts}
 use Rattle.shape.proofs.OneAnswer.{OneAnswer, OneExit}
 use Rattle.export_flatten.proofs.barkpaddle_flatten.Reads as entry
 
-flatten-decides : (κs : Lfts 3) → OneAnswer (entry.Post κs)
-flatten-decides κs a r q s t p p' = p.0 ∙ sym p'.0
+flatten_decides : (κs : Lfts 3) → OneAnswer (entry.Post κs)
+flatten_decides κs a r q s t p p' = p.0 ∙ sym p'.0
 
-flatten-words : (κs : Lfts 3) → OneExit (entry.Post κs) (λ s. s.1.1.0.now)
-flatten-words κs a r q s t p p' = p.1 ∙ sym p'.1
+flatten_words : (κs : Lfts 3) → OneExit (entry.Post κs) (λ s. s.1.1.0.now)
+flatten_words κs a r q s t p p' = p.1 ∙ sym p'.1

@@ -1,6 +1,8 @@
 // The exported entry that flattens a type (REFERENCE 13.3): its lists and the buffer for its pieces come as slices.
+#![tactic(auto)]
+
 ghost use Rattle.std.specs.Prelude.{◌≡◌};
-ghost use Rattle.flatten.specs.Flattened.{flattenAnswer, flattenWritten};
+ghost use Rattle.flatten.specs.Flattened.{flatten_answer, flatten_written};
 
 use flatten::Flattened;
 
@@ -11,7 +13,7 @@ pub extern "C" fn barkpaddle_flatten(
     members: &[u64],
     pieces: &mut [u64],
 ) -> Flattened
-    ensures { (result ≡ flattenAnswer types.now members.now pieces.old) × (pieces.new ≡ flattenWritten types.now members.now pieces.old) }
+    ensures { (result ≡ flatten_answer types.now members.now pieces.old) × (pieces.new ≡ flatten_written types.now members.now pieces.old) }
 {
     flatten::flatten(types, members, pieces)
 }

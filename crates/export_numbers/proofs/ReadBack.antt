@@ -2,18 +2,18 @@
 use mathlib.Core.Path.{◌≡◌, refl}
 use mathlib.Core.Bool.{Bool, true, false}
 use Rattle.shape.specs.declared.Shape.{Shape}
-use Rattle.shape.specs.Numbers.{oneIf}
+use Rattle.shape.specs.Numbers.{one_if}
 use Rattle.classify.specs.declared.Call.{Call}
-use Rattle.export_numbers.specs.Numbers.{is_set, callFrom, shapeFrom}
+use Rattle.export_numbers.specs.Numbers.{is_set, call_from, shape_from}
 
 -- every number of a call, its mark too, whatever that is
-pub call-read-back : (c : Call) → callFrom c.abi c.left.integer c.left.float c.left.integers_only c.stack ≡ c
-call-read-back c = refl
+pub call_read_back : (c : Call) → call_from c.abi c.left.integer c.left.float c.left.integers_only c.stack ≡ c
+call_read_back c = refl
 
 -- a yes that an entry answers is read as a yes, and a no as a no
-yes-read-back : (b : Bool) → is_set (oneIf b) ≡ b
-yes-read-back true = refl
-yes-read-back false = refl
+yes_read_back : (b : Bool) → is_set (one_if b) ≡ b
+yes_read_back true = refl
+yes_read_back false = refl
 
-pub shape-read-back : (s : Shape) → shapeFrom s.size s.align (oneIf s.complex) (oneIf s.floating) ≡ s
-shape-read-back s = rw (yes-read-back s.complex, yes-read-back s.floating) refl
+pub shape_read_back : (s : Shape) → shape_from s.size s.align (one_if s.complex) (one_if s.floating) ≡ s
+shape_read_back s = rw (yes_read_back s.complex, yes_read_back s.floating) refl

@@ -4,7 +4,7 @@ use Rattle.shape.specs.declared.Arg as args
 use Rattle.shape.specs.declared.Shape.{Shape}
 use Rattle.classify.specs.declared.Call.{Call}
 use Rattle.classify.specs.Classify.{leaves}
-use Rattle.classify.specs.Answers.{callWith}
+use Rattle.classify.specs.Answers.{call_with}
 use Rattle.export_numbers.specs.declared.Told.{Told}
 
 -- ---- in
@@ -13,21 +13,21 @@ use Rattle.export_numbers.specs.declared.Told.{Told}
 abbrev pub is_set : ℕ → Bool
 is_set n = not (eqb n 0)
 
-abbrev pub callFrom : ℕ → ℕ → ℕ → ℕ → ℕ → Call
-callFrom abi integer float mark stack = callWith abi (leaves integer float mark) stack
+abbrev pub call_from : ℕ → ℕ → ℕ → ℕ → ℕ → Call
+call_from abi integer float mark stack = call_with abi (leaves integer float mark) stack
 
-abbrev pub shapeFrom : ℕ → ℕ → ℕ → ℕ → Shape
-shapeFrom size align complex floating =
+abbrev pub shape_from : ℕ → ℕ → ℕ → ℕ → Shape
+shape_from size align complex floating =
     record { size = size; align = align; complex = is_set complex; floating = is_set floating }
 
-abbrev pub voidArg : args.Arg
-voidArg = args.TheVariants.Void
+abbrev pub void_arg : args.Arg
+void_arg = args.TheVariants.Void
 
-abbrev pub scalarFrom : ℕ → ℕ → ℕ → args.Arg
-scalarFrom kind size align = args.TheVariants.Scalar (record { kind = kind; size = size; align = align })
+abbrev pub scalar_from : ℕ → ℕ → ℕ → args.Arg
+scalar_from kind size align = args.TheVariants.Scalar (record { kind = kind; size = size; align = align })
 
-abbrev pub aggregateFrom : ℕ → ℕ → ℕ → ℕ → args.Arg
-aggregateFrom size align complex floating = args.TheVariants.Aggregate (shapeFrom size align complex floating)
+abbrev pub aggregate_from : ℕ → ℕ → ℕ → ℕ → args.Arg
+aggregate_from size align complex floating = args.TheVariants.Aggregate (shape_from size align complex floating)
 
 -- ---- out
 

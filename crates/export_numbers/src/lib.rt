@@ -1,7 +1,9 @@
 // Calls and shapes from the numbers that the exported entries take (REFERENCE 13.1). What they answer is what the methods of a call answer. The
 // entries stand in crates of their own, and nothing is exported from here.
+#![tactic(auto)]
+
 ghost use Rattle.std.specs.Prelude.{◌≡◌};
-ghost use Rattle.export_numbers.specs.Numbers.{callFrom, shapeFrom};
+ghost use Rattle.export_numbers.specs.Numbers.{call_from, shape_from};
 
 use classify::Call;
 use shape::Shape;
@@ -17,7 +19,7 @@ pub struct Told {
 
 // A call from its description, the counts left, the mark and the stack offset.
 pub fn call_from(abi: u64, integer: u64, float: u64, integers_only: u64, stack: u64) -> Call
-    ensures { result ≡ callFrom abi integer float integers_only stack }
+    ensures { result ≡ call_from abi integer float integers_only stack }
 {
     Call {
         abi,
@@ -32,7 +34,7 @@ pub fn call_from(abi: u64, integer: u64, float: u64, integers_only: u64, stack: 
 
 // A shape from its numbers.
 pub fn shape_from(size: u64, align: u64, complex: u64, floating: u64) -> Shape
-    ensures { result ≡ shapeFrom size align complex floating }
+    ensures { result ≡ shape_from size align complex floating }
 {
     Shape {
         size,

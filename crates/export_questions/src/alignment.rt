@@ -1,8 +1,8 @@
 // What a value that stands in the argument area is aligned to there, in numbers.
 ghost use Rattle.std.specs.Prelude.{◌≡◌};
-ghost use Rattle.classify.specs.Answers.{inMemoryAnswer};
-ghost use Rattle.export_numbers.specs.Numbers.{callFrom, shapeFrom};
-ghost use Rattle.export_questions.specs.Answers.{alignTold};
+ghost use Rattle.classify.specs.Answers.{in_memory_answer};
+ghost use Rattle.export_numbers.specs.Numbers.{call_from, shape_from};
+ghost use Rattle.export_questions.specs.Answers.{align_told};
 
 use export_numbers::Told;
 
@@ -20,7 +20,7 @@ pub extern "C" fn barkpaddle_in_memory(
     floating: u64,
     words: &[u64],
 ) -> Told
-    ensures { result ≡ alignTold (inMemoryAnswer (callFrom abi integer float integers_only stack) (shapeFrom size align complex floating) words.now) }
+    ensures { result ≡ align_told (in_memory_answer (call_from abi integer float integers_only stack) (shape_from size align complex floating) words.now) }
 {
     let call = export_numbers::call_from(abi, integer, float, integers_only, stack);
     let answer = call.in_memory(

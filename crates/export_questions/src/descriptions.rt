@@ -1,9 +1,9 @@
 // What a description says, in numbers: its fields and rules, its name, and the questions that its scalar rules answer.
 ghost use Rattle.std.specs.Prelude.{◌≡◌, ◌≤◌, length};
 ghost use Rattle.abis.specs.Abis.{described};
-ghost use Rattle.abis.specs.Answers.{isByReferenceAnswer, returnsByReferenceAnswer, wideReturnsInAnswer, nameAnswer, nameWritten};
-ghost use Rattle.export_questions.specs.Answers.{yesTold, formatTold, lengthTold};
-ghost use Rattle.export_questions.specs.Descriptions.{descriptionAnswer, returnRuleAnswer, argumentRuleAnswer, fields_of, noDescription, ruleNumbersAt, ruleNumbers};
+ghost use Rattle.abis.specs.Answers.{is_by_reference_answer, returns_by_reference_answer, wide_returns_in_answer, name_answer, name_written};
+ghost use Rattle.export_questions.specs.Answers.{yes_told, format_told, length_told};
+ghost use Rattle.export_questions.specs.Descriptions.{description_answer, return_rule_answer, argument_rule_answer, fields_of, no_description, rule_numbers_at, rule_numbers};
 
 use export_numbers::Told;
 use rows::WIDTH;
@@ -51,7 +51,7 @@ pub struct RuleNumbers {
 // The fields of a description.
 #[unsafe(no_mangle)]
 pub extern "C" fn barkpaddle_description(abi: u64) -> Description
-    ensures { result ≡ descriptionAnswer abi }
+    ensures { result ≡ description_answer abi }
 {
     if abi >= abis::DESCRIPTIONS {
         return no_description();
@@ -62,7 +62,7 @@ pub extern "C" fn barkpaddle_description(abi: u64) -> Description
 // Rule `index` of a description's list for returns.
 #[unsafe(no_mangle)]
 pub extern "C" fn barkpaddle_return_rule(abi: u64, index: u64) -> RuleNumbers
-    ensures { result ≡ returnRuleAnswer abi index }
+    ensures { result ≡ return_rule_answer abi index }
 {
     if abi >= abis::DESCRIPTIONS {
         return rule_numbers(shape::BAD_ABI, 0, 0, 0);
@@ -73,7 +73,7 @@ pub extern "C" fn barkpaddle_return_rule(abi: u64, index: u64) -> RuleNumbers
 // Rule `index` of a description's list for arguments.
 #[unsafe(no_mangle)]
 pub extern "C" fn barkpaddle_argument_rule(abi: u64, index: u64) -> RuleNumbers
-    ensures { result ≡ argumentRuleAnswer abi index }
+    ensures { result ≡ argument_rule_answer abi index }
 {
     if abi >= abis::DESCRIPTIONS {
         return rule_numbers(shape::BAD_ABI, 0, 0, 0);
@@ -84,7 +84,7 @@ pub extern "C" fn barkpaddle_argument_rule(abi: u64, index: u64) -> RuleNumbers
 // A description's name, at the front of the buffer; how many bytes.
 #[unsafe(no_mangle)]
 pub extern "C" fn barkpaddle_name(abi: u64, name: &mut [u8]) -> Told
-    ensures { (result ≡ lengthTold (nameAnswer abi (length name.old))) × (name.new ≡ nameWritten abi name.old) }
+    ensures { (result ≡ length_told (name_answer abi (length name.old))) × (name.new ≡ name_written abi name.old) }
 {
     let written = abis::name(abi, name);
     Told {
@@ -96,7 +96,7 @@ pub extern "C" fn barkpaddle_name(abi: u64, name: &mut [u8]) -> Told
 // Whether a scalar of this size travels as the address of a copy.
 #[unsafe(no_mangle)]
 pub extern "C" fn barkpaddle_scalar_is_by_reference(abi: u64, size: u64) -> Told
-    ensures { result ≡ yesTold (isByReferenceAnswer abi size) }
+    ensures { result ≡ yes_told (is_by_reference_answer abi size) }
 {
     yes_or_no(abis::scalar_is_by_reference(abi, size))
 }
@@ -104,7 +104,7 @@ pub extern "C" fn barkpaddle_scalar_is_by_reference(abi: u64, size: u64) -> Told
 // Whether a scalar of this size comes back through the address that the caller passes.
 #[unsafe(no_mangle)]
 pub extern "C" fn barkpaddle_scalar_returns_by_reference(abi: u64, size: u64) -> Told
-    ensures { result ≡ yesTold (returnsByReferenceAnswer abi size) }
+    ensures { result ≡ yes_told (returns_by_reference_answer abi size) }
 {
     yes_or_no(abis::scalar_returns_by_reference(abi, size))
 }
@@ -112,7 +112,7 @@ pub extern "C" fn barkpaddle_scalar_returns_by_reference(abi: u64, size: u64) ->
 // The format in which an integer of this size comes back where it is by reference otherwise, or 0 for none.
 #[unsafe(no_mangle)]
 pub extern "C" fn barkpaddle_wide_integer_returns_in(abi: u64, size: u64) -> Told
-    ensures { result ≡ formatTold (wideReturnsInAnswer abi size) }
+    ensures { result ≡ format_told (wide_returns_in_answer abi size) }
 {
     let asked = abis::wide_integer_returns_in(abi, size);
     Told {
@@ -122,7 +122,7 @@ pub extern "C" fn barkpaddle_wide_integer_returns_in(abi: u64, size: u64) -> Tol
 }
 
 fn yes_or_no(asked: abis::Asked) -> Told
-    ensures { result ≡ yesTold asked }
+    ensures { result ≡ yes_told asked }
 {
     Told {
         refusal: asked.refusal,
@@ -171,7 +171,7 @@ fn fields_of(abi: u64) -> Description
 }
 
 fn no_description() -> Description
-    ensures { result ≡ noDescription }
+    ensures { result ≡ no_description }
 {
     Description {
         refusal: shape::BAD_ABI,
@@ -202,7 +202,7 @@ fn no_description() -> Description
 // Rule `index` of the list whose first byte stands at `first`.
 fn rule_at(row: [u8; WIDTH], first: usize, index: u64) -> RuleNumbers
     requires { first ≤ 20 }
-    ensures { result ≡ ruleNumbersAt row first index }
+    ensures { result ≡ rule_numbers_at row first index }
 {
     if index >= rows::RULES {
         return rule_numbers(shape::ACCEPTED, 0, 0, 0);
@@ -213,7 +213,7 @@ fn rule_at(row: [u8; WIDTH], first: usize, index: u64) -> RuleNumbers
 
 // A rule from its three bytes: the way of travel and what happens when short share the third.
 fn rule_numbers(refusal: u64, test: u8, number: u8, way: u8) -> RuleNumbers
-    ensures { result ≡ ruleNumbers refusal test number way }
+    ensures { result ≡ rule_numbers refusal test number way }
 {
     RuleNumbers {
         refusal,

@@ -1,17 +1,17 @@
 // Which description a target and a convention follow, in numbers: the codes of REFERENCE 6, and `targets::NONE` for none.
 ghost use Rattle.std.specs.Prelude.{◌≡◌, length};
-ghost use Rattle.shape.specs.Numbers.{oneIf};
-ghost use Rattle.targets.specs.Answers.{targetAnswer, conventionAnswer, popsAnswer};
-ghost use Rattle.attributes.specs.Answers.{askedAnswer, attributeAnswer, attributeWritten};
+ghost use Rattle.shape.specs.Numbers.{one_if};
+ghost use Rattle.targets.specs.Answers.{target_answer, convention_answer, pops_answer};
+ghost use Rattle.attributes.specs.Answers.{asked_answer, attribute_answer, attribute_written};
 ghost use Rattle.export_numbers.specs.Numbers.{is_set};
-ghost use Rattle.export_questions.specs.Answers.{lengthTold};
+ghost use Rattle.export_questions.specs.Answers.{length_told};
 
 use export_numbers::Told;
 
 // The description that a target follows, or none.
 #[unsafe(no_mangle)]
 pub extern "C" fn barkpaddle_for_target(architecture: u64, system: u64, msvc: u64) -> u64
-    ensures { result ≡ targetAnswer architecture system (is_set msvc) }
+    ensures { result ≡ target_answer architecture system (is_set msvc) }
 {
     targets::for_target(architecture, system, msvc != 0)
 }
@@ -24,7 +24,7 @@ pub extern "C" fn barkpaddle_for_convention(
     msvc: u64,
     convention: u64,
 ) -> u64
-    ensures { result ≡ conventionAnswer architecture system (is_set msvc) convention }
+    ensures { result ≡ convention_answer architecture system (is_set msvc) convention }
 {
     targets::for_convention(architecture, system, msvc != 0, convention)
 }
@@ -32,7 +32,7 @@ pub extern "C" fn barkpaddle_for_convention(
 // The convention that an attribute's name asks for on a target, or none.
 #[unsafe(no_mangle)]
 pub extern "C" fn barkpaddle_asked(architecture: u64, system: u64, msvc: u64, name: &[u8]) -> u64
-    ensures { result ≡ askedAnswer architecture system (is_set msvc) name.now }
+    ensures { result ≡ asked_answer architecture system (is_set msvc) name.now }
 {
     attributes::asked(architecture, system, msvc != 0, name)
 }
@@ -40,7 +40,7 @@ pub extern "C" fn barkpaddle_asked(architecture: u64, system: u64, msvc: u64, na
 // The name of the attribute that asks for a convention, at the front of the buffer; how many bytes, or none.
 #[unsafe(no_mangle)]
 pub extern "C" fn barkpaddle_attribute(convention: u64, name: &mut [u8]) -> Told
-    ensures { (result ≡ lengthTold (attributeAnswer convention (length name.old))) × (name.new ≡ attributeWritten convention name.old) }
+    ensures { (result ≡ length_told (attribute_answer convention (length name.old))) × (name.new ≡ attribute_written convention name.old) }
 {
     let written = attributes::attribute(convention, name);
     Told {
@@ -52,7 +52,7 @@ pub extern "C" fn barkpaddle_attribute(convention: u64, name: &mut [u8]) -> Told
 // Whether the callee of a convention takes its arguments off the stack.
 #[unsafe(no_mangle)]
 pub extern "C" fn barkpaddle_callee_pops(convention: u64) -> u64
-    ensures { result ≡ oneIf (popsAnswer convention) }
+    ensures { result ≡ one_if (pops_answer convention) }
 {
     shape::one_if(targets::callee_pops(convention))
 }

@@ -1,8 +1,8 @@
 // Pieces and records from their members, in numbers.
 ghost use Rattle.std.specs.Prelude.{◌≡◌};
-ghost use Rattle.layouts.specs.Members.{piecesAnswer, piecesWritten};
-ghost use Rattle.layouts.specs.Record.{recordAnswer};
-ghost use Rattle.export_questions.specs.Answers.{countTold, recordNumbers};
+ghost use Rattle.layouts.specs.Members.{pieces_answer, pieces_written};
+ghost use Rattle.layouts.specs.Record.{record_answer};
+ghost use Rattle.export_questions.specs.Answers.{count_told, record_numbers};
 
 use export_numbers::Told;
 
@@ -20,7 +20,7 @@ pub struct RecordNumbers {
 // Each member, three words of a scalar, at the next offset that it fits, as pieces at the front of the buffer; how many.
 #[unsafe(no_mangle)]
 pub extern "C" fn barkpaddle_pieces(members: &[u64], pieces: &mut [u64]) -> Told
-    ensures { (result ≡ countTold (piecesAnswer members.now pieces.old)) × (pieces.new ≡ piecesWritten members.now pieces.old) }
+    ensures { (result ≡ count_told (pieces_answer members.now pieces.old)) × (pieces.new ≡ pieces_written members.now pieces.old) }
 {
     let answer = layouts::pieces(members, pieces);
     Told {
@@ -32,7 +32,7 @@ pub extern "C" fn barkpaddle_pieces(members: &[u64], pieces: &mut [u64]) -> Told
 // The record that these pieces make.
 #[unsafe(no_mangle)]
 pub extern "C" fn barkpaddle_record(words: &[u64]) -> RecordNumbers
-    ensures { result ≡ recordNumbers (recordAnswer words.now) }
+    ensures { result ≡ record_numbers (record_answer words.now) }
 {
     let answer = layouts::record(words);
     let shape = answer.shape;

@@ -1,7 +1,9 @@
 // The exported entries that say how the return value of a call comes back, in numbers and slices (REFERENCE 13.2). The call comes as its
 // description, the counts left, the mark and the stack offset, and goes back in the answer.
+#![tactic(auto)]
+
 ghost use Rattle.std.specs.Prelude.{[]};
-ghost use Rattle.export_numbers.specs.Numbers.{callFrom, voidArg, scalarFrom, aggregateFrom};
+ghost use Rattle.export_numbers.specs.Numbers.{call_from, void_arg, scalar_from, aggregate_from};
 ghost use Rattle.classify.specs.Answers.{Returns};
 
 use classify::Answer;
@@ -17,7 +19,7 @@ pub extern "C" fn barkpaddle_return_void(
     stack: u64,
     slots: &mut [u64],
 ) -> Answer
-    ensures { Returns (callFrom abi integer float integers_only stack) voidArg [] slots.old result slots.new }
+    ensures { Returns (call_from abi integer float integers_only stack) void_arg [] slots.old result slots.new }
 {
     let call = export_numbers::call_from(abi, integer, float, integers_only, stack);
     call.nothing()
@@ -36,7 +38,7 @@ pub extern "C" fn barkpaddle_return_scalar(
     align: u64,
     slots: &mut [u64],
 ) -> Answer
-    ensures { Returns (callFrom abi integer float integers_only stack) (scalarFrom kind size align) [] slots.old result slots.new }
+    ensures { Returns (call_from abi integer float integers_only stack) (scalar_from kind size align) [] slots.old result slots.new }
 {
     let call = export_numbers::call_from(abi, integer, float, integers_only, stack);
     call.returns_scalar(Scalar { kind, size, align }, slots)
@@ -57,7 +59,7 @@ pub extern "C" fn barkpaddle_return_aggregate(
     words: &[u64],
     slots: &mut [u64],
 ) -> Answer
-    ensures { Returns (callFrom abi integer float integers_only stack) (aggregateFrom size align complex floating) words.now slots.old result slots.new }
+    ensures { Returns (call_from abi integer float integers_only stack) (aggregate_from size align complex floating) words.now slots.old result slots.new }
 {
     let call = export_numbers::call_from(abi, integer, float, integers_only, stack);
     let shape = export_numbers::shape_from(size, align, complex, floating);

@@ -5,14 +5,14 @@ use Prim.Native.Nat.{ℕ}
 use Rattle.varargs.specs.declared.Area.{Area}
 use Rattle.varargs.specs.declared.Area.TheVariants.{Nowhere, Save, Overflow}
 use Rattle.varargs.specs.declared.Located.{Located}
-use Rattle.varargs.specs.Lists.{areaNumber, bytes_of, part_of, shownAt}
-use Rattle.export_varargs.specs.Numbers.{areaFrom, partNumbers, shownBy}
+use Rattle.varargs.specs.Lists.{area_number, bytes_of, part_of, shown_at}
+use Rattle.export_varargs.specs.Numbers.{area_from, part_numbers, shown_by}
 
-pub area-back : (area : Area) (save overflow : List ℕ) → areaFrom (areaNumber area) save overflow ≡ bytes_of area save overflow
-area-back Nowhere save overflow = refl
-area-back Save save overflow = refl
-area-back Overflow save overflow = refl
+pub area_back : (area : Area) (save overflow : List ℕ) → area_from (area_number area) save overflow ≡ bytes_of area save overflow
+area_back Nowhere save overflow = refl
+area_back Save save overflow = refl
+area_back Overflow save overflow = refl
 
-pub shown-back : (save overflow : List ℕ) (l : Located) → shownBy save overflow (partNumbers l) ≡ shownAt save overflow l
+pub shown_back : (save overflow : List ℕ) (l : Located) → shown_by save overflow (part_numbers l) ≡ shown_at save overflow l
 unfolding part_of
-shown-back save overflow l = rw (area-back l.area save overflow)
+shown_back save overflow l = rw (area_back l.area save overflow)

@@ -4,17 +4,17 @@ use Rattle.std.specs.Prelude.{ℕ, cond, List, [], eqb, take, drop}
 use Rattle.varargs.specs.declared.Offsets.{Offsets}
 use Rattle.varargs.specs.declared.Area.TheVariants.{Save, Overflow}
 use Rattle.varargs.specs.declared.Located.{Located}
-use Rattle.varargs.specs.Lists.{areaNumber, Shown}
+use Rattle.varargs.specs.Lists.{area_number, Shown}
 use Rattle.export_varargs.specs.declared.Part.{Part}
 
-abbrev pub offsetsFrom : ℕ → ℕ → ℕ → Offsets
-offsetsFrom gp fp overflow = record { integer = gp; float = fp; overflow = overflow }
+abbrev pub offsets_from : ℕ → ℕ → ℕ → Offsets
+offsets_from gp fp overflow = record { integer = gp; float = fp; overflow = overflow }
 
-abbrev pub partNumbers : Located → Part
-partNumbers l =
+abbrev pub part_numbers : Located → Part
+part_numbers l =
     record {
       refusal = l.refusal;
-      area = areaNumber l.area;
+      area = area_number l.area;
       start = l.start;
       length = l.length;
       gp_offset = l.next.integer;
@@ -24,13 +24,13 @@ partNumbers l =
 
 -- ---- read by the numbers
 
-abbrev pub areaFrom : ℕ → List ℕ → List ℕ → List ℕ
-areaFrom area save overflow = cond (eqb area (areaNumber Save)) save (cond (eqb area (areaNumber Overflow)) overflow [])
+abbrev pub area_from : ℕ → List ℕ → List ℕ → List ℕ
+area_from area save overflow = cond (eqb area (area_number Save)) save (cond (eqb area (area_number Overflow)) overflow [])
 
-abbrev pub offsetsIn : Part → Offsets
-offsetsIn r = offsetsFrom r.gp_offset r.fp_offset r.overflow_offset
+abbrev pub offsets_in : Part → Offsets
+offsets_in r = offsets_from r.gp_offset r.fp_offset r.overflow_offset
 
 -- `length` bytes of the area, from `start` on
-abbrev pub shownBy : List ℕ → List ℕ → Part → Shown
-shownBy save overflow r =
-    record { refusal = r.refusal; bytes = take r.length (drop r.start (areaFrom r.area save overflow)); next = offsetsIn r }
+abbrev pub shown_by : List ℕ → List ℕ → Part → Shown
+shown_by save overflow r =
+    record { refusal = r.refusal; bytes = take r.length (drop r.start (area_from r.area save overflow)); next = offsets_in r }

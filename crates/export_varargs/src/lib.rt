@@ -1,9 +1,11 @@
 // The exported entry that reads a variable argument list, in numbers and slices (REFERENCE 15.3): where the next scalar stands, and the offsets
 // after it. An entry can't hand out a part of what it is lent, so the answer says which bytes of which area it is.
+#![tactic(auto)]
+
 ghost use Rattle.std.specs.Prelude.{◌≡◌, length};
 ghost use Rattle.shape.specs.Words.{scalar};
 ghost use Rattle.varargs.specs.Lists.{located};
-ghost use Rattle.export_varargs.specs.Numbers.{offsetsFrom, partNumbers};
+ghost use Rattle.export_varargs.specs.Numbers.{offsets_from, part_numbers};
 
 use shape::Scalar;
 use varargs::Offsets;
@@ -33,7 +35,7 @@ pub extern "C" fn barkpaddle_read_scalar<'a>(
     size: u64,
     align: u64,
 ) -> Part
-    ensures { result ≡ partNumbers (located (length save.now) (length overflow.now) (offsetsFrom gp_offset fp_offset overflow_offset) (scalar kind size align)) }
+    ensures { result ≡ part_numbers (located (length save.now) (length overflow.now) (offsets_from gp_offset fp_offset overflow_offset) (scalar kind size align)) }
 {
     let at = Offsets {
         integer: gp_offset,

@@ -4,29 +4,29 @@ use contract.Lifetimes.{Lfts}
 use Rattle.shape.proofs.OneAnswer.{OneAnswer}
 use Rattle.find.proofs.alike.homogeneous.Reads as homogeneous
 use Rattle.find.proofs.matches.Reads as matches
-use Rattle.find.proofs.inside.float_pair.Reads as float-pair
-use Rattle.find.proofs.inside.x87_stack.Reads as x87-stack
-use Rattle.find.proofs.inside.lone_float.Reads as lone-float
-use Rattle.find.proofs.inside.floating_mode.Reads as floating-mode
-use Rattle.find.proofs.inside.complex_float.Reads as complex-float
+use Rattle.find.proofs.inside.float_pair.Reads as float_pair
+use Rattle.find.proofs.inside.x87_stack.Reads as x87_stack
+use Rattle.find.proofs.inside.lone_float.Reads as lone_float
+use Rattle.find.proofs.inside.floating_mode.Reads as floating_mode
+use Rattle.find.proofs.inside.complex_float.Reads as complex_float
 
-matches-decides : (κs : Lfts 1) → OneAnswer (matches.Post κs)
-matches-decides κs a r q s t p p' = p ∙ sym p'
+matches_decides : (κs : Lfts 1) → OneAnswer (matches.Post κs)
+matches_decides κs a r q s t p p' = p ∙ sym p'
 
-homogeneous-decides : (κs : Lfts 1) → OneAnswer (homogeneous.Post κs)
-homogeneous-decides κs a r q s t p p' = p ∙ sym p'
+homogeneous_decides : (κs : Lfts 1) → OneAnswer (homogeneous.Post κs)
+homogeneous_decides κs a r q s t p p' = p ∙ sym p'
 
-float-pair-decides : (κs : Lfts 1) → OneAnswer (float-pair.Post κs)
-float-pair-decides κs a r q s t p p' = p ∙ sym p'
+float_pair_decides : (κs : Lfts 1) → OneAnswer (float_pair.Post κs)
+float_pair_decides κs a r q s t p p' = p ∙ sym p'
 
-x87-stack-decides : (κs : Lfts 1) → OneAnswer (x87-stack.Post κs)
-x87-stack-decides κs a r q s t p p' = p ∙ sym p'
+x87_stack_decides : (κs : Lfts 1) → OneAnswer (x87_stack.Post κs)
+x87_stack_decides κs a r q s t p p' = p ∙ sym p'
 
-lone-float-decides : (κs : Lfts 1) → OneAnswer (lone-float.Post κs)
-lone-float-decides κs a r q s t p p' = p ∙ sym p'
+lone_float_decides : (κs : Lfts 1) → OneAnswer (lone_float.Post κs)
+lone_float_decides κs a r q s t p p' = p ∙ sym p'
 
-floating-mode-decides : (κs : Lfts 0) → OneAnswer (floating-mode.Post κs)
-floating-mode-decides κs a r q s t p p' = p ∙ sym p'
+floating_mode_decides : (κs : Lfts 0) → OneAnswer (floating_mode.Post κs)
+floating_mode_decides κs a r q s t p p' = p ∙ sym p'
 
-complex-float-decides : (κs : Lfts 1) → OneAnswer (complex-float.Post κs)
-complex-float-decides κs a r q s t p p' = p ∙ sym p'
+complex_float_decides : (κs : Lfts 1) → OneAnswer (complex_float.Post κs)
+complex_float_decides κs a r q s t p p' = p ∙ sym p'

@@ -2,8 +2,8 @@
 // writes nothing.
 ghost use Rattle.std.specs.Prelude.{◌≡◌, ◌*◌, ◌<◌, ◌≤◌, length, drop, eqb};
 ghost use Rattle.shape.specs.Words.{pieces_of};
-ghost use Rattle.slots.specs.Search.{foundOf};
-ghost use Rattle.find.specs.Find.{allSame};
+ghost use Rattle.slots.specs.Search.{found_of};
+ghost use Rattle.find.specs.Find.{all_same};
 ghost use Rattle.find.specs.Find.{homogeneous as homogeneousOf};
 
 use shape::{Piece, Shape};
@@ -11,7 +11,7 @@ use slots::Found;
 
 // Floats of one format, size and alignment, at most `limit`, that fill the shape.
 pub fn homogeneous(shape: Shape, words: &[u64], limit: u64) -> Found
-    ensures { result ≡ foundOf (homogeneousOf limit shape (pieces_of words.now)) }
+    ensures { result ≡ found_of (homogeneousOf limit shape (pieces_of words.now)) }
 {
     let count = (words.len() / shape::PIECE) as u64;
     if count == 0 {
@@ -50,7 +50,7 @@ fn fills(size: u64, count: u64, whole: u64) -> bool
 // Whether every piece behind the first is the same scalar as it.
 fn rest_same(first: Piece, words: &[u64]) -> bool
     requires { 4 ≤ length words.now }
-    ensures { result ≡ allSame first (pieces_of (drop 4 words.now)) }
+    ensures { result ≡ all_same first (pieces_of (drop 4 words.now)) }
 {
     let mut at = shape::PIECE;
     while words.len() - at >= shape::PIECE {

@@ -2,7 +2,7 @@
 // answer with counts, and `slot_writing::put_pieces` writes the slots of whichever found them. The rules are those of docs/REFERENCE.md, 7.
 ghost use Rattle.std.specs.Prelude.{◌≡◌, [], ◌∷◌};
 ghost use Rattle.shape.specs.Words.{pieces_of};
-ghost use Rattle.slots.specs.Search.{foundOf};
+ghost use Rattle.slots.specs.Search.{found_of};
 ghost use Rattle.find.specs.Find as find;
 
 use shape::{Piece, Shape};
@@ -13,7 +13,7 @@ const COMPLEX_FLOAT: u64 = 8;
 
 // One float, or two pieces with a float among them, each no wider than a register of its bank.
 pub fn float_pair(words: &[u64], integer_width: u64, float_width: u64) -> Found
-    ensures { result ≡ foundOf (find.floatPair integer_width float_width (pieces_of words.now)) }
+    ensures { result ≡ found_of (find.float_pair integer_width float_width (pieces_of words.now)) }
 {
     let count = words.len() / shape::PIECE;
     if count == 1 {
@@ -28,7 +28,7 @@ pub fn float_pair(words: &[u64], integer_width: u64, float_width: u64) -> Found
 }
 
 fn one_member(only: Piece, integer_width: u64, float_width: u64) -> Found
-    ensures { result ≡ foundOf (find.floatPair integer_width float_width (only ∷ [])) }
+    ensures { result ≡ found_of (find.float_pair integer_width float_width (only ∷ [])) }
 {
     let found = only.is_float() & fits_one(only, integer_width, float_width);
     if !found {
@@ -41,7 +41,7 @@ fn one_member(only: Piece, integer_width: u64, float_width: u64) -> Found
 }
 
 fn two_members(first: Piece, second: Piece, integer_width: u64, float_width: u64) -> Found
-    ensures { result ≡ foundOf (find.floatPair integer_width float_width (first ∷ second ∷ [])) }
+    ensures { result ≡ found_of (find.float_pair integer_width float_width (first ∷ second ∷ [])) }
 {
     let floats = shape::one_if(first.is_float()) + shape::one_if(second.is_float());
     if floats == 0 {
@@ -57,7 +57,7 @@ fn two_members(first: Piece, second: Piece, integer_width: u64, float_width: u64
 
 // Whether one register of its bank holds a piece.
 fn fits_one(p: Piece, integer_width: u64, float_width: u64) -> bool
-    ensures { result ≡ find.fitsOne integer_width float_width p }
+    ensures { result ≡ find.fits_one integer_width float_width p }
 {
     if p.kind == shape::INTEGER {
         return p.size <= integer_width;
@@ -67,7 +67,7 @@ fn fits_one(p: Piece, integer_width: u64, float_width: u64) -> bool
 
 // One x87 value, or the two of a complex.
 pub fn x87_stack(shape: Shape, words: &[u64]) -> Found
-    ensures { result ≡ foundOf (find.x87Stack shape (pieces_of words.now)) }
+    ensures { result ≡ found_of (find.x87_stack shape (pieces_of words.now)) }
 {
     let count = (words.len() / shape::PIECE) as u64;
     if count != 1 {
@@ -89,7 +89,7 @@ pub fn x87_stack(shape: Shape, words: &[u64]) -> Found
 
 // One piece that is a Single or a Double.
 pub fn lone_float(words: &[u64]) -> Found
-    ensures { result ≡ foundOf (find.loneFloat (pieces_of words.now)) }
+    ensures { result ≡ found_of (find.lone_float (pieces_of words.now)) }
 {
     if words.len() / shape::PIECE != 1 {
         return Found::Nothing;
@@ -107,7 +107,7 @@ pub fn lone_float(words: &[u64]) -> Found
 
 // A complex, or a shape of a floating mode; it finds no slot.
 pub fn floating_mode(shape: Shape) -> Found
-    ensures { result ≡ foundOf (find.floatingMode shape) }
+    ensures { result ≡ found_of (find.floating_mode shape) }
 {
     if shape.complex {
         return Found::Slots {
@@ -126,7 +126,7 @@ pub fn floating_mode(shape: Shape) -> Found
 
 // A complex of Singles that takes eight bytes; it finds no slot.
 pub fn complex_float(shape: Shape, words: &[u64]) -> Found
-    ensures { result ≡ foundOf (find.complexFloat shape (pieces_of words.now)) }
+    ensures { result ≡ found_of (find.complex_float shape (pieces_of words.now)) }
 {
     let found = shape.complex & (shape.size == COMPLEX_FLOAT);
     if !found {

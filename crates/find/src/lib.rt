@@ -1,12 +1,14 @@
 // What the test of a rule finds in a shape (docs/REFERENCE.md, 7): whether it matches, and the slots that it finds if it looks inside. The rule
 // walk asks here rule by rule; the slots of the rule that decides are written later, by the crate slot_writing. The tests that look at the
 // pieces stand in `inside`, but for the one with a loop of its own, which is in `alike`; that for eightbytes is a crate.
+#![tactic(auto)]
+
 mod alike;
 mod inside;
 
 ghost use Rattle.std.specs.Prelude.{◌≡◌};
 ghost use Rattle.shape.specs.Words.{pieces_of};
-ghost use Rattle.find.specs.Matches.{isOneOf, matched, matchedBy, foundWhere, noSource, pieceSource, classSource, noClasses};
+ghost use Rattle.find.specs.Matches.{is_one_of, matched, matched_by, found_where, no_source, piece_source, class_source, no_classes};
 
 pub use alike::homogeneous;
 use describe::{Banks, Test};
@@ -24,7 +26,7 @@ pub struct Matched {
 
 // Whether a test matches, and the slots that it finds if it looks inside. Nothing is written to a lent buffer here.
 pub fn matches(banks: Banks, test: Test, shape: Shape, words: &[u64]) -> Matched
-    ensures { result ≡ matchedBy banks test shape (pieces_of words.now) }
+    ensures { result ≡ matched_by banks test shape (pieces_of words.now) }
 {
     match test {
         Test::Anything => without_slots(true),
@@ -46,7 +48,7 @@ pub fn matches(banks: Banks, test: Test, shape: Shape, words: &[u64]) -> Matched
 
 // Whether a size is one of the first so many of four.
 fn is_one_of(size: u64, n: u64, a: u64, b: u64, c: u64, d: u64) -> bool
-    ensures { result ≡ isOneOf size n a b c d }
+    ensures { result ≡ is_one_of size n a b c d }
 {
     ((n > 0) & (size == a))
         | ((n > 1) & (size == b))
@@ -56,7 +58,7 @@ fn is_one_of(size: u64, n: u64, a: u64, b: u64, c: u64, d: u64) -> bool
 
 // A test of the shape as a whole: it finds no slot.
 fn without_slots(holds: bool) -> Matched
-    ensures { result ≡ matched (foundWhere holds) noSource noClasses }
+    ensures { result ≡ matched (found_where holds) no_source no_classes }
 {
     if holds {
         return no_slots(Found::Slots {
@@ -68,7 +70,7 @@ fn without_slots(holds: bool) -> Matched
 }
 
 fn no_slots(found: Found) -> Matched
-    ensures { result ≡ matched found noSource noClasses }
+    ensures { result ≡ matched found no_source no_classes }
 {
     Matched {
         found,
@@ -78,7 +80,7 @@ fn no_slots(found: Found) -> Matched
 }
 
 fn each_piece(found: Found) -> Matched
-    ensures { result ≡ matched found pieceSource noClasses }
+    ensures { result ≡ matched found piece_source no_classes }
 {
     Matched {
         found,
@@ -88,7 +90,7 @@ fn each_piece(found: Found) -> Matched
 }
 
 fn in_eightbytes(size: u64, classified: eightbytes::Classified) -> Matched
-    ensures { result ≡ matched classified.found (classSource size) classified.classes }
+    ensures { result ≡ matched classified.found (class_source size) classified.classes }
 {
     let found = classified.found;
     let classes = classified.classes;

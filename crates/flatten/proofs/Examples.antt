@@ -14,6 +14,6 @@ use Rattle.flatten.specs.Flattened as flat
 use Rattle.flatten.specs.Examples as shown
 use Rattle.flatten.specs.Examples.{examples, found, expected}
 
-pub examples-found : map found examples ≡ map expected examples
-unfolding words.pieces_of words.firstPiece words.piece_at words.put_at arithmetic.roundUp lists.every checks.scalarRefusal members.piecesWords entries.membersFrom entries.meaningOf entries.referred entries.allReferBack tree.align_of tree.reach tree.lastReach tree.size_of tree.takesOf tree.levelsOf tree.leavesOf trees.laidOut trees.tree_of trees.trees trees.listsRefusal trees.referencesRefusal trees.treeRefusal trees.treesRefusal trees.typesRefusal leaves.offsetAt leaves.scalarAtEnd leaves.elementPaths leaves.leafPaths flat.roomRefusal flat.flattenRefusal flat.flattenAnswer flat.flattenWritten shown.arraysFrom
-examples-found = refl
+pub examples_found : map found examples ≡ map expected examples
+unfolding words.pieces_of words.first_piece words.piece_at words.put_at arithmetic.round_up lists.every checks.scalar_refusal members.pieces_words entries.members_from entries.meaning_of entries.referred entries.all_refer_back tree.align_of tree.reach tree.last_reach tree.size_of tree.takes_of tree.levels_of tree.leaves_of trees.laid_out trees.tree_of trees.trees trees.lists_refusal trees.references_refusal trees.tree_refusal trees.trees_refusal trees.types_refusal leaves.offset_at leaves.scalar_at_end leaves.element_paths leaves.leaf_paths flat.room_refusal flat.flatten_refusal flat.flatten_answer flat.flatten_written shown.arrays_from
+examples_found = refl

@@ -11,46 +11,46 @@ use Rattle.types.specs.Tree.{Tree, Forest, leaf, group, array, empty, child, siz
 
 -- whether a path ends at a scalar
 unfoldable mutual
-  pub endsAtScalar : Tree → List ℕ → Bool
-  endsAtScalar (leaf s) [] = true
-  endsAtScalar (leaf s) (i ∷ p) = false
-  endsAtScalar (group f) [] = false
-  endsAtScalar (group f) (i ∷ p) = childEnds f i p
-  endsAtScalar (array t n) [] = false
-  endsAtScalar (array t n) (i ∷ p) = ltb i n && endsAtScalar t p
+  pub ends_at_scalar : Tree → List ℕ → Bool
+  ends_at_scalar (leaf s) [] = true
+  ends_at_scalar (leaf s) (i ∷ p) = false
+  ends_at_scalar (group f) [] = false
+  ends_at_scalar (group f) (i ∷ p) = child_ends f i p
+  ends_at_scalar (array t n) [] = false
+  ends_at_scalar (array t n) (i ∷ p) = ltb i n && ends_at_scalar t p
 
-  pub childEnds : Forest → ℕ → List ℕ → Bool
-  childEnds empty i p = false
-  childEnds (child o t f) zero p = endsAtScalar t p
-  childEnds (child o t f) (suc i) p = childEnds f i p
+  pub child_ends : Forest → ℕ → List ℕ → Bool
+  child_ends empty i p = false
+  child_ends (child o t f) zero p = ends_at_scalar t p
+  child_ends (child o t f) (suc i) p = child_ends f i p
 
 -- the scalar at the end of a path; all zeros where there is none
 unfoldable mutual
-  pub scalarAtEnd : Tree → List ℕ → Scalar
-  scalarAtEnd (leaf s) p = s
-  scalarAtEnd (group f) [] = scalar 0 0 0
-  scalarAtEnd (group f) (i ∷ p) = childScalar f i p
-  scalarAtEnd (array t n) [] = scalar 0 0 0
-  scalarAtEnd (array t n) (i ∷ p) = scalarAtEnd t p
+  pub scalar_at_end : Tree → List ℕ → Scalar
+  scalar_at_end (leaf s) p = s
+  scalar_at_end (group f) [] = scalar 0 0 0
+  scalar_at_end (group f) (i ∷ p) = child_scalar f i p
+  scalar_at_end (array t n) [] = scalar 0 0 0
+  scalar_at_end (array t n) (i ∷ p) = scalar_at_end t p
 
-  pub childScalar : Forest → ℕ → List ℕ → Scalar
-  childScalar empty i p = scalar 0 0 0
-  childScalar (child o t f) zero p = scalarAtEnd t p
-  childScalar (child o t f) (suc i) p = childScalar f i p
+  pub child_scalar : Forest → ℕ → List ℕ → Scalar
+  child_scalar empty i p = scalar 0 0 0
+  child_scalar (child o t f) zero p = scalar_at_end t p
+  child_scalar (child o t f) (suc i) p = child_scalar f i p
 
 -- the sum of the offsets on a path: a member's own, and of an element as many rounded sizes as stand before it
 unfoldable mutual
-  pub offsetAt : Tree → List ℕ → ℕ
-  offsetAt (leaf s) p = 0
-  offsetAt (group f) [] = 0
-  offsetAt (group f) (i ∷ p) = childOffset f i p
-  offsetAt (array t n) [] = 0
-  offsetAt (array t n) (i ∷ p) = i * size_of t + offsetAt t p
+  pub offset_at : Tree → List ℕ → ℕ
+  offset_at (leaf s) p = 0
+  offset_at (group f) [] = 0
+  offset_at (group f) (i ∷ p) = child_offset f i p
+  offset_at (array t n) [] = 0
+  offset_at (array t n) (i ∷ p) = i * size_of t + offset_at t p
 
-  pub childOffset : Forest → ℕ → List ℕ → ℕ
-  childOffset empty i p = 0
-  childOffset (child o t f) zero p = o + offsetAt t p
-  childOffset (child o t f) (suc i) p = childOffset f i p
+  pub child_offset : Forest → ℕ → List ℕ → ℕ
+  child_offset empty i p = 0
+  child_offset (child o t f) zero p = o + offset_at t p
+  child_offset (child o t f) (suc i) p = child_offset f i p
 
 -- ---- the leaf paths, from the first member and the first element on
 
@@ -59,42 +59,42 @@ abbrev pub under : ℕ → List (List ℕ) → List (List ℕ)
 under i ps = map (λ (p : List ℕ). i ∷ p) ps
 
 -- those of n elements, numbered from i on, each with the same paths inside
-unfoldable pub elementPaths : List (List ℕ) → ℕ → ℕ → List (List ℕ)
-elementPaths ps i zero = []
-elementPaths ps i (suc n) = under i ps ++ elementPaths ps (suc i) n
+unfoldable pub element_paths : List (List ℕ) → ℕ → ℕ → List (List ℕ)
+element_paths ps i zero = []
+element_paths ps i (suc n) = under i ps ++ element_paths ps (suc i) n
 
 -- a forest's children are numbered from i on
 unfoldable mutual
-  pub leafPaths : Tree → List (List ℕ)
-  leafPaths (leaf s) = [] ∷ []
-  leafPaths (group f) = forestPaths f 0
-  leafPaths (array t n) = elementPaths (leafPaths t) 0 n
+  pub leaf_paths : Tree → List (List ℕ)
+  leaf_paths (leaf s) = [] ∷ []
+  leaf_paths (group f) = forest_paths f 0
+  leaf_paths (array t n) = element_paths (leaf_paths t) 0 n
 
-  pub forestPaths : Forest → ℕ → List (List ℕ)
-  forestPaths empty i = []
-  forestPaths (child o t f) i = under i (leafPaths t) ++ forestPaths f (suc i)
+  pub forest_paths : Forest → ℕ → List (List ℕ)
+  forest_paths empty i = []
+  forest_paths (child o t f) i = under i (leaf_paths t) ++ forest_paths f (suc i)
 
 -- ---- pieces
 
 abbrev pub piece_of : Scalar → ℕ → Piece
 piece_of s o = piece s.kind s.size s.align o
 
-abbrev pub leafPiece : Tree → List ℕ → Piece
-leafPiece t p = piece_of (scalarAtEnd t p) (offsetAt t p)
+abbrev pub leaf_piece : Tree → List ℕ → Piece
+leaf_piece t p = piece_of (scalar_at_end t p) (offset_at t p)
 
 -- one piece for each leaf path, in order
-abbrev pub leafPieces : Tree → List Piece
-leafPieces t = map (leafPiece t) (leafPaths t)
+abbrev pub leaf_pieces : Tree → List Piece
+leaf_pieces t = map (leaf_piece t) (leaf_paths t)
 
 -- ---- each leaf, one piece
 
 -- these pieces are, in order, one for each leaf of the type
 pub record EachLeaf (t : Tree) (ps : List Piece) : Type 0 where
   -- a path is listed exactly where it ends at a scalar
-  pub ends : (p : List ℕ) → Memᴰ p (leafPaths t) → endsAtScalar t p ≡ true
-  pub listed : (p : List ℕ) → endsAtScalar t p ≡ true → Memᴰ p (leafPaths t)
+  pub ends : (p : List ℕ) → Memᴰ p (leaf_paths t) → ends_at_scalar t p ≡ true
+  pub listed : (p : List ℕ) → ends_at_scalar t p ≡ true → Memᴰ p (leaf_paths t)
   -- and none is listed twice
-  pub once : (i j : ℕ) → i < j → j < length (leafPaths t) → get_or (leafPaths t) i [] ≡ get_or (leafPaths t) j [] → ⊥
+  pub once : (i j : ℕ) → i < j → j < length (leaf_paths t) → get_or (leaf_paths t) i [] ≡ get_or (leaf_paths t) j [] → ⊥
   -- there are as many pieces as paths, and piece k is the scalar at path k, its kind, size and alignment, at the sum of the offsets on that path
-  pub as_many : length ps ≡ length (leafPaths t)
-  pub piece-at : (k : ℕ) → k < length (leafPaths t) → get_elem? ps k ≡ some (leafPiece t (get_or (leafPaths t) k []))
+  pub as_many : length ps ≡ length (leaf_paths t)
+  pub piece_at : (k : ℕ) → k < length (leaf_paths t) → get_elem? ps k ≡ some (leaf_piece t (get_or (leaf_paths t) k []))

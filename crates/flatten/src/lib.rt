@@ -1,12 +1,14 @@
 // Nested types into pieces: each scalar leaf of the type wanted becomes one piece at the sum of its parents' offsets. The rules are those of
 // docs/REFERENCE.md, 4.5.
+#![tactic(auto)]
+
 ghost use Rattle.std.specs.Prelude.{◌≡◌, ◌≤◌, min, eqb, length};
 ghost use Rattle.shape.specs.Numbers.{accepted};
 ghost use Rattle.shape.specs.Arithmetic.{rounded};
-ghost use Rattle.shape.specs.Words.{piece, pieceWords, put_at};
-ghost use Rattle.types.specs.Entries.{union-kind, membersFrom};
-ghost use Rattle.flatten.specs.Flattened.{flattened, flattenAnswer, flattenWritten};
-ghost use Rattle.flatten.specs.Writing.{overMembers, overElements, step_of, entryPieces, next_at, pourAt, pourWords};
+ghost use Rattle.shape.specs.Words.{piece, piece_words, put_at};
+ghost use Rattle.types.specs.Entries.{union_kind, members_from};
+ghost use Rattle.flatten.specs.Flattened.{flattened, flatten_answer, flatten_written};
+ghost use Rattle.flatten.specs.Writing.{over_members, over_elements, step_of, entry_pieces, next_at, pour_at, pour_words};
 
 use shape::{ACCEPTED, NO_ROOM, PIECE, Piece, sum};
 use types::{Entry, Row};
@@ -23,7 +25,7 @@ pub struct Flattened {
 
 // The pieces of the last entry's type, at the front of the buffer. A refusal writes nothing.
 pub fn flatten(types: &[u64], members: &[u64], out: &mut [u64]) -> Flattened
-    ensures { (result ≡ flattenAnswer types.now members.now out.old) × (out.new ≡ flattenWritten types.now members.now out.old) }
+    ensures { (result ≡ flatten_answer types.now members.now out.old) × (out.new ≡ flatten_written types.now members.now out.old) }
 {
     if types.len() > types::SHORT_TABLE {
         return flatten_many(types, members, out);
@@ -33,14 +35,14 @@ pub fn flatten(types: &[u64], members: &[u64], out: &mut [u64]) -> Flattened
 
 fn flatten_few(types: &[u64], members: &[u64], out: &mut [u64]) -> Flattened
     requires { length types.now ≤ 128 }
-    ensures { (result ≡ flattenAnswer types.now members.now out.old) × (out.new ≡ flattenWritten types.now members.now out.old) }
+    ensures { (result ≡ flatten_answer types.now members.now out.old) × (out.new ≡ flatten_written types.now members.now out.old) }
 {
     let mut table = [0u64; types::SHORT_TABLE];
     flatten_by(types, members, &mut table, out)
 }
 
 fn flatten_many(types: &[u64], members: &[u64], out: &mut [u64]) -> Flattened
-    ensures { (result ≡ flattenAnswer types.now members.now out.old) × (out.new ≡ flattenWritten types.now members.now out.old) }
+    ensures { (result ≡ flatten_answer types.now members.now out.old) × (out.new ≡ flatten_written types.now members.now out.old) }
 {
     let mut table = [0u64; types::LONG_TABLE];
     flatten_by(types, members, &mut table, out)
@@ -49,7 +51,7 @@ fn flatten_many(types: &[u64], members: &[u64], out: &mut [u64]) -> Flattened
 // The same, by a table that has room for as many entries as the list has, or may have.
 fn flatten_by(types: &[u64], members: &[u64], table: &mut [u64], out: &mut [u64]) -> Flattened
     requires { min (length types.now) 4096 ≤ length table.old }
-    ensures { (result ≡ flattenAnswer types.now members.now out.old) × (out.new ≡ flattenWritten types.now members.now out.old) }
+    ensures { (result ≡ flatten_answer types.now members.now out.old) × (out.new ≡ flatten_written types.now members.now out.old) }
 {
     let refusal = types::measure(types, members, table);
     if refusal != ACCEPTED {
@@ -105,7 +107,7 @@ fn write_type(
     at: usize,
     levels: u64,
 ) -> usize
-    ensures { (result ≡ pourAt (entryPieces types.now members.now table.now levels e base) out.old at) × (out.new ≡ pourWords (entryPieces types.now members.now table.now levels e base) out.old at) }
+    ensures { (result ≡ pour_at (entry_pieces types.now members.now table.now levels e base) out.old at) × (out.new ≡ pour_words (entry_pieces types.now members.now table.now levels e base) out.old at) }
 {
     if levels == 0 {
         return at;
@@ -132,7 +134,7 @@ fn write_members(
     at: usize,
     levels: u64,
 ) -> usize
-    ensures { (result ≡ pourAt (overMembers (entryPieces types.now members.now table.now levels) table.now (eqb x.kind union-kind) base 0 (membersFrom members.now x.second x.third)) out.old at) × (out.new ≡ pourWords (overMembers (entryPieces types.now members.now table.now levels) table.now (eqb x.kind union-kind) base 0 (membersFrom members.now x.second x.third)) out.old at) }
+    ensures { (result ≡ pour_at (over_members (entry_pieces types.now members.now table.now levels) table.now (eqb x.kind union_kind) base 0 (members_from members.now x.second x.third)) out.old at) × (out.new ≡ pour_words (over_members (entry_pieces types.now members.now table.now levels) table.now (eqb x.kind union_kind) base 0 (members_from members.now x.second x.third)) out.old at) }
 {
     let overlaid = x.kind == types::UNION;
     let mut to = at;
@@ -164,7 +166,7 @@ fn write_elements(
     at: usize,
     levels: u64,
 ) -> usize
-    ensures { (result ≡ pourAt (overElements (entryPieces types.now members.now table.now levels x.second) (step_of table.now x.second) base 0 x.third) out.old at) × (out.new ≡ pourWords (overElements (entryPieces types.now members.now table.now levels x.second) (step_of table.now x.second) base 0 x.third) out.old at) }
+    ensures { (result ≡ pour_at (over_elements (entry_pieces types.now members.now table.now levels x.second) (step_of table.now x.second) base 0 x.third) out.old at) × (out.new ≡ pour_words (over_elements (entry_pieces types.now members.now table.now levels x.second) (step_of table.now x.second) base 0 x.third) out.old at) }
 {
     let row = types::row_at(table, x.second);
     let step = shape::round_up(row.reach, row.align);
@@ -201,7 +203,7 @@ fn scalar_piece(x: Entry, offset: u64) -> Piece
 
 // Writes a piece where it fits: the place behind it, or the same one.
 fn put(out: &mut [u64], at: usize, piece: Piece) -> usize
-    ensures { (result ≡ next_at out.old at) × (out.new ≡ put_at out.old at (pieceWords piece)) }
+    ensures { (result ≡ next_at out.old at) × (out.new ≡ put_at out.old at (piece_words piece)) }
 {
     if shape::put_piece(out, at, piece) {
         return at + PIECE;

@@ -9,133 +9,133 @@ use lib.Dec.{ltb}
 use lib.ListN.{length, drop}
 use Rattle.shape.specs.declared.Piece.{Piece}
 use Rattle.shape.specs.declared.Scalar.{Scalar}
-use Rattle.shape.specs.Numbers.{accepted, bad-list, no_room, most-pieces}
-use Rattle.shape.specs.Words.{piece, pieces_of, scalarsOf, scalarAt, put_at, pieceWords}
-use Rattle.checks.specs.Check.{scalarRefusal, or_else}
-use Rattle.shape.proofs.Words.{scalars-step, scalars-end, length-scalars, ByFirst}
+use Rattle.shape.specs.Numbers.{accepted, bad_list, no_room, most_pieces}
+use Rattle.shape.specs.Words.{piece, pieces_of, scalars_of, scalar_at, put_at, piece_words}
+use Rattle.checks.specs.Check.{scalar_refusal, or_else}
+use Rattle.shape.proofs.Words.{scalars_step, scalars_end, length_scalars, ByFirst}
 use Rattle.checks.proofs.Check.{left_alone}
-use Rattle.checks.proofs.Accepted.{refuse-none, else-none, Fits, fits}
-use Rattle.shape.proofs.Put.{put-short, put-split, put-none}
+use Rattle.checks.proofs.Accepted.{refuse_none, else_none, Fits, fits}
+use Rattle.shape.proofs.Put.{put_short, put_split, put_none}
 use Rattle.layouts.specs.declared.Placed.{Placed}
-use Rattle.shape.specs.Arithmetic.{roundUp}
-use Rattle.layouts.specs.Members.{scalarsRefusal, membersRefusal, placed, piecesWords, orPlaced, piecesAnswer, piecesWritten}
+use Rattle.shape.specs.Arithmetic.{round_up}
+use Rattle.layouts.specs.Members.{scalars_refusal, members_refusal, placed, pieces_words, or_placed, pieces_answer, pieces_written}
 
 -- ---- check_members
 
 module _ (ws : List ℕ) where
-  pub members-parts : (length ws % 3 ≡ 0 → ⊥) → bad-list ≡ membersRefusal ws
-  unfolding membersRefusal
-  members-parts w = rw (lt-ltb 0 (length ws % 3) (omega arith))
+  pub members_parts : (length ws % 3 ≡ 0 → ⊥) → bad_list ≡ members_refusal ws
+  unfolding members_refusal
+  members_parts w = rw (lt-ltb 0 (length ws % 3) (omega arith))
 
-  pub members-many : length ws % 3 ≡ 0 → most-pieces < length ws / 3 → bad-list ≡ membersRefusal ws
-  unfolding membersRefusal
-  members-many w n = rw (le-ltb 0 (length ws % 3) (omega arith), length-scalars, lt-ltb _ _ n)
+  pub members_many : length ws % 3 ≡ 0 → most_pieces < length ws / 3 → bad_list ≡ members_refusal ws
+  unfolding members_refusal
+  members_many w n = rw (le-ltb 0 (length ws % 3) (omega arith), length_scalars, lt-ltb _ _ n)
 
-  pub by-scalars : length ws % 3 ≡ 0 → length ws / 3 ≤ most-pieces → membersRefusal ws ≡ scalarsRefusal (scalarsOf ws)
-  unfolding membersRefusal
-  by-scalars w n = rw (le-ltb 0 (length ws % 3) (omega arith), length-scalars, le-ltb _ _ n)
+  pub by_scalars : length ws % 3 ≡ 0 → length ws / 3 ≤ most_pieces → members_refusal ws ≡ scalars_refusal (scalars_of ws)
+  unfolding members_refusal
+  by_scalars w n = rw (le-ltb 0 (length ws % 3) (omega arith), length_scalars, le-ltb _ _ n)
 
-pub scalars-by-first : ByFirst scalarsRefusal scalarRefusal or_else accepted
-unfolding scalarsRefusal
-scalars-by-first = record { none = refl; more = λ s ss. refl }
+pub scalars_by_first : ByFirst scalars_refusal scalar_refusal or_else accepted
+unfolding scalars_refusal
+scalars_by_first = record { none = refl; more = λ s ss. refl }
 
 -- ---- pieces
 
-pub length-placed : (end : ℕ) (ss : List Scalar) → length (placed end ss) ≡ length ss
+pub length_placed : (end : ℕ) (ss : List Scalar) → length (placed end ss) ≡ length ss
 unfolding placed
-length-placed end [] = refl
-length-placed end (s ∷ ss) = ap suc (length-placed (roundUp end (max s.align 1) + s.size) ss)
+length_placed end [] = refl
+length_placed end (s ∷ ss) = ap suc (length_placed (round_up end (max s.align 1) + s.size) ss)
 
-pub length-words : (ps : List Piece) → length (piecesWords ps) ≡ 4 * length ps
-unfolding piecesWords
-length-words [] = refl
-length-words (p ∷ ps) = let h : length (piecesWords ps) ≡ 4 * length ps = length-words ps in omega arith
+pub length_words : (ps : List Piece) → length (pieces_words ps) ≡ 4 * length ps
+unfolding pieces_words
+length_words [] = refl
+length_words (p ∷ ps) = let h : length (pieces_words ps) ≡ 4 * length ps = length_words ps in omega arith
 
 -- pieces in words are read back as they were
-pub pieces-back : (ps : List Piece) → pieces_of (piecesWords ps) ≡ ps
-unfolding piecesWords pieces_of
-pieces-back [] = refl
-pieces-back (p ∷ ps) = ap (λ (qs : List Piece). p ∷ qs) (pieces-back ps)
+pub pieces_back : (ps : List Piece) → pieces_of (pieces_words ps) ≡ ps
+unfolding pieces_words pieces_of
+pieces_back [] = refl
+pieces_back (p ∷ ps) = ap (λ (qs : List Piece). p ∷ qs) (pieces_back ps)
 
-pub room-words : (end : ℕ) (ss : List Scalar) → length (piecesWords (placed end ss)) ≡ 4 * length ss
-room-words end ss = length-words (placed end ss) ∙ ap (λ (n : ℕ). 4 * n) (length-placed end ss)
+pub room_words : (end : ℕ) (ss : List Scalar) → length (pieces_words (placed end ss)) ≡ 4 * length ss
+room_words end ss = length_words (placed end ss) ∙ ap (λ (n : ℕ). 4 * n) (length_placed end ss)
 
-or-refused : (n : ℕ) → (n ≡ accepted → ⊥) → (rest : Placed) → ◌≡◌ {A = Placed} (record { refusal = n; count = 0 }) (orPlaced n rest)
-or-refused zero h rest = absurd (h refl)
-or-refused (suc n) h rest = refl
+or_refused : (n : ℕ) → (n ≡ accepted → ⊥) → (rest : Placed) → ◌≡◌ {A = Placed} (record { refusal = n; count = 0 }) (or_placed n rest)
+or_refused zero h rest = absurd (h refl)
+or_refused (suc n) h rest = refl
 
-module _ (ws out : List ℕ) (refusal : ℕ) (ef : refusal ≡ membersRefusal ws) where
-  pub pieces-refused : (refusal ≡ accepted → ⊥) → ◌≡◌ {A = Placed} (record { refusal = refusal; count = 0 }) (piecesAnswer ws out)
-  unfolding piecesAnswer
-  pieces-refused h = rw (← ef) (or-refused refusal h _)
+module _ (ws out : List ℕ) (refusal : ℕ) (ef : refusal ≡ members_refusal ws) where
+  pub pieces_refused : (refusal ≡ accepted → ⊥) → ◌≡◌ {A = Placed} (record { refusal = refusal; count = 0 }) (pieces_answer ws out)
+  unfolding pieces_answer
+  pieces_refused h = rw (← ef) (or_refused refusal h _)
 
-  pub pieces-same : (refusal ≡ accepted → ⊥) → out ≡ piecesWritten ws out
-  unfolding piecesWritten
-  pieces-same h = rw (← ef) (left_alone refusal _ out h)
+  pub pieces_same : (refusal ≡ accepted → ⊥) → out ≡ pieces_written ws out
+  unfolding pieces_written
+  pieces_same h = rw (← ef) (left_alone refusal _ out h)
 
   module _ (z : refusal ≡ accepted) where
-    pub pieces-short : length out / 4 < length ws / 3 → ◌≡◌ {A = Placed} (record { refusal = no_room; count = 0 }) (piecesAnswer ws out)
-    unfolding piecesAnswer
-    pieces-short h = rw (← ef, z, length-scalars, lt-leb _ _ h)
+    pub pieces_short : length out / 4 < length ws / 3 → ◌≡◌ {A = Placed} (record { refusal = no_room; count = 0 }) (pieces_answer ws out)
+    unfolding pieces_answer
+    pieces_short h = rw (← ef, z, length_scalars, lt-leb _ _ h)
 
-    pub pieces_kept : length out / 4 < length ws / 3 → out ≡ piecesWritten ws out
-    unfolding piecesWritten
+    pub pieces_kept : length out / 4 < length ws / 3 → out ≡ pieces_written ws out
+    unfolding pieces_written
     pieces_kept h =
         rw (← ef, z)
-        (put-short out 0 (piecesWords (placed 0 (scalarsOf ws))) (omega (arith, room-words 0 (scalarsOf ws), length-scalars ws)))
+        (put_short out 0 (pieces_words (placed 0 (scalars_of ws))) (omega (arith, room_words 0 (scalars_of ws), length_scalars ws)))
 
-    pub pieces-count : length ws / 3 ≤ length out / 4 → ◌≡◌ {A = Placed} (record { refusal = accepted; count = length ws / 3 }) (piecesAnswer ws out)
-    unfolding piecesAnswer
-    pieces-count h = rw (← ef, z, length-scalars, le-leb _ _ h)
+    pub pieces_count : length ws / 3 ≤ length out / 4 → ◌≡◌ {A = Placed} (record { refusal = accepted; count = length ws / 3 }) (pieces_answer ws out)
+    unfolding pieces_answer
+    pieces_count h = rw (← ef, z, length_scalars, le-leb _ _ h)
 
-    pub pieces-start : piecesWritten ws out ≡ put_at out 0 (piecesWords (placed 0 (scalarsOf ws)))
-    unfolding piecesWritten
-    pieces-start = rw (← ef, z)
+    pub pieces_start : pieces_written ws out ≡ put_at out 0 (pieces_words (placed 0 (scalars_of ws)))
+    unfolding pieces_written
+    pieces_start = rw (← ef, z)
 
-    many : (ltb 0 (length ws % 3) ≡ false) × (ltb most-pieces (length (scalarsOf ws)) ≡ false) × (scalarsRefusal (scalarsOf ws) ≡ accepted)
-    unfolding membersRefusal
+    many : (ltb 0 (length ws % 3) ≡ false) × (ltb most_pieces (length (scalars_of ws)) ≡ false) × (scalars_refusal (scalars_of ws) ≡ accepted)
+    unfolding members_refusal
     many =
-        let w = refuse-none (ltb 0 (length ws % 3)) 2 _ (sym ef ∙ z) in
-        let n = refuse-none (ltb most-pieces (length (scalarsOf ws))) 2 _ w.1 in
+        let w = refuse_none (ltb 0 (length ws % 3)) 2 _ (sym ef ∙ z) in
+        let n = refuse_none (ltb most_pieces (length (scalars_of ws))) 2 _ w.1 in
         (w.0, n.0, n.1)
 
-    pub pieces-few : length ws / 3 ≤ most-pieces
-    pieces-few = rw (← length-scalars) (ltb-false _ _ many.1)
+    pub pieces_few : length ws / 3 ≤ most_pieces
+    pieces_few = rw (← length_scalars) (ltb-false _ _ many.1)
 
-    pub pieces-ok : scalarsRefusal (scalarsOf ws) ≡ accepted
-    pieces-ok = many.2
+    pub pieces_ok : scalars_refusal (scalars_of ws) ≡ accepted
+    pieces_ok = many.2
 
 -- the loop: `total` is the buffer once the members from the place on are written
-module _ (ws : List ℕ) (at : ℕ) (w : at ≤ length ws) (ok : scalarsRefusal (scalarsOf (drop at ws)) ≡ accepted) (h : 3 ≤ length ws - at) (s : Scalar) (es : s ≡ scalarAt ws at) where
-  here : (scalarRefusal s ≡ accepted) × (scalarsRefusal (scalarsOf (drop (at + 3) ws)) ≡ accepted)
-  unfolding scalarsRefusal
-  here = rw es (else-none _ _ (rw (scalars-step ws at (omega arith)) at ok))
+module _ (ws : List ℕ) (at : ℕ) (w : at ≤ length ws) (ok : scalars_refusal (scalars_of (drop at ws)) ≡ accepted) (h : 3 ≤ length ws - at) (s : Scalar) (es : s ≡ scalar_at ws at) where
+  here : (scalar_refusal s ≡ accepted) × (scalars_refusal (scalars_of (drop (at + 3) ws)) ≡ accepted)
+  unfolding scalars_refusal
+  here = rw es (else_none _ _ (rw (scalars_step ws at (omega arith)) at ok))
 
-  pub here-fits : Fits s
-  here-fits = fits s here.0
+  pub here_fits : Fits s
+  here_fits = fits s here.0
 
-  pub later-ok : scalarsRefusal (scalarsOf (drop (at + 3) ws)) ≡ accepted
-  later-ok = here.1
+  pub later_ok : scalars_refusal (scalars_of (drop (at + 3) ws)) ≡ accepted
+  later_ok = here.1
 
-  next : scalarsOf (drop at ws) ≡ s ∷ scalarsOf (drop (at + 3) ws)
-  next = rw es (scalars-step ws at (omega arith))
+  next : scalars_of (drop at ws) ≡ s ∷ scalars_of (drop (at + 3) ws)
+  next = rw es (scalars_step ws at (omega arith))
 
-  pub next-room : (to : ℕ) (out : List ℕ) → to + 4 * length (scalarsOf (drop at ws)) ≤ length out → to + 4 + 4 * length (scalarsOf (drop (at + 3) ws)) ≤ length out
-  next-room to out room = let r : to + 4 * suc (length (scalarsOf (drop (at + 3) ws))) ≤ length out = rw next at room in omega arith
+  pub next_room : (to : ℕ) (out : List ℕ) → to + 4 * length (scalars_of (drop at ws)) ≤ length out → to + 4 + 4 * length (scalars_of (drop (at + 3) ws)) ≤ length out
+  next_room to out room = let r : to + 4 * suc (length (scalars_of (drop (at + 3) ws))) ≤ length out = rw next at room in omega arith
 
-  pub next-words : (total : List ℕ) (to end : ℕ) (out : List ℕ) → total ≡ put_at out to (piecesWords (placed end (scalarsOf (drop at ws))))
-      → to + 4 * length (scalarsOf (drop at ws)) ≤ length out → (o : ℕ) → o ≡ roundUp end (max s.align 1)
-      → (out' : List ℕ) → out' ≡ put_at out to (pieceWords (piece s.kind s.size s.align o))
-      → total ≡ put_at out' (to + 4) (piecesWords (placed (o + s.size) (scalarsOf (drop (at + 3) ws))))
-  unfolding placed piecesWords
-  next-words total to end out inv room o eo out' e =
-      let rest : List Scalar = scalarsOf (drop (at + 3) ws) in
+  pub next_words : (total : List ℕ) (to end : ℕ) (out : List ℕ) → total ≡ put_at out to (pieces_words (placed end (scalars_of (drop at ws))))
+      → to + 4 * length (scalars_of (drop at ws)) ≤ length out → (o : ℕ) → o ≡ round_up end (max s.align 1)
+      → (out' : List ℕ) → out' ≡ put_at out to (piece_words (piece s.kind s.size s.align o))
+      → total ≡ put_at out' (to + 4) (pieces_words (placed (o + s.size) (scalars_of (drop (at + 3) ws))))
+  unfolding placed pieces_words
+  next_words total to end out inv room o eo out' e =
+      let rest : List Scalar = scalars_of (drop (at + 3) ws) in
       let p : Piece = piece s.kind s.size s.align o in
       rw (inv, next, ← eo, e)
-      (put-split out to (pieceWords p) (piecesWords (placed (o + s.size) rest))
-      (omega (arith, next-room to out room, room-words (o + s.size) rest)))
+      (put_split out to (piece_words p) (pieces_words (placed (o + s.size) rest))
+      (omega (arith, next_room to out room, room_words (o + s.size) rest)))
 
 pub pieces_end : (total ws : List ℕ) (at to end : ℕ) (out : List ℕ) → at ≤ length ws → length ws - at < 3
-    → total ≡ put_at out to (piecesWords (placed end (scalarsOf (drop at ws)))) → to ≤ length out → out ≡ total
-unfolding placed piecesWords
-pieces_end total ws at to end out w h inv r = rw (inv, scalars-end ws at (omega arith)) (sym (put-none out to r))
+    → total ≡ put_at out to (pieces_words (placed end (scalars_of (drop at ws)))) → to ≤ length out → out ≡ total
+unfolding placed pieces_words
+pieces_end total ws at to end out w h inv r = rw (inv, scalars_end ws at (omega arith)) (sym (put_none out to r))

@@ -5,11 +5,11 @@ use Rattle.shape.proofs.OneAnswer.{OneAnswer, OneExit}
 use Rattle.layouts.proofs.pieces.Reads as pieces
 use Rattle.layouts.proofs.record.Reads as record'
 
-pieces-decides : (κs : Lfts 2) → OneAnswer (pieces.Post κs)
-pieces-decides κs a r q s t p p' = p.0 ∙ sym p'.0
+pieces_decides : (κs : Lfts 2) → OneAnswer (pieces.Post κs)
+pieces_decides κs a r q s t p p' = p.0 ∙ sym p'.0
 
-pieces-words : (κs : Lfts 2) → OneExit (pieces.Post κs) (λ s. s.1.0.now)
-pieces-words κs a r q s t p p' = p.1 ∙ sym p'.1
+pieces_words : (κs : Lfts 2) → OneExit (pieces.Post κs) (λ s. s.1.0.now)
+pieces_words κs a r q s t p p' = p.1 ∙ sym p'.1
 
-record-decides : (κs : Lfts 1) → OneAnswer (record'.Post κs)
-record-decides κs a r q s t p p' = p ∙ sym p'
+record_decides : (κs : Lfts 1) → OneAnswer (record'.Post κs)
+record_decides κs a r q s t p p' = p ∙ sym p'

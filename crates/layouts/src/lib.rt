@@ -1,10 +1,12 @@
 // Records from their members: the pieces of a record whose members are these scalars, and the shape of a record whose pieces are these.
 // The rules are those of docs/REFERENCE.md, 4.2 and 4.3.
+#![tactic(auto)]
+
 ghost use Rattle.std.specs.Prelude.{◌≡◌, false};
 ghost use Rattle.shape.specs.Numbers.{accepted};
 ghost use Rattle.shape.specs.Words.{pieces_of};
-ghost use Rattle.layouts.specs.Members.{membersRefusal, piecesAnswer, piecesWritten};
-ghost use Rattle.layouts.specs.Record.{largestAlign, furthestEnd, recorded, recordAnswer};
+ghost use Rattle.layouts.specs.Members.{members_refusal, pieces_answer, pieces_written};
+ghost use Rattle.layouts.specs.Record.{largest_align, furthest_end, recorded, record_answer};
 
 use shape::{Piece, Shape};
 
@@ -17,7 +19,7 @@ pub struct Placed {
 
 // Each member at the next offset that it fits, as pieces at the front of the buffer. A refusal writes nothing.
 pub fn pieces(members: &[u64], out: &mut [u64]) -> Placed
-    ensures { (result ≡ piecesAnswer members.now out.old) × (out.new ≡ piecesWritten members.now out.old) }
+    ensures { (result ≡ pieces_answer members.now out.old) × (out.new ≡ pieces_written members.now out.old) }
 {
     let refusal = check_members(members);
     if refusal != shape::ACCEPTED {
@@ -92,7 +94,7 @@ fn made(size: u64, align: u64, floating: bool) -> Recorded
 
 // The record that these pieces make, sized and aligned the way C would. It has a floating point mode when its one piece is a float that fills it.
 pub fn record(words: &[u64]) -> Recorded
-    ensures { result ≡ recordAnswer words.now }
+    ensures { result ≡ record_answer words.now }
 {
     let list = checks::check_list(words);
     if list != shape::ACCEPTED {
@@ -121,7 +123,7 @@ pub fn record(words: &[u64]) -> Recorded
 }
 
 fn largest_align(words: &[u64]) -> u64
-    ensures { result ≡ largestAlign (pieces_of words.now) }
+    ensures { result ≡ largest_align (pieces_of words.now) }
 {
     let mut best = 0;
     let mut at = 0;
@@ -134,7 +136,7 @@ fn largest_align(words: &[u64]) -> u64
 }
 
 fn furthest_end(words: &[u64]) -> u64
-    ensures { result ≡ furthestEnd (pieces_of words.now) }
+    ensures { result ≡ furthest_end (pieces_of words.now) }
 {
     let mut best = 0;
     let mut at = 0;
@@ -148,7 +150,7 @@ fn furthest_end(words: &[u64]) -> u64
 
 // The refusal of a record's members: the words don't make whole scalars, or too many; then the scalars from the first.
 fn check_members(members: &[u64]) -> u64
-    ensures { result ≡ membersRefusal members.now }
+    ensures { result ≡ members_refusal members.now }
 {
     let n = members.len();
     if n % shape::SCALAR != 0 {

@@ -11,62 +11,62 @@ use Rattle.shape.specs.declared.Arg.{Arg}
 use Rattle.shape.specs.declared.Arg.TheVariants.{Void, Scalar, Aggregate}
 use Rattle.shape.specs.declared.Piece.{Piece}
 use Rattle.shape.specs.declared.Scalar as scalars
-use Rattle.shape.specs.Arithmetic.{roundUp}
+use Rattle.shape.specs.Arithmetic.{round_up}
 use Rattle.shape.specs.Words.{pieces_of}
 use Rattle.describe.specs.declared.Dots.{Dots}
 use Rattle.describe.specs.declared.Rule.{Rule}
-use Rattle.describe.specs.Description.{termsOf}
-use Rattle.describe.specs.Dots.{asFixed, dotsOf}
+use Rattle.describe.specs.Description.{terms_of}
+use Rattle.describe.specs.Dots.{as_fixed, dots_of}
 use Rattle.abis.specs.Abis as abis
 use Rattle.abis.specs.Abis.{described}
 use Rattle.spend.specs.declared.Spent.{Spent}
 use Rattle.spend.specs.declared.Way.{Way}
 use Rattle.spend.specs.declared.Way.TheVariants.{Ignore, Direct, Pieces, Reference, Memory}
-use Rattle.stack_align.specs.InMemory.{inMemoryBy}
-use Rattle.stack_place.specs.Stacked.{most-stack, valueRounding, nowhere, noRoom, from, behind}
+use Rattle.stack_align.specs.InMemory.{in_memory_by}
+use Rattle.stack_place.specs.Stacked.{most_stack, value_rounding, nowhere, without_room, from, behind}
 use Rattle.classify.specs.declared.Call.{Call}
 use Rattle.classify.specs.declared.Answer.{Answer}
 use Rattle.classify.specs.Classify.{variadic}
-use Rattle.classify.specs.Stacking.{stackedOf}
+use Rattle.classify.specs.Stacking.{stacked_of}
 use Rattle.classify.specs.Answers as answers
-use Rattle.classify.specs.Answers.{Account, orAnswer, done, answerTo}
+use Rattle.classify.specs.Answers.{Account, or_answer, done, answer_to}
 use Rattle.classify.proofs.Accepted.{by_cases}
-use Rattle.ledger.specs.Ledger.{Operation, mark, return, argument, variadic-argument, answerFor, answersFrom, freshCall, callAfter}
-use Rattle.placement.specs.Back.{callNamed, UsualAlign, zero_is, one-is, twice, UsualArg, Usual, AllUsual, no_more, and_then}
+use Rattle.ledger.specs.Ledger.{Operation, mark, return, argument, variadic_argument, answer_for, answers_from, fresh_call, call_after}
+use Rattle.placement.specs.Back.{call_named, UsualAlign, zero_is, one_is, twice, UsualArg, Usual, AllUsual, no_more, and_then}
 
 -- ---- roundings
 
 -- an alignment below eight, or in eightbytes
 data Eighth : ℕ → Type 0 where
-  is-0 : Eighth 0
-  is-1 : Eighth 1
-  is-2 : Eighth 2
-  is-4 : Eighth 4
+  is_0 : Eighth 0
+  is_1 : Eighth 1
+  is_2 : Eighth 2
+  is_4 : Eighth 4
   eights : {n : ℕ} → n % 8 ≡ 0 → Eighth n
 
 doubled : (n : ℕ) → n % 8 ≡ 0 → (n + n) % 8 ≡ 0
 doubled n e = omega arith
 
-eighth-twice : {n : ℕ} → Eighth n → Eighth (n + n)
-eighth-twice is-0 = is-0
-eighth-twice is-1 = is-2
-eighth-twice is-2 = is-4
-eighth-twice is-4 = eights refl
-eighth-twice (eights {n = n} e) = eights (doubled n e)
+eighth_twice : {n : ℕ} → Eighth n → Eighth (n + n)
+eighth_twice is_0 = is_0
+eighth_twice is_1 = is_2
+eighth_twice is_2 = is_4
+eighth_twice is_4 = eights refl
+eighth_twice (eights {n = n} e) = eights (doubled n e)
 
 eighth : {n : ℕ} → UsualAlign n → Eighth n
-eighth zero_is = is-0
-eighth one-is = is-1
-eighth (twice u) = eighth-twice (eighth u)
+eighth zero_is = is_0
+eighth one_is = is_1
+eighth (twice u) = eighth_twice (eighth u)
 
-eight-at-least : {n : ℕ} → Eighth n → max n 8 % 8 ≡ 0
-eight-at-least is-0 = refl
-eight-at-least is-1 = refl
-eight-at-least is-2 = refl
-eight-at-least is-4 = refl
-eight-at-least (eights e) = omega (arith, e)
+eight_at_least : {n : ℕ} → Eighth n → max n 8 % 8 ≡ 0
+eight_at_least is_0 = refl
+eight_at_least is_1 = refl
+eight_at_least is_2 = refl
+eight_at_least is_4 = refl
+eight_at_least (eights e) = omega (arith, e)
 
-by_way : (way : Way) (own : ℕ) → own % 8 ≡ 0 → valueRounding way 8 own % 8 ≡ 0
+by_way : (way : Way) (own : ℕ) → own % 8 ≡ 0 → value_rounding way 8 own % 8 ≡ 0
 by_way Ignore own e = e
 by_way Direct own e = e
 by_way Pieces own e = e
@@ -75,19 +75,19 @@ by_way Memory own e = e
 
 -- ---- a place
 
-eight-times : (q r : ℕ) → r % 8 ≡ 0 → (q * r) % 8 ≡ 0
-eight-times q r e =
+eight_times : (q r : ℕ) → r % 8 ≡ 0 → (q * r) % 8 ≡ 0
+eight_times q r e =
     let d : r / 8 * 8 ≡ r = omega (arith, div-add-mod' r 8, e) in
     ap (λ (n : ℕ). (q * n) % 8) (sym d) ∙ ap (λ (n : ℕ). n % 8) (sym (mul_assoc q (r / 8) 8)) ∙ mul-mod_left (q * (r / 8)) 8
 
-behind-eights : (stack n rounding : ℕ) → stack % 8 ≡ 0 → n % 8 ≡ 0 → rounding % 8 ≡ 0 → (behind stack n rounding).next % 8 ≡ 0
-unfolding behind roundUp
-behind-eights stack n rounding es en er = go (eqb n 0) (ltb most-stack (roundUp stack rounding + n))
+behind_eights : (stack n rounding : ℕ) → stack % 8 ≡ 0 → n % 8 ≡ 0 → rounding % 8 ≡ 0 → (behind stack n rounding).next % 8 ≡ 0
+unfolding behind round_up
+behind_eights stack n rounding es en er = go (eqb n 0) (ltb most_stack (round_up stack rounding + n))
   where
-    start : roundUp stack rounding % 8 ≡ 0
-    start = eight-times _ rounding er
+    start : round_up stack rounding % 8 ≡ 0
+    start = eight_times _ rounding er
 
-    go : (x y : Bool) → (cond x (nowhere stack) (cond y (noRoom stack) (from (roundUp stack rounding) n))).next % 8 ≡ 0
+    go : (x y : Bool) → (cond x (nowhere stack) (cond y (without_room stack) (from (round_up stack rounding) n))).next % 8 ≡ 0
     go true y = es
     go false true = es
     go false false = omega (arith, start, en)
@@ -97,74 +97,74 @@ one_of_two : (x y : ℕ) → x % 8 ≡ 0 → 0 < x → y % 8 ≡ 0 → 0 < y →
 one_of_two x y ex px ey py true = omega arith
 one_of_two x y ex px ey py false = omega arith
 
-some-way : (way : Way) (own : ℕ) → 0 < own → 0 < valueRounding way 8 own
-some-way Ignore own p = p
-some-way Direct own p = p
-some-way Pieces own p = p
-some-way Reference own p = omega arith
-some-way Memory own p = p
+some_way : (way : Way) (own : ℕ) → 0 < own → 0 < value_rounding way 8 own
+some_way Ignore own p = p
+some_way Direct own p = p
+some_way Pieces own p = p
+some_way Reference own p = omega arith
+some_way Memory own p = p
 
-sixteen-or-eight : (b : Bool) → (cond b 16 8 % 8 ≡ 0) × (0 < cond b 16 8)
-sixteen-or-eight true = (refl, omega arith)
-sixteen-or-eight false = (refl, omega arith)
+sixteen_or_eight : (b : Bool) → (cond b 16 8 % 8 ≡ 0) × (0 < cond b 16 8)
+sixteen_or_eight true = (refl, omega arith)
+sixteen_or_eight false = (refl, omega arith)
 
-whole_words : (n : ℕ) → roundUp n 8 % 8 ≡ 0
-unfolding roundUp
+whole_words : (n : ℕ) → round_up n 8 % 8 ≡ 0
+unfolding round_up
 whole_words n = omega arith
 
-behind-none : (stack : ℕ) → stack % 8 ≡ 0 → (behind stack (roundUp 0 8) 1).next % 8 ≡ 0
-unfolding behind roundUp
-behind-none stack es = es
+behind_none : (stack : ℕ) → stack % 8 ≡ 0 → (behind stack (round_up 0 8) 1).next % 8 ≡ 0
+unfolding behind round_up
+behind_none stack es = es
 
 module _ (rules : List Rule) (returning : Bool) (dots : Dots) (fixed : dots.emptied ≡ false) (stack : ℕ) (es : stack % 8 ≡ 0) where
-  stacked-eights : (arg : Arg) → UsualArg arg → (ps : List Piece) (way : Way) (spent : Spent) (slots : ℕ)
-      → (stackedOf (termsOf (described 0)) rules returning dots stack arg ps way spent slots).next % 8 ≡ 0
-  unfolding abis.descriptions described stackedOf inMemoryBy
-  stacked-eights Void u ps way spent slots = behind-none stack es
-  stacked-eights (Scalar s) u ps way spent slots =
-      let own = sixteen-or-eight (eqb s.align 16) in
-      rw fixed (behind-eights stack _ _ es (whole_words _) (one_of_two 8 _ refl (omega arith) (by_way way _ own.0) (some-way way _ own.1) returning))
-  stacked-eights (Aggregate shape) u ps way spent slots =
+  stacked_eights : (arg : Arg) → UsualArg arg → (ps : List Piece) (way : Way) (spent : Spent) (slots : ℕ)
+      → (stacked_of (terms_of (described 0)) rules returning dots stack arg ps way spent slots).next % 8 ≡ 0
+  unfolding abis.descriptions described stacked_of in_memory_by
+  stacked_eights Void u ps way spent slots = behind_none stack es
+  stacked_eights (Scalar s) u ps way spent slots =
+      let own = sixteen_or_eight (eqb s.align 16) in
+      rw fixed (behind_eights stack _ _ es (whole_words _) (one_of_two 8 _ refl (omega arith) (by_way way _ own.0) (some_way way _ own.1) returning))
+  stacked_eights (Aggregate shape) u ps way spent slots =
       rw fixed
-      (behind-eights stack _ _ es (whole_words _)
-      (one_of_two 8 _ refl (omega arith) (by_way way (max shape.align 8) (eight-at-least (eighth u))) (some-way way (max shape.align 8) (omega arith)) returning))
+      (behind_eights stack _ _ es (whole_words _)
+      (one_of_two 8 _ refl (omega arith) (by_way way (max shape.align 8) (eight_at_least (eighth u))) (some_way way (max shape.align 8) (omega arith)) returning))
 
 -- ---- an operation, and all of a history
 
 record Kept (a : Answer) : Type 0 where
   row : a.next.abi ≡ 0
-  eights-are : a.next.stack % 8 ≡ 0
+  eights_are : a.next.stack % 8 ≡ 0
 
-answer-kept : (checks : ℕ) (c : Call) (account : Account) (out : List ℕ) → c.abi ≡ 0 → c.stack % 8 ≡ 0 → account.placed.next % 8 ≡ 0 → Kept (answerTo checks c account out)
-answer-kept checks c account out row es ep =
-    by_cases checks c account out (λ (a : Answer) (words : List ℕ). Kept a) (λ n e. record { row = row; eights-are = es }) (λ z h s. record { row = row; eights-are = ep })
+answer_kept : (checks : ℕ) (c : Call) (account : Account) (out : List ℕ) → c.abi ≡ 0 → c.stack % 8 ≡ 0 → account.placed.next % 8 ≡ 0 → Kept (answer_to checks c account out)
+answer_kept checks c account out row es ep =
+    by_cases checks c account out (λ (a : Answer) (words : List ℕ). Kept a) (λ n e. record { row = row; eights_are = es }) (λ z h s. record { row = row; eights_are = ep })
 
-mark-kept : (n : ℕ) (c next : Call) → c.abi ≡ 0 → c.stack % 8 ≡ 0 → next.abi ≡ 0 → next.stack % 8 ≡ 0 → Kept (orAnswer n c (done next))
-mark-kept zero c next row es row' en = record { row = row'; eights-are = en }
-mark-kept (suc n) c next row es row' en = record { row = row; eights-are = es }
+mark_kept : (n : ℕ) (c next : Call) → c.abi ≡ 0 → c.stack % 8 ≡ 0 → next.abi ≡ 0 → next.stack % 8 ≡ 0 → Kept (or_answer n c (done next))
+mark_kept zero c next row es row' en = record { row = row'; eights_are = en }
+mark_kept (suc n) c next row es row' en = record { row = row; eights_are = es }
 
-as-fixed : (dotsOf (described 0).variadic).emptied ≡ false
+as_fixed_lem : (dots_of (described 0).variadic).emptied ≡ false
 unfolding abis.descriptions described
-as-fixed = refl
+as_fixed_lem = refl
 
-operation-kept : (op : Operation) (c : Call) → c.abi ≡ 0 → c.stack % 8 ≡ 0 → Usual op → Kept (answerFor op c)
-unfolding answers.variadicAnswer answers.variadicAnswerBy answers.returnsAnswer answers.returnsAnswerBy answers.returnsAccount answers.argumentAnswer answers.argumentAnswerBy answers.argumentAccount answers.variadicArgumentAnswer answers.variadicArgumentAnswerBy answers.variadicArgumentAccount
-operation-kept mark c row es u =
-    mark-kept (answers.callRefusalBy (answers.rowRefusal c.abi) (described c.abi) c) c (answers.callWith c.abi (variadic (described c.abi) c.left) c.stack) row es row es
-operation-kept (return arg words out) c row es u =
-    answer-kept _ c _ out row es (rw row (stacked-eights _ true asFixed refl c.stack es arg u (pieces_of words) _ _ _))
-operation-kept (argument arg words out) c row es u =
-    answer-kept _ c _ out row es (rw row (stacked-eights _ false asFixed refl c.stack es arg u (pieces_of words) _ _ _))
-operation-kept (variadic-argument arg words out) c row es u =
-    answer-kept _ c _ out row es (rw row (stacked-eights _ false (dotsOf (described 0).variadic) as-fixed c.stack es arg u (pieces_of words) _ _ _))
+operation_kept : (op : Operation) (c : Call) → c.abi ≡ 0 → c.stack % 8 ≡ 0 → Usual op → Kept (answer_for op c)
+unfolding answers.variadic_answer answers.variadic_answer_by answers.returns_answer answers.returns_answer_by answers.returns_account answers.argument_answer answers.argument_answer_by answers.argument_account answers.variadic_argument_answer answers.variadic_argument_answer_by answers.variadic_argument_account
+operation_kept mark c row es u =
+    mark_kept (answers.call_refusal_by (answers.row_refusal c.abi) (described c.abi) c) c (answers.call_with c.abi (variadic (described c.abi) c.left) c.stack) row es row es
+operation_kept (return arg words out) c row es u =
+    answer_kept _ c _ out row es (rw row (stacked_eights _ true as_fixed refl c.stack es arg u (pieces_of words) _ _ _))
+operation_kept (argument arg words out) c row es u =
+    answer_kept _ c _ out row es (rw row (stacked_eights _ false as_fixed refl c.stack es arg u (pieces_of words) _ _ _))
+operation_kept (variadic_argument arg words out) c row es u =
+    answer_kept _ c _ out row es (rw row (stacked_eights _ false (dots_of (described 0).variadic) as_fixed_lem c.stack es arg u (pieces_of words) _ _ _))
 
-all-kept : (ops : List Operation) (c : Call) → c.abi ≡ 0 → c.stack % 8 ≡ 0 → AllUsual ops → (callAfter c (answersFrom c ops)).stack % 8 ≡ 0
-unfolding answersFrom callAfter
-all-kept [] c row es no_more = es
-all-kept (op ∷ ops) c row es (and_then u us) =
-    let k = operation-kept op c row es u in
-    all-kept ops (answerFor op c).next k.row k.eights-are us
+all_kept : (ops : List Operation) (c : Call) → c.abi ≡ 0 → c.stack % 8 ≡ 0 → AllUsual ops → (call_after c (answers_from c ops)).stack % 8 ≡ 0
+unfolding answers_from call_after
+all_kept [] c row es no_more = es
+all_kept (op ∷ ops) c row es (and_then u us) =
+    let k = operation_kept op c row es u in
+    all_kept ops (answer_for op c).next k.row k.eights_are us
 
-pub named-eights : (ops : List Operation) → AllUsual ops → (callNamed ops).stack % 8 ≡ 0
-unfolding answers.freshAnswer
-named-eights ops us = all-kept ops (freshCall 0) refl refl us
+pub named_eights : (ops : List Operation) → AllUsual ops → (call_named ops).stack % 8 ≡ 0
+unfolding answers.fresh_answer
+named_eights ops us = all_kept ops (fresh_call 0) refl refl us

@@ -5,10 +5,10 @@ use Rattle.shape.specs.declared.Arg.TheVariants.{Scalar}
 use Rattle.shape.specs.declared.Scalar as scalars
 use Rattle.shape.specs.Words.{put_at}
 use Rattle.abis.specs.Abis.{described}
-use Rattle.stack_place.specs.Stacked.{most-stack}
+use Rattle.stack_place.specs.Stacked.{most_stack}
 use Rattle.classify.specs.declared.Call.{Call}
 use Rattle.classify.specs.declared.Answer.{Answer}
-use Rattle.classify.specs.Answers.{variadicArgumentAnswer}
+use Rattle.classify.specs.Answers.{variadic_argument_answer}
 use Rattle.ledger.specs.Ledger.{Bank, integers, floats, is_refused, run_of, given}
 
 -- ---- the machine
@@ -33,7 +33,7 @@ pub data Registers (bytes : ℕ) : ℕ → List Register → Type 0 where
 pub record Whole (m : Machine) : Type 0 where
   pub six : Registers 8 6 m.integers
   pub eight : Registers 16 8 m.floats
-  pub within : length m.area ≤ most-stack
+  pub within : length m.area ≤ most_stack
 
 -- ---- what is placed
 
@@ -50,44 +50,44 @@ pub record State : Type 0 where
 -- ---- registers
 
 -- bytes go to the front of a register, and the bytes behind them stay
-unfoldable pub toFront : List Register → ℕ → List ℕ → List Register
-toFront registers r bytes = set registers r (put_at (get_or registers r []) 0 bytes)
+unfoldable pub to_front : List Register → ℕ → List ℕ → List Register
+to_front registers r bytes = set registers r (put_at (get_or registers r []) 0 bytes)
 
 -- bytes 8k to 8k + 7 of a value go to the front of the k-th of so many registers, from r on
 unfoldable pub spread : ℕ → ℕ → List ℕ → List Register → List Register
 spread zero r bytes registers = registers
-spread (suc n) r bytes registers = spread n (suc r) (drop 8 bytes) (toFront registers r (take 8 bytes))
+spread (suc n) r bytes registers = spread n (suc r) (drop 8 bytes) (to_front registers r (take 8 bytes))
 
 -- the first register that an answer gave: those of its run that are passed over come before it (REFERENCE 10)
-abbrev pub firstGiven : Bank → Call → Answer → ℕ
-firstGiven b c a = (run_of b (described 0).banks c a).first + (run_of b (described 0).banks c a).passes
+abbrev pub first_given : Bank → Call → Answer → ℕ
+first_given b c a = (run_of b (described 0).banks c a).first + (run_of b (described 0).banks c a).passes
 
 -- ---- a value is placed, by the answer that the classifier gave
 
-abbrev pub placedInIntegers : Answer → State → Value → State
-placedInIntegers a st v =
+abbrev pub placed_in_integers : Answer → State → Value → State
+placed_in_integers a st v =
     record {
       machine = record {
-        integers = spread (given integers a) (firstGiven integers st.call a) v.bytes st.machine.integers;
+        integers = spread (given integers a) (first_given integers st.call a) v.bytes st.machine.integers;
         floats = st.machine.floats;
         area = st.machine.area;
       };
       call = a.next;
     }
 
-abbrev pub placedInFloats : Answer → State → Value → State
-placedInFloats a st v =
+abbrev pub placed_in_floats : Answer → State → Value → State
+placed_in_floats a st v =
     record {
       machine = record {
         integers = st.machine.integers;
-        floats = toFront st.machine.floats (firstGiven floats st.call a) v.bytes;
+        floats = to_front st.machine.floats (first_given floats st.call a) v.bytes;
         area = st.machine.area;
       };
       call = a.next;
     }
 
-abbrev pub placedOnStack : Answer → State → Value → State
-placedOnStack a st v =
+abbrev pub placed_on_stack : Answer → State → Value → State
+placed_on_stack a st v =
     record {
       machine = record {
         integers = st.machine.integers;
@@ -99,21 +99,21 @@ placedOnStack a st v =
 
 -- in the integer registers that it was given, in the float register, or, given nothing in either bank, on the stack, where the answer says; what is
 -- refused isn't placed
-unfoldable pub placedBy : Answer → State → Value → State
-placedBy a st v =
+unfoldable pub placed_by : Answer → State → Value → State
+placed_by a st v =
     cond (is_refused a) st
-    (cond (ltb 0 (given integers a)) (placedInIntegers a st v) (cond (ltb 0 (given floats a)) (placedInFloats a st v) (placedOnStack a st v)))
+    (cond (ltb 0 (given integers a)) (placed_in_integers a st v) (cond (ltb 0 (given floats a)) (placed_in_floats a st v) (placed_on_stack a st v)))
 
 -- what the classifier answers about an argument after the dots
-abbrev pub behindDots : Call → scalars.Scalar → Answer
-behindDots c s = variadicArgumentAnswer c (Scalar s) [] []
+abbrev pub behind_dots : Call → scalars.Scalar → Answer
+behind_dots c s = variadic_argument_answer c (Scalar s) [] []
 
 abbrev pub place : State → Value → State
-place st v = placedBy (behindDots st.call v.scalar) st v
+place st v = placed_by (behind_dots st.call v.scalar) st v
 
-unfoldable pub placeAll : State → List Value → State
-placeAll st [] = st
-placeAll st (v ∷ vs) = placeAll (place st v) vs
+unfoldable pub place_all : State → List Value → State
+place_all st [] = st
+place_all st (v ∷ vs) = place_all (place st v) vs
 
 -- ---- the prologue: one register behind the other, so integer register k at 8k of the save area, and float register k at 48 + 16k
 

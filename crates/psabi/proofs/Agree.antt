@@ -14,14 +14,14 @@ use Rattle.shape.proofs.Bools.{both_true, both_false}
 use Rattle.shape.specs.declared.Piece.{Piece}
 use Rattle.shape.specs.Lists.{any}
 use Rattle.eightbytes.specs.Class as ours
-use Rattle.eightbytes.specs.Class.{None, kindClass, later}
+use Rattle.eightbytes.specs.Class.{None, kind_class, later}
 use Rattle.eightbytes.specs.Eightbytes.{mark}
 use Rattle.eightbytes.specs.Reach.{first_of}
-use Rattle.eightbytes.proofs.Marks.{mark-length}
-use Rattle.eightbytes.proofs.At.{mark-below, mark-past, mark-first, mark-later, markAll}
-use Rattle.psabi.specs.Psabi.{Class, INTEGER, SSE, SSEUP, X87, X87UP, COMPLEX-X87, NO-CLASS, MEMORY, low_of, high_of, merge, liesIn, fieldClass, mergedIn, classesFrom}
-use Rattle.psabi.specs.Domain.{isX87Piece, x87In}
-use Rattle.psabi.proofs.Clauses.{Usual, int1, int2, int4, int8, int16, single4, double8, x87-16, quad16, Each, done, more}
+use Rattle.eightbytes.proofs.Marks.{mark_length}
+use Rattle.eightbytes.proofs.At.{mark_below, mark_past, mark_first, mark_later, mark_all}
+use Rattle.psabi.specs.Psabi.{Class, INTEGER, SSE, SSEUP, X87, X87UP, COMPLEX-X87, NO-CLASS, MEMORY, low_of, high_of, merge, lies_in, field_class, merged_in, classes_from}
+use Rattle.psabi.specs.Domain.{is_x87_piece, x87_in}
+use Rattle.psabi.proofs.Clauses.{Usual, int1, int2, int4, int8, int16, single4, double8, x87_16, quad16, Each, done, more}
 
 -- the classifier's class for one of the psABI's
 unfoldable pub rep : Class → ours.Class
@@ -40,20 +40,20 @@ pub record Ready (p : Piece) : Type 0 where
   pub at_size : p.offset % p.size ≡ 0
   pub small : p.offset + p.size ≤ 16
 
-pub usual-pos : {k s : ℕ} → Usual k s → 0 < s
-usual-pos int1 = omega arith
-usual-pos int2 = omega arith
-usual-pos int4 = omega arith
-usual-pos int8 = omega arith
-usual-pos int16 = omega arith
-usual-pos single4 = omega arith
-usual-pos double8 = omega arith
-usual-pos x87-16 = omega arith
-usual-pos quad16 = omega arith
+pub usual_pos : {k s : ℕ} → Usual k s → 0 < s
+usual_pos int1 = omega arith
+usual_pos int2 = omega arith
+usual_pos int4 = omega arith
+usual_pos int8 = omega arith
+usual_pos int16 = omega arith
+usual_pos single4 = omega arith
+usual_pos double8 = omega arith
+usual_pos x87_16 = omega arith
+usual_pos quad16 = omega arith
 
 -- ---- one piece at one eightbyte
 
-lower : {k s : ℕ} → Usual k s → kindClass k ≡ rep (low_of k)
+lower : {k s : ℕ} → Usual k s → kind_class k ≡ rep (low_of k)
 unfolding rep low_of
 lower int1 = refl
 lower int2 = refl
@@ -62,11 +62,11 @@ lower int8 = refl
 lower int16 = refl
 lower single4 = refl
 lower double8 = refl
-lower x87-16 = refl
+lower x87_16 = refl
 lower quad16 = refl
 
 -- a piece that runs from below an eightbyte into it is wider than eight bytes
-upper : {k s : ℕ} → Usual k s → (o n : ℕ) → o % s ≡ 0 → o < 8 * n → 8 * n < o + s → later (kindClass k) ≡ rep (high_of k)
+upper : {k s : ℕ} → Usual k s → (o n : ℕ) → o % s ≡ 0 → o < 8 * n → 8 * n < o + s → later (kind_class k) ≡ rep (high_of k)
 unfolding rep high_of ours.same ours.code
 upper int1 o n e a b = refl
 upper int2 o n e a b = refl
@@ -75,15 +75,15 @@ upper int8 o n e a b = refl
 upper int16 o n e a b = refl
 upper single4 o n e a b = absurd (omega arith)
 upper double8 o n e a b = absurd (omega arith)
-upper x87-16 o n e a b = refl
+upper x87_16 o n e a b = refl
 upper quad16 o n e a b = refl
 
 module _ (cs : List ours.Class) (p : Piece) (k : ℕ) (r : Ready p) where
   pos : 0 < p.size
-  pos = usual-pos r.usual
+  pos = usual_pos r.usual
 
-  lies-yes : k < length cs → liesIn p k ≡ true → get_or (mark cs p) k None ≡ ours.merge (get_or cs k None) (rep (fieldClass p k))
-  lies-yes l t = go (ltb p.offset (8 * k)) refl
+  lies_yes : k < length cs → lies_in p k ≡ true → get_or (mark cs p) k None ≡ ours.merge (get_or cs k None) (rep (field_class p k))
+  lies_yes l t = go (ltb p.offset (8 * k)) refl
     where
       ab : (ltb p.offset (8 * k + 8) ≡ true) × (ltb (8 * k) (p.offset + p.size) ≡ true)
       ab = both_true (ltb p.offset (8 * k + 8)) (ltb (8 * k) (p.offset + p.size)) t
@@ -99,23 +99,23 @@ module _ (cs : List ours.Class) (p : Piece) (k : ℕ) (r : Ready p) where
       go true e =
           let c : p.offset < 8 * k = ltb-true _ _ e in
           let s : p.offset + p.size ≤ 16 = r.small in
-          mark-later cs p k (omega (arith, pos)) (omega (arith, pos, b)) l ∙ ap (ours.merge (get_or cs k None)) (upper r.usual p.offset k r.at_size c b)
+          mark_later cs p k (omega (arith, pos)) (omega (arith, pos, b)) l ∙ ap (ours.merge (get_or cs k None)) (upper r.usual p.offset k r.at_size c b)
       go false e =
           let c : 8 * k ≤ p.offset = ltb-false _ _ e in
           let s : p.offset + p.size ≤ 16 = r.small in
           let q : first_of p ≡ k = omega (arith, a) in
-          let m : get_or (mark cs p) (first_of p) None ≡ ours.merge (get_or cs (first_of p) None) (kindClass p.kind) = mark-first cs p (omega (arith, pos)) (omega (arith, a)) in
-          subst (λ n. get_or (mark cs p) n None ≡ ours.merge (get_or cs n None) (kindClass p.kind)) q m ∙ ap (ours.merge (get_or cs k None)) (lower r.usual)
+          let m : get_or (mark cs p) (first_of p) None ≡ ours.merge (get_or cs (first_of p) None) (kind_class p.kind) = mark_first cs p (omega (arith, pos)) (omega (arith, a)) in
+          subst (λ n. get_or (mark cs p) n None ≡ ours.merge (get_or cs n None) (kind_class p.kind)) q m ∙ ap (ours.merge (get_or cs k None)) (lower r.usual)
 
-  lies-no : liesIn p k ≡ false → get_or (mark cs p) k None ≡ get_or cs k None
-  lies-no t = go (dec_le (p.offset + p.size) (8 * k)) (dec_le (8 * k + 8) p.offset)
+  lies_no : lies_in p k ≡ false → get_or (mark cs p) k None ≡ get_or cs k None
+  lies_no t = go (dec_le (p.offset + p.size) (8 * k)) (dec_le (8 * k + 8) p.offset)
     where
       s : p.offset + p.size ≤ 16
       s = r.small
 
       go : Dec (p.offset + p.size ≤ 8 * k) → Dec (8 * k + 8 ≤ p.offset) → get_or (mark cs p) k None ≡ get_or cs k None
-      go x (yes f) = mark-below cs p k (omega (arith, s))
-      go (yes e) (no f) = mark-past cs p k (omega (arith, pos)) (omega (arith, pos, s))
+      go x (yes f) = mark_below cs p k (omega (arith, s))
+      go (yes e) (no f) = mark_past cs p k (omega (arith, pos)) (omega (arith, pos, s))
       go (no e) (no f) = absurd (true≢false (sym (rw (lt-ltb p.offset (8 * k + 8) (omega arith), lt-ltb (8 * k) (p.offset + p.size) (omega arith)) refl) ∙ t))
 
 -- ---- all pieces at one eightbyte
@@ -127,98 +127,98 @@ pub data Plain : Class → Type 0 where
   vec : Plain SSE
   up : Plain SSEUP
 
-same-merge : {a b : Class} → Plain a → Plain b → (ours.merge (rep a) (rep b) ≡ rep (merge a b)) × Plain (merge a b)
+same_merge : {a b : Class} → Plain a → Plain b → (ours.merge (rep a) (rep b) ≡ rep (merge a b)) × Plain (merge a b)
 unfolding rep merge ours.merge ours.same ours.code
-same-merge blank blank = (refl, blank)
-same-merge blank int = (refl, int)
-same-merge blank vec = (refl, vec)
-same-merge blank up = (refl, up)
-same-merge int blank = (refl, int)
-same-merge int int = (refl, int)
-same-merge int vec = (refl, int)
-same-merge int up = (refl, int)
-same-merge vec blank = (refl, vec)
-same-merge vec int = (refl, int)
-same-merge vec vec = (refl, vec)
-same-merge vec up = (refl, vec)
-same-merge up blank = (refl, up)
-same-merge up int = (refl, int)
-same-merge up vec = (refl, vec)
-same-merge up up = (refl, up)
+same_merge blank blank = (refl, blank)
+same_merge blank int = (refl, int)
+same_merge blank vec = (refl, vec)
+same_merge blank up = (refl, up)
+same_merge int blank = (refl, int)
+same_merge int int = (refl, int)
+same_merge int vec = (refl, int)
+same_merge int up = (refl, int)
+same_merge vec blank = (refl, vec)
+same_merge vec int = (refl, int)
+same_merge vec vec = (refl, vec)
+same_merge vec up = (refl, vec)
+same_merge up blank = (refl, up)
+same_merge up int = (refl, int)
+same_merge up vec = (refl, vec)
+same_merge up up = (refl, up)
 
-pub cond-in : (P : Class → Type 0) (t : Bool) (a b : Class) → P a → P b → P (cond t a b)
-cond-in P true a b x y = x
-cond-in P false a b x y = y
+pub cond_in : (P : Class → Type 0) (t : Bool) (a b : Class) → P a → P b → P (cond t a b)
+cond_in P true a b x y = x
+cond_in P false a b x y = y
 
-plain-half : (k : ℕ) (u : Bool) → eqb k 3 ≡ false → Plain (cond u (high_of k) (low_of k))
+plain_half : (k : ℕ) (u : Bool) → eqb k 3 ≡ false → Plain (cond u (high_of k) (low_of k))
 unfolding high_of low_of
-plain-half k u e =
-    rw e (cond-in Plain u _ _ (cond-in Plain (eqb k 0) _ _ int (cond-in Plain (eqb k 4) _ _ up vec)) (cond-in Plain (eqb k 0) _ _ int vec))
+plain_half k u e =
+    rw e (cond_in Plain u _ _ (cond_in Plain (eqb k 0) _ _ int (cond_in Plain (eqb k 4) _ _ up vec)) (cond_in Plain (eqb k 0) _ _ int vec))
 
 pub and-false : (a b : Bool) → a && b ≡ false → b ≡ true → a ≡ false
 and-false true b h t = absurd (true≢false (sym t ∙ h))
 and-false false b h t = refl
 
 -- no X87 piece lies in it
-pub plain-agrees : (ps : List Piece) (cs : List ours.Class) (c : Class) (k : ℕ) → Each Ready ps → k < length cs → any (λ p. x87In p k) ps ≡ false → Plain c
-    → get_or cs k None ≡ rep c → (get_or (markAll cs ps) k None ≡ rep (mergedIn c ps k)) × Plain (mergedIn c ps k)
-unfolding markAll mergedIn any
-plain-agrees [] cs c k done l x pl e = (e, pl)
-plain-agrees (p ∷ ps) cs c k (more r rs) l x pl e = go (λ d. plain-agrees ps (mark cs p) d k rs long (both_false (x87In p k) _ x).1) (liesIn p k) refl
+pub plain_agrees : (ps : List Piece) (cs : List ours.Class) (c : Class) (k : ℕ) → Each Ready ps → k < length cs → any (λ p. x87_in p k) ps ≡ false → Plain c
+    → get_or cs k None ≡ rep c → (get_or (mark_all cs ps) k None ≡ rep (merged_in c ps k)) × Plain (merged_in c ps k)
+unfolding mark_all merged_in any
+plain_agrees [] cs c k done l x pl e = (e, pl)
+plain_agrees (p ∷ ps) cs c k (more r rs) l x pl e = go (λ d. plain_agrees ps (mark cs p) d k rs long (both_false (x87_in p k) _ x).1) (lies_in p k) refl
   where
     long : k < length (mark cs p)
-    long = rw (mark-length cs p) l
+    long = rw (mark_length cs p) l
 
     b : Class
-    b = fieldClass p k
+    b = field_class p k
 
-    go : ((d : Class) → Plain d → get_or (mark cs p) k None ≡ rep d → (get_or (markAll (mark cs p) ps) k None ≡ rep (mergedIn d ps k)) × Plain (mergedIn d ps k))
-        → (t : Bool) → liesIn p k ≡ t
-        → (get_or (markAll (mark cs p) ps) k None ≡ rep (mergedIn (cond t (merge c b) c) ps k)) × Plain (mergedIn (cond t (merge c b) c) ps k)
+    go : ((d : Class) → Plain d → get_or (mark cs p) k None ≡ rep d → (get_or (mark_all (mark cs p) ps) k None ≡ rep (merged_in d ps k)) × Plain (merged_in d ps k))
+        → (t : Bool) → lies_in p k ≡ t
+        → (get_or (mark_all (mark cs p) ps) k None ≡ rep (merged_in (cond t (merge c b) c) ps k)) × Plain (merged_in (cond t (merge c b) c) ps k)
     go ih true t =
-        let x' : isX87Piece p ≡ false = and-false (isX87Piece p) (liesIn p k) (both_false (x87In p k) _ x).0 t in
-        let m = same-merge pl (plain-half p.kind (ltb p.offset (8 * k)) x') in
-        ih (merge c b) m.1 (lies-yes cs p k r l t ∙ ap (λ z. ours.merge z (rep b)) e ∙ m.0)
-    go ih false t = ih c pl (lies-no cs p k r t ∙ e)
+        let x' : is_x87_piece p ≡ false = and-false (is_x87_piece p) (lies_in p k) (both_false (x87_in p k) _ x).0 t in
+        let m = same_merge pl (plain_half p.kind (ltb p.offset (8 * k)) x') in
+        ih (merge c b) m.1 (lies_yes cs p k r l t ∙ ap (λ z. ours.merge z (rep b)) e ∙ m.0)
+    go ih false t = ih c pl (lies_no cs p k r t ∙ e)
 
 -- ---- all eightbytes of a shape without an X87 piece
 
 -- no X87 piece: none lies anywhere
-nowhere : (ps : List Piece) (k : ℕ) → any isX87Piece ps ≡ false → any (λ p. x87In p k) ps ≡ false
+nowhere : (ps : List Piece) (k : ℕ) → any is_x87_piece ps ≡ false → any (λ p. x87_in p k) ps ≡ false
 unfolding any
 nowhere [] k h = refl
-nowhere (p ∷ ps) k h = let e : isX87Piece p ≡ false = (both_false (isX87Piece p) _ h).0 in rw (e, nowhere ps k (both_false (isX87Piece p) _ h).1)
+nowhere (p ∷ ps) k h = let e : is_x87_piece p ≡ false = (both_false (is_x87_piece p) _ h).0 in rw (e, nowhere ps k (both_false (is_x87_piece p) _ h).1)
 
-classes-at : (ps : List Piece) (k n j : ℕ) → j < n → get_or (classesFrom ps k n) j NO-CLASS ≡ mergedIn NO-CLASS ps (k + j)
-unfolding classesFrom
-classes-at ps k zero j h = absurd (omega arith)
-classes-at ps k (suc n) zero h = let e : k + 0 ≡ k = omega arith in rw e
-classes-at ps k (suc n) (suc j) h = let e : k + 1 + j ≡ k + suc j = omega arith in classes-at ps (k + 1) n j (omega arith) ∙ ap (mergedIn NO-CLASS ps) e
+classes_at : (ps : List Piece) (k n j : ℕ) → j < n → get_or (classes_from ps k n) j NO-CLASS ≡ merged_in NO-CLASS ps (k + j)
+unfolding classes_from
+classes_at ps k zero j h = absurd (omega arith)
+classes_at ps k (suc n) zero h = let e : k + 0 ≡ k = omega arith in rw e
+classes_at ps k (suc n) (suc j) h = let e : k + 1 + j ≡ k + suc j = omega arith in classes_at ps (k + 1) n j (omega arith) ∙ ap (merged_in NO-CLASS ps) e
 
-pub classes-length : (ps : List Piece) (k n : ℕ) → length (classesFrom ps k n) ≡ n
-unfolding classesFrom
-classes-length ps k zero = refl
-classes-length ps k (suc n) = ap suc (classes-length ps (k + 1) n)
+pub classes_length : (ps : List Piece) (k n : ℕ) → length (classes_from ps k n) ≡ n
+unfolding classes_from
+classes_length ps k zero = refl
+classes_length ps k (suc n) = ap suc (classes_length ps (k + 1) n)
 
-mark-all-length : (cs : List ours.Class) (ps : List Piece) → length (markAll cs ps) ≡ length cs
-unfolding markAll
-mark-all-length cs [] = refl
-mark-all-length cs (p ∷ ps) = mark-all-length (mark cs p) ps ∙ mark-length cs p
+mark_all_length : (cs : List ours.Class) (ps : List Piece) → length (mark_all cs ps) ≡ length cs
+unfolding mark_all
+mark_all_length cs [] = refl
+mark_all_length cs (p ∷ ps) = mark_all_length (mark cs p) ps ∙ mark_length cs p
 
-module _ (ps : List Piece) (n : ℕ) (rs : Each Ready ps) (x : any isX87Piece ps ≡ false) where
-  at : (k : ℕ) → k < n → (get_or (markAll (replicate n None) ps) k None ≡ rep (mergedIn NO-CLASS ps k)) × Plain (mergedIn NO-CLASS ps k)
+module _ (ps : List Piece) (n : ℕ) (rs : Each Ready ps) (x : any is_x87_piece ps ≡ false) where
+  at : (k : ℕ) → k < n → (get_or (mark_all (replicate n None) ps) k None ≡ rep (merged_in NO-CLASS ps k)) × Plain (merged_in NO-CLASS ps k)
   unfolding rep
-  at k h = plain-agrees ps (replicate n None) NO-CLASS k rs (rw (length-replicate n None) h) (nowhere ps k x) blank (get_or-replicate n k None None h)
+  at k h = plain_agrees ps (replicate n None) NO-CLASS k rs (rw (length-replicate n None) h) (nowhere ps k x) blank (get_or-replicate n k None None h)
 
-  pub plain_at : (k : ℕ) → k < n → Plain (mergedIn NO-CLASS ps k)
+  pub plain_at : (k : ℕ) → k < n → Plain (merged_in NO-CLASS ps k)
   plain_at k h = (at k h).1
 
-  pub classes-agree : markAll (replicate n None) ps ≡ map rep (classesFrom ps 0 n)
+  pub classes_agree : mark_all (replicate n None) ps ≡ map rep (classes_from ps 0 n)
   unfolding rep
-  classes-agree =
-      let l : length (markAll (replicate n None) ps) ≡ n = mark-all-length (replicate n None) ps ∙ length-replicate n None in
-      ext_get_or None _ _ (l ∙ sym (length-map (classesFrom ps 0 n) rep ∙ classes-length ps 0 n))
+  classes_agree =
+      let l : length (mark_all (replicate n None) ps) ≡ n = mark_all_length (replicate n None) ps ∙ length-replicate n None in
+      ext_get_or None _ _ (l ∙ sym (length-map (classes_from ps 0 n) rep ∙ classes_length ps 0 n))
       (λ k h.
       let b : k < n = omega arith in
       let e : 0 + k ≡ k = omega arith in
-      (at k b).0 ∙ sym (get_or-map rep (classesFrom ps 0 n) k NO-CLASS ∙ ap rep (classes-at ps 0 n k b ∙ ap (mergedIn NO-CLASS ps) e)))
+      (at k b).0 ∙ sym (get_or-map rep (classes_from ps 0 n) k NO-CLASS ∙ ap rep (classes_at ps 0 n k b ∙ ap (merged_in NO-CLASS ps) e)))

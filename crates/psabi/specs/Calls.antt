@@ -8,9 +8,9 @@ use Rattle.shape.specs.declared.Shape.{Shape}
 use Rattle.abis.specs.Abis.{described}
 use Rattle.spend.specs.declared.Left.{Left}
 use Rattle.classify.specs.Classify.{Passed, call, argument, returns}
-use Rattle.psabi.specs.Psabi.{Free, free, argumentGenerals, argumentVectors, Travels, in_registers, on_stack, by_address, psabiArgument, psabiResult}
+use Rattle.psabi.specs.Psabi.{Free, free, argument_generals, argument_vectors, Travels, in_registers, on_stack, by_address, psabi_argument, psabi_result}
 use Rattle.psabi.specs.Domain.{Domain}
-use Rattle.psabi.specs.Reading.{readArgument, readResult}
+use Rattle.psabi.specs.Reading.{read_argument, read_result}
 
 pub record Value : Type 0 where
   pub shape : Shape
@@ -28,26 +28,26 @@ afterwards (in_registers ps left) = left
 afterwards (on_stack left) = left
 afterwards (by_address r left) = left
 
-unfoldable pub psabiArguments : Free → List Value → List Travels
-psabiArguments before [] = []
-psabiArguments before (v ∷ vs) =
-    let t : Travels = psabiArgument before v.shape.size v.pieces in
-    t ∷ psabiArguments (afterwards t) vs
+unfoldable pub psabi_arguments : Free → List Value → List Travels
+psabi_arguments before [] = []
+psabi_arguments before (v ∷ vs) =
+    let t : Travels = psabi_argument before v.shape.size v.pieces in
+    t ∷ psabi_arguments (afterwards t) vs
 
-unfoldable pub psabiCall : Value → List Value → List Travels
-psabiCall result vs =
-    let t : Travels = psabiResult (free argumentGenerals argumentVectors) result.shape.size result.pieces in
-    t ∷ psabiArguments (afterwards t) vs
+unfoldable pub psabi_call : Value → List Value → List Travels
+psabi_call result vs =
+    let t : Travels = psabi_result (free argument_generals argument_vectors) result.shape.size result.pieces in
+    t ∷ psabi_arguments (afterwards t) vs
 
 -- ---- row 0's
 
-unfoldable pub rowArguments : Left → List Value → List (Option Travels)
-rowArguments left [] = []
-rowArguments left (v ∷ vs) =
+unfoldable pub row_arguments : Left → List Value → List (Option Travels)
+row_arguments left [] = []
+row_arguments left (v ∷ vs) =
     let p : Passed = argument (described 0) left (Aggregate v.shape) v.pieces in
-    readArgument left p ∷ rowArguments p.left vs
+    read_argument left p ∷ row_arguments p.left vs
 
-unfoldable pub rowCall : Value → List Value → List (Option Travels)
-rowCall result vs =
+unfoldable pub row_call : Value → List Value → List (Option Travels)
+row_call result vs =
     let p : Passed = returns (described 0) (call (described 0)) (Aggregate result.shape) result.pieces in
-    readResult (call (described 0)) p ∷ rowArguments p.left vs
+    read_result (call (described 0)) p ∷ row_arguments p.left vs

@@ -4,7 +4,7 @@ use Rattle.std.specs.Prelude.{ℕ, zero, suc, ◌+◌, ◌*◌, ◌/◌, ◌%◌
 use Rattle.std.proofs.Math.Option.{Option}
 use Rattle.std.proofs.Math.Option.Option.{none, some}
 use Rattle.shape.specs.declared.Piece.{Piece}
-use Rattle.shape.specs.Numbers.{integer, x87-extended, quad}
+use Rattle.shape.specs.Numbers.{integer, x87_extended, quad}
 
 -- ---- the classes of an eightbyte
 
@@ -28,28 +28,28 @@ is c d = eqb (number c) (number d)
 abbrev pub either : Class → Class → Class → Bool
 either c a b = is c a || is c b
 
-abbrev pub isX87 : Class → Bool
-isX87 c = (is X87 c || is X87UP c) || is COMPLEX-X87 c
+abbrev pub is_x87 : Class → Bool
+is_x87 c = (is X87 c || is X87UP c) || is COMPLEX-X87 c
 
 -- ---- basic types: the class of the low eightbyte, and of the high one
 
 -- integers, __int128 too: INTEGER. float, double: SSE. __float128: SSE. long double: X87
 unfoldable pub low_of : ℕ → Class
-low_of kind = cond (eqb kind integer) INTEGER (cond (eqb kind x87-extended) X87 SSE)
+low_of kind = cond (eqb kind integer) INTEGER (cond (eqb kind x87_extended) X87 SSE)
 
 -- __int128: INTEGER. __float128: SSEUP. long double: X87UP
 unfoldable pub high_of : ℕ → Class
-high_of kind = cond (eqb kind integer) INTEGER (cond (eqb kind x87-extended) X87UP (cond (eqb kind quad) SSEUP SSE))
+high_of kind = cond (eqb kind integer) INTEGER (cond (eqb kind x87_extended) X87UP (cond (eqb kind quad) SSEUP SSE))
 
 -- ---- aggregates
 
 -- 1. An unaligned field: its offset is no multiple of its type's alignment
-abbrev pub isUnaligned : Piece → Bool
-isUnaligned p = not (eqb (p.offset % p.align) 0)
+abbrev pub is_unaligned : Piece → Bool
+is_unaligned p = not (eqb (p.offset % p.align) 0)
 
-unfoldable pub anyUnaligned : List Piece → Bool
-anyUnaligned [] = false
-anyUnaligned (p ∷ ps) = isUnaligned p || anyUnaligned ps
+unfoldable pub any_unaligned : List Piece → Bool
+any_unaligned [] = false
+any_unaligned (p ∷ ps) = is_unaligned p || any_unaligned ps
 
 -- 3. Merging two classes: the first rule that applies
 unfoldable pub merge : Class → Class → Class
@@ -64,48 +64,48 @@ merge a b =
     -- (d) one is INTEGER: INTEGER
     (cond (either INTEGER a b) INTEGER
     -- (e) one is X87, X87UP or COMPLEX_X87: MEMORY
-    (cond (isX87 a || isX87 b) MEMORY
+    (cond (is_x87 a || is_x87 b) MEMORY
     -- (f) else SSE
     SSE)))))
 
 -- a field lies, in part or whole, in an eightbyte: the bytes from 8 k up to 8 k + 8
-abbrev pub liesIn : Piece → ℕ → Bool
-liesIn p k = ltb p.offset (8 * k + 8) && ltb (8 * k) (p.offset + p.size)
+abbrev pub lies_in : Piece → ℕ → Bool
+lies_in p k = ltb p.offset (8 * k + 8) && ltb (8 * k) (p.offset + p.size)
 
 -- what lies there is the field's low eightbyte, or its high one where the field starts below
-abbrev pub fieldClass : Piece → ℕ → Class
-fieldClass p k = cond (ltb p.offset (8 * k)) (high_of p.kind) (low_of p.kind)
+abbrev pub field_class : Piece → ℕ → Class
+field_class p k = cond (ltb p.offset (8 * k)) (high_of p.kind) (low_of p.kind)
 
 -- 2. The class of each field that lies in an eightbyte is merged in, two at a time ..
-unfoldable pub mergedIn : Class → List Piece → ℕ → Class
-mergedIn c [] k = c
-mergedIn c (p ∷ ps) k = mergedIn (cond (liesIn p k) (merge c (fieldClass p k)) c) ps k
+unfoldable pub merged_in : Class → List Piece → ℕ → Class
+merged_in c [] k = c
+merged_in c (p ∷ ps) k = merged_in (cond (lies_in p k) (merge c (field_class p k)) c) ps k
 
 -- .. and each eightbyte starts as NO_CLASS: so many eightbytes, from the k-th on
-unfoldable pub classesFrom : List Piece → ℕ → ℕ → List Class
-classesFrom ps k zero = []
-classesFrom ps k (suc n) = mergedIn NO-CLASS ps k ∷ classesFrom ps (k + 1) n
+unfoldable pub classes_from : List Piece → ℕ → ℕ → List Class
+classes_from ps k zero = []
+classes_from ps k (suc n) = merged_in NO-CLASS ps k ∷ classes_from ps (k + 1) n
 
 -- 4. After the merge, over the whole aggregate
 
 -- (a) one eightbyte MEMORY
-unfoldable pub anyMemory : List Class → Bool
-anyMemory [] = false
-anyMemory (c ∷ cs) = is MEMORY c || anyMemory cs
+unfoldable pub any_memory : List Class → Bool
+any_memory [] = false
+any_memory (c ∷ cs) = is MEMORY c || any_memory cs
 
 -- (b) an X87UP not right after an X87
-unfoldable pub loneX87Up : Class → List Class → Bool
-loneX87Up before [] = false
-loneX87Up before (c ∷ cs) = (is X87UP c && not (is X87 before)) || loneX87Up c cs
+unfoldable pub lone_x87_up : Class → List Class → Bool
+lone_x87_up before [] = false
+lone_x87_up before (c ∷ cs) = (is X87UP c && not (is X87 before)) || lone_x87_up c cs
 
 -- (c) the first isn't SSE, or one of the others isn't SSEUP
-unfoldable pub allUp : List Class → Bool
-allUp [] = true
-allUp (c ∷ cs) = is SSEUP c && allUp cs
+unfoldable pub all_up : List Class → Bool
+all_up [] = true
+all_up (c ∷ cs) = is SSEUP c && all_up cs
 
-unfoldable pub isOneVector : List Class → Bool
-isOneVector [] = false
-isOneVector (c ∷ cs) = is SSE c && allUp cs
+unfoldable pub is_one_vector : List Class → Bool
+is_one_vector [] = false
+is_one_vector (c ∷ cs) = is SSE c && all_up cs
 
 -- (d) an SSEUP not right after SSE or SSEUP becomes SSE
 abbrev pub convert : Class → Class → Class
@@ -119,20 +119,20 @@ converted before (c ∷ cs) = convert before c ∷ converted (convert before c) 
 unfoldable pub cleaned : List Class → Option (List Class)
 cleaned cs =
     -- (a)
-    cond (anyMemory cs) none
+    cond (any_memory cs) none
     -- (b)
-    (cond (loneX87Up NO-CLASS cs) none
+    (cond (lone_x87_up NO-CLASS cs) none
     -- (c) more than two eightbytes
-    (cond (ltb 2 (length cs) && not (isOneVector cs)) none
+    (cond (ltb 2 (length cs) && not (is_one_vector cs)) none
     -- (d)
     (some (converted NO-CLASS cs))))
 
-abbrev pub eightbytesIn : ℕ → ℕ
-eightbytesIn size = (size + 7) / 8
+abbrev pub eightbytes_in : ℕ → ℕ
+eightbytes_in size = (size + 7) / 8
 
 -- 1. Larger than eight eightbytes, or with an unaligned field: MEMORY
 unfoldable pub classified : ℕ → List Piece → Option (List Class)
-classified size ps = cond (ltb 64 size || anyUnaligned ps) none (cleaned (classesFrom ps 0 (eightbytesIn size)))
+classified size ps = cond (ltb 64 size || any_unaligned ps) none (cleaned (classes_from ps 0 (eightbytes_in size)))
 
 -- ---- registers
 
@@ -149,17 +149,17 @@ pub record Free : Type 0 where
 abbrev pub free : List Register → List Register → Free
 free g v = record { general = g; vector = v }
 
-abbrev pub argumentGenerals : List Register
-argumentGenerals = rdi ∷ rsi ∷ rdx ∷ rcx ∷ r8 ∷ r9 ∷ []
+abbrev pub argument_generals : List Register
+argument_generals = rdi ∷ rsi ∷ rdx ∷ rcx ∷ r8 ∷ r9 ∷ []
 
-abbrev pub argumentVectors : List Register
-argumentVectors = xmm0 ∷ xmm1 ∷ xmm2 ∷ xmm3 ∷ xmm4 ∷ xmm5 ∷ xmm6 ∷ xmm7 ∷ []
+abbrev pub argument_vectors : List Register
+argument_vectors = xmm0 ∷ xmm1 ∷ xmm2 ∷ xmm3 ∷ xmm4 ∷ xmm5 ∷ xmm6 ∷ xmm7 ∷ []
 
-abbrev pub resultGenerals : List Register
-resultGenerals = rax ∷ rdx ∷ []
+abbrev pub result_generals : List Register
+result_generals = rax ∷ rdx ∷ []
 
-abbrev pub resultVectors : List Register
-resultVectors = xmm0 ∷ xmm1 ∷ []
+abbrev pub result_vectors : List Register
+result_vectors = xmm0 ∷ xmm1 ∷ []
 
 -- where the eightbyte at an offset is: in a chunk of a register, 0 the lowest
 pub record Place : Type 0 where
@@ -183,9 +183,9 @@ pub record Assigned : Type 0 where
 abbrev pub assigned : List Place → Free → Assigned
 assigned ps l = record { places = ps; left = l }
 
-abbrev pub andAt : Place → Option Assigned → Option Assigned
-andAt p none = none
-andAt p (some a) = some (assigned (p ∷ a.places) a.left)
+abbrev pub and_at : Place → Option Assigned → Option Assigned
+and_at p none = none
+and_at p (some a) = some (assigned (p ∷ a.places) a.left)
 
 -- how an aggregate travels, and which registers are free afterwards
 pub data Travels : Type 0 where
@@ -204,13 +204,13 @@ passing [] o g v last = some (assigned [] (free g v))
 passing (MEMORY ∷ cs) o g v last = none
 -- INTEGER: the next of rdi, rsi, rdx, rcx, r8, r9
 passing (INTEGER ∷ cs) o [] v last = none
-passing (INTEGER ∷ cs) o (r ∷ g) v last = andAt (place o r 0) (passing cs (o + 8) g v last)
+passing (INTEGER ∷ cs) o (r ∷ g) v last = and_at (place o r 0) (passing cs (o + 8) g v last)
 -- SSE: the next of xmm0 to xmm7
 passing (SSE ∷ cs) o g [] last = none
-passing (SSE ∷ cs) o g (r ∷ v) last = andAt (place o r 0) (passing cs (o + 8) g v (used r 1))
+passing (SSE ∷ cs) o g (r ∷ v) last = and_at (place o r 0) (passing cs (o + 8) g v (used r 1))
 -- SSEUP: the next chunk of the vector register used last; clean-up (d) has left none without one
 passing (SSEUP ∷ cs) o g v unused = none
-passing (SSEUP ∷ cs) o g v (used r n) = andAt (place o r n) (passing cs (o + 8) g v (used r (n + 1)))
+passing (SSEUP ∷ cs) o g v (used r n) = and_at (place o r n) (passing cs (o + 8) g v (used r (n + 1)))
 -- X87, X87UP, COMPLEX_X87: on the stack
 passing (X87 ∷ cs) o g v last = none
 passing (X87UP ∷ cs) o g v last = none
@@ -219,40 +219,40 @@ passing (COMPLEX-X87 ∷ cs) o g v last = none
 passing (NO-CLASS ∷ cs) o g v last = passing cs (o + 8) g v last
 
 -- if any eightbyte finds no register, the whole argument goes to the stack, and the registers assigned to it already are free again
-abbrev pub orStack : Free → Option Assigned → Travels
-orStack before none = on_stack before
-orStack before (some a) = in_registers a.places a.left
+abbrev pub or_stack : Free → Option Assigned → Travels
+or_stack before none = on_stack before
+or_stack before (some a) = in_registers a.places a.left
 
 abbrev pub passed : Free → Option (List Class) → Travels
 passed before none = on_stack before
-passed before (some cs) = orStack before (passing cs 0 before.general before.vector unused)
+passed before (some cs) = or_stack before (passing cs 0 before.general before.vector unused)
 
-unfoldable pub psabiArgument : Free → ℕ → List Piece → Travels
-psabiArgument before size ps = passed before (classified size ps)
+unfoldable pub psabi_argument : Free → ℕ → List Piece → Travels
+psabi_argument before size ps = passed before (classified size ps)
 
 -- ---- returning: eightbyte by eightbyte, from an offset on. None where one finds no register
 
-abbrev pub andIn : Place → Option (List Place) → Option (List Place)
-andIn p none = none
-andIn p (some ps) = some (p ∷ ps)
+abbrev pub and_in : Place → Option (List Place) → Option (List Place)
+and_in p none = none
+and_in p (some ps) = some (p ∷ ps)
 
 unfoldable pub returning : List Class → ℕ → List Register → List Register → Last → Option (List Place)
 returning [] o g v last = some []
 returning (MEMORY ∷ cs) o g v last = none
 -- INTEGER: the next of rax, rdx
 returning (INTEGER ∷ cs) o [] v last = none
-returning (INTEGER ∷ cs) o (r ∷ g) v last = andIn (place o r 0) (returning cs (o + 8) g v last)
+returning (INTEGER ∷ cs) o (r ∷ g) v last = and_in (place o r 0) (returning cs (o + 8) g v last)
 -- SSE: the next of xmm0, xmm1
 returning (SSE ∷ cs) o g [] last = none
-returning (SSE ∷ cs) o g (r ∷ v) last = andIn (place o r 0) (returning cs (o + 8) g v (used r 1))
+returning (SSE ∷ cs) o g (r ∷ v) last = and_in (place o r 0) (returning cs (o + 8) g v (used r 1))
 -- SSEUP: the next chunk of the vector register used last
 returning (SSEUP ∷ cs) o g v unused = none
-returning (SSEUP ∷ cs) o g v (used r n) = andIn (place o r n) (returning cs (o + 8) g v (used r (n + 1)))
+returning (SSEUP ∷ cs) o g v (used r n) = and_in (place o r n) (returning cs (o + 8) g v (used r (n + 1)))
 -- X87, with its X87UP: st0
-returning (X87 ∷ cs) o g v last = andIn (place o st0 0) (returning cs (o + 8) g v last)
-returning (X87UP ∷ cs) o g v last = andIn (place o st0 1) (returning cs (o + 8) g v last)
+returning (X87 ∷ cs) o g v last = and_in (place o st0 0) (returning cs (o + 8) g v last)
+returning (X87UP ∷ cs) o g v last = and_in (place o st0 1) (returning cs (o + 8) g v last)
 -- COMPLEX_X87: st0 and st1. No field of an aggregate has this class
-returning (COMPLEX-X87 ∷ cs) o g v last = andIn (place o st0 0) (andIn (place (o + 16) st1 0) (returning cs (o + 32) g v last))
+returning (COMPLEX-X87 ∷ cs) o g v last = and_in (place o st0 0) (and_in (place (o + 16) st1 0) (returning cs (o + 32) g v last))
 -- NO_CLASS names no register
 returning (NO-CLASS ∷ cs) o g v last = returning cs (o + 8) g v last
 
@@ -262,13 +262,13 @@ in_memory [] v = by_address none (free [] v)
 in_memory (r ∷ g) v = by_address (some r) (free g v)
 
 -- a result in registers leaves the argument registers as they are
-abbrev pub orAddress : Free → Option (List Place) → Travels
-orAddress before none = in_memory before.general before.vector
-orAddress before (some ps) = in_registers ps before
+abbrev pub or_address : Free → Option (List Place) → Travels
+or_address before none = in_memory before.general before.vector
+or_address before (some ps) = in_registers ps before
 
 abbrev pub returned : Free → Option (List Class) → Travels
 returned before none = in_memory before.general before.vector
-returned before (some cs) = orAddress before (returning cs 0 resultGenerals resultVectors unused)
+returned before (some cs) = or_address before (returning cs 0 result_generals result_vectors unused)
 
-unfoldable pub psabiResult : Free → ℕ → List Piece → Travels
-psabiResult before size ps = returned before (classified size ps)
+unfoldable pub psabi_result : Free → ℕ → List Piece → Travels
+psabi_result before size ps = returned before (classified size ps)

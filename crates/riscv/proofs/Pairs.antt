@@ -11,24 +11,24 @@ use lib.ListN.{length}
 use Rattle.shape.specs.declared.Piece.{Piece}
 use Rattle.shape.specs.Lists.{every}
 use Rattle.shape.specs.Numbers.{integer, single, double, quad}
-use Rattle.shape.specs.Questions.{is_float, formatBytes}
+use Rattle.shape.specs.Questions.{is_float, format_bytes}
 use Rattle.shape.proofs.Bools.{both_true}
-use Rattle.slots.specs.Search.{found, nothing, floatsIn}
-use Rattle.find.specs.Find.{foundIf, floatPair, fitsOne, pieceSlot, eachPiece}
-use Rattle.riscv.specs.Riscv.{XLEN, integer-registers, Board, integral, floating, State, state, Passing, passing, parts, isReal, is_whole, byFields}
-use Rattle.riscv.specs.Domain.{isUsual, areUsual}
+use Rattle.slots.specs.Search.{found, nothing, floats_in}
+use Rattle.find.specs.Find.{found_if, float_pair, fits_one, piece_slot, each_piece}
+use Rattle.riscv.specs.Riscv.{XLEN, integer_registers, Board, integral, floating, State, state, Passing, passing, parts, is_real, is_whole, by_fields}
+use Rattle.riscv.specs.Domain.{is_usual, are_usual}
 use Rattle.riscv.specs.Reading.{field_of, parts_of}
 
 -- ---- a float has the bytes of its format, which are some
 
 pub record Formatted (p : Piece) : Type 0 where
-  pub bytes : formatBytes p.kind ≡ p.size
+  pub bytes : format_bytes p.kind ≡ p.size
   pub some : 0 < p.size
 
-pub formatted : (p : Piece) → isUsual p.kind p.size ≡ true → is_float p.kind ≡ true → Formatted p
+pub formatted : (p : Piece) → is_usual p.kind p.size ≡ true → is_float p.kind ≡ true → Formatted p
 formatted p u b = go (eqb p.kind integer) (eqb p.kind single && eqb p.size 4) (eqb p.kind double && eqb p.size 8) (eqb p.kind quad && eqb p.size 16) refl refl refl refl
   where
-    of : (k n : ℕ) → (eqb p.kind k && eqb p.size n) ≡ true → formatBytes k ≡ n → 0 < n → Formatted p
+    of : (k n : ℕ) → (eqb p.kind k && eqb p.size n) ≡ true → format_bytes k ≡ n → 0 < n → Formatted p
     of k n e f l =
         let a = both_true (eqb p.kind k) _ e in
         let size : p.size ≡ n = eqb-true p.size n a.1 in
@@ -44,7 +44,7 @@ formatted p u b = go (eqb p.kind integer) (eqb p.kind single && eqb p.size 4) (e
 
 module _ (b : Board) where
   abbrev passed : State → List Piece → Passing → Passing
-  passed s ps otherwise = byFields b s (map field_of ps) otherwise
+  passed s ps otherwise = by_fields b s (map field_of ps) otherwise
 
   -- ---- what is said of some pieces
 
@@ -53,21 +53,21 @@ module _ (b : Board) where
   pub record Pair (ps : List Piece) : Type 0 where
     pub integers : ℕ
     pub floats : ℕ
-    pub finds : floatPair XLEN b.FLEN ps ≡ found (eachPiece ps)
-    pub integers-are : length (eachPiece ps) - floatsIn (eachPiece ps) ≡ integers
-    pub floats-are : floatsIn (eachPiece ps) ≡ floats
+    pub finds : float_pair XLEN b.FLEN ps ≡ found (each_piece ps)
+    pub integers_are : length (each_piece ps) - floats_in (each_piece ps) ≡ integers
+    pub floats_are : floats_in (each_piece ps) ≡ floats
     pub some : 0 < floats
     pub few : integers + floats ≤ 2
     pub held : 0 < b.FLEN
-    pub by : (s : State) (otherwise : Passing) (given-a given-fa : ℕ) → integers ≤ given-a → floats ≤ given-fa → s.next-a ≤ integer-registers
+    pub by : (s : State) (otherwise : Passing) (given-a given-fa : ℕ) → integers ≤ given-a → floats ≤ given-fa → s.next_a ≤ integer_registers
         → passed s ps otherwise
-        ≡ cond (leb (s.next-fa + floats) b.float-registers && leb (s.next-a + integers) integer-registers)
-        (passing (parts (parts_of s.next-a given-a s.next-fa given-fa (eachPiece ps))) (state (s.next-a + integers) (s.next-fa + floats)))
+        ≡ cond (leb (s.next_fa + floats) b.float_registers && leb (s.next_a + integers) integer_registers)
+        (passing (parts (parts_of s.next_a given-a s.next_fa given-fa (each_piece ps))) (state (s.next_a + integers) (s.next_fa + floats)))
         otherwise
 
   -- nothing is found, and the standard goes by the integer convention at once
   pub record Unpaired (ps : List Piece) : Type 0 where
-    pub finds : floatPair XLEN b.FLEN ps ≡ nothing
+    pub finds : float_pair XLEN b.FLEN ps ≡ nothing
     pub always : (s : State) (otherwise : Passing) → passed s ps otherwise ≡ otherwise
 
   pub data Judged (ps : List Piece) : Type 0 where
@@ -77,55 +77,55 @@ module _ (b : Board) where
   -- ---- one piece
 
   module _ (p : Piece) where
-    a-float : is_float p.kind ≡ true → Formatted p → leb p.size b.FLEN ≡ true → Pair (p ∷ [])
-    unfolding floatPair foundIf fitsOne eachPiece pieceSlot floatsIn byFields parts_of
-    a-float e f c =
+    a_float : is_float p.kind ≡ true → Formatted p → leb p.size b.FLEN ≡ true → Pair (p ∷ [])
+    unfolding float_pair found_if fits_one each_piece piece_slot floats_in by_fields parts_of
+    a_float e f c =
         record {
           integers = 0;
           floats = 1;
           finds = rw (e, c);
-          integers-are = rw (e, e);
-          floats-are = rw (e, e);
+          integers_are = rw (e, e);
+          floats_are = rw (e, e);
           some = omega arith;
           few = omega arith;
           held = omega (arith, f.some, leb-true p.size b.FLEN c);
           by = λ s otherwise given-a given-fa i l la.
-              let n : s.next-a + 0 ≡ s.next-a = omega arith in
-              let m : s.next-fa + 0 ≡ s.next-fa = omega arith in
-              rw (e, c, e, lt-ltb 0 given-fa (omega arith), f.bytes, n, m, le-leb s.next-a integer-registers la, and-true);
+              let n : s.next_a + 0 ≡ s.next_a = omega arith in
+              let m : s.next_fa + 0 ≡ s.next_fa = omega arith in
+              rw (e, c, e, lt-ltb 0 given-fa (omega arith), f.bytes, n, m, le-leb s.next_a integer_registers la, and-true);
         }
 
-    an-integer : is_float p.kind ≡ false → Unpaired (p ∷ [])
-    unfolding floatPair foundIf byFields
-    an-integer e = record { finds = rw e; always = λ s otherwise. rw e }
+    an_integer : is_float p.kind ≡ false → Unpaired (p ∷ [])
+    unfolding float_pair found_if by_fields
+    an_integer e = record { finds = rw e; always = λ s otherwise. rw e }
 
     too_wide : is_float p.kind ≡ true → leb p.size b.FLEN ≡ false → Unpaired (p ∷ [])
-    unfolding floatPair foundIf fitsOne byFields
+    unfolding float_pair found_if fits_one by_fields
     too_wide e c = record { finds = rw (e, c); always = λ s otherwise. rw (e, c) }
 
-    one_piece : isUsual p.kind p.size ≡ true → Judged (p ∷ [])
+    one_piece : is_usual p.kind p.size ≡ true → Judged (p ∷ [])
     one_piece u = go (is_float p.kind) (leb p.size b.FLEN) refl refl
       where
         go : (e c : Bool) → is_float p.kind ≡ e → leb p.size b.FLEN ≡ c → Judged (p ∷ [])
-        go false c ee ec = unpaired (an-integer ee)
+        go false c ee ec = unpaired (an_integer ee)
         go true false ee ec = unpaired (too_wide ee ec)
-        go true true ee ec = pair (a-float ee (formatted p u ee) ec)
+        go true true ee ec = pair (a_float ee (formatted p u ee) ec)
 
   -- ---- two pieces
 
   -- what no register of its bank holds is neither a float nor an integer of a pair
-  module _ (p : Piece) (e : fitsOne XLEN b.FLEN p ≡ false) where
-    not-real : isReal b (field_of p).type ≡ false
-    unfolding fitsOne
-    not-real = go (is_float p.kind) refl
+  module _ (p : Piece) (e : fits_one XLEN b.FLEN p ≡ false) where
+    not_real : is_real b (field_of p).type ≡ false
+    unfolding fits_one
+    not_real = go (is_float p.kind) refl
       where
-        go : (f : Bool) → is_float p.kind ≡ f → isReal b (cond (is_float p.kind) (floating p.size) (integral p.size)) ≡ false
+        go : (f : Bool) → is_float p.kind ≡ f → is_real b (cond (is_float p.kind) (floating p.size) (integral p.size)) ≡ false
         go true f = rw f (rw f at e)
         go false f = rw f
 
-    not-whole : is_whole (field_of p).type ≡ false
-    unfolding fitsOne
-    not-whole = go (is_float p.kind) refl
+    not_whole : is_whole (field_of p).type ≡ false
+    unfolding fits_one
+    not_whole = go (is_float p.kind) refl
       where
         go : (f : Bool) → is_float p.kind ≡ f → is_whole (cond (is_float p.kind) (floating p.size) (integral p.size)) ≡ false
         go true f = rw f
@@ -135,34 +135,34 @@ module _ (b : Board) where
     abbrev two : List Piece
     two = p ∷ q ∷ []
 
-    first-unfit : fitsOne XLEN b.FLEN p ≡ false → Unpaired two
-    unfolding floatPair foundIf byFields
-    first-unfit e = record { finds = rw (e, and-false); always = λ s otherwise. rw (not-real p e, not-whole p e) }
+    first_unfit : fits_one XLEN b.FLEN p ≡ false → Unpaired two
+    unfolding float_pair found_if by_fields
+    first_unfit e = record { finds = rw (e, and-false); always = λ s otherwise. rw (not_real p e, not_whole p e) }
 
-    second-unfit : fitsOne XLEN b.FLEN q ≡ false → Unpaired two
-    unfolding floatPair foundIf byFields
-    second-unfit e = record { finds = rw (e, and-false); always = λ s otherwise. rw (not-real q e, not-whole q e, and-false, and-false) }
+    second_unfit : fits_one XLEN b.FLEN q ≡ false → Unpaired two
+    unfolding float_pair found_if by_fields
+    second_unfit e = record { finds = rw (e, and-false); always = λ s otherwise. rw (not_real q e, not_whole q e, and-false, and-false) }
 
-    two-integers : is_float p.kind ≡ false → is_float q.kind ≡ false → Unpaired two
-    unfolding floatPair foundIf byFields
-    two-integers ep eq = record { finds = rw (ep, eq); always = λ s otherwise. rw (ep, eq, and-false) }
+    two_integers : is_float p.kind ≡ false → is_float q.kind ≡ false → Unpaired two
+    unfolding float_pair found_if by_fields
+    two_integers ep eq = record { finds = rw (ep, eq); always = λ s otherwise. rw (ep, eq, and-false) }
 
     two_floats : is_float p.kind ≡ true → is_float q.kind ≡ true → Formatted p → Formatted q → leb p.size b.FLEN ≡ true → leb q.size b.FLEN ≡ true → Pair two
-    unfolding floatPair foundIf fitsOne eachPiece pieceSlot floatsIn byFields parts_of
+    unfolding float_pair found_if fits_one each_piece piece_slot floats_in by_fields parts_of
     two_floats ep eq fp fq cp cq =
         record {
           integers = 0;
           floats = 2;
           finds = rw (ep, eq, cp, cq);
-          integers-are = rw (ep, eq, ep, eq);
-          floats-are = rw (ep, eq, ep, eq);
+          integers_are = rw (ep, eq, ep, eq);
+          floats_are = rw (ep, eq, ep, eq);
           some = omega arith;
           few = omega arith;
           held = omega (arith, fp.some, leb-true p.size b.FLEN cp);
           by = λ s otherwise given-a given-fa i l la.
-              let n : s.next-a + 0 ≡ s.next-a = omega arith in
-              let m : s.next-fa + 0 ≡ s.next-fa = omega arith in
-              rw (ep, eq, cp, cq, ep, eq, lt-ltb 0 given-fa (omega arith), lt-ltb 0 (given-fa - 1) (omega arith), fp.bytes, fq.bytes, n, m, le-leb s.next-a integer-registers la, and-true);
+              let n : s.next_a + 0 ≡ s.next_a = omega arith in
+              let m : s.next_fa + 0 ≡ s.next_fa = omega arith in
+              rw (ep, eq, cp, cq, ep, eq, lt-ltb 0 given-fa (omega arith), lt-ltb 0 (given-fa - 1) (omega arith), fp.bytes, fq.bytes, n, m, le-leb s.next_a integer_registers la, and-true);
         }
 
     -- a float and an integer, in either order
@@ -171,59 +171,59 @@ module _ (b : Board) where
       ByMixed =
           (s : State) (otherwise : Passing) (given-a given-fa : ℕ) → 1 ≤ given-a → 1 ≤ given-fa
           → passed s two otherwise
-          ≡ cond (leb (s.next-fa + 1) b.float-registers && leb (s.next-a + 1) integer-registers)
-          (passing (parts (parts_of s.next-a given-a s.next-fa given-fa (eachPiece two))) (state (s.next-a + 1) (s.next-fa + 1)))
+          ≡ cond (leb (s.next_fa + 1) b.float_registers && leb (s.next_a + 1) integer_registers)
+          (passing (parts (parts_of s.next_a given-a s.next_fa given-fa (each_piece two))) (state (s.next_a + 1) (s.next_fa + 1)))
           otherwise
 
-      mixed : floatPair XLEN b.FLEN two ≡ found (eachPiece two) → floatsIn (eachPiece two) ≡ 1 → ByMixed → Pair two
-      unfolding eachPiece
+      mixed : float_pair XLEN b.FLEN two ≡ found (each_piece two) → floats_in (each_piece two) ≡ 1 → ByMixed → Pair two
+      unfolding each_piece
       mixed finds one by =
           record {
             integers = 1;
             floats = 1;
             finds = finds;
-            integers-are = rw one;
-            floats-are = one;
+            integers_are = rw one;
+            floats_are = one;
             some = omega arith;
             few = omega arith;
             held = omega (arith, ff.some, leb-true f.size b.FLEN cf);
             by = λ s otherwise given-a given-fa i l la. by s otherwise given-a given-fa i l;
           }
 
-    same-fa : (s : State) → s.next-fa + 0 ≡ s.next-fa
-    same-fa s = omega arith
+    same_fa : (s : State) → s.next_fa + 0 ≡ s.next_fa
+    same_fa s = omega arith
 
-    float-first : is_float p.kind ≡ true → is_float q.kind ≡ false → Formatted p → leb p.size b.FLEN ≡ true → leb q.size XLEN ≡ true → Pair two
-    unfolding floatPair foundIf fitsOne eachPiece pieceSlot floatsIn byFields parts_of
-    float-first ep eq fp cp cq =
+    float_first : is_float p.kind ≡ true → is_float q.kind ≡ false → Formatted p → leb p.size b.FLEN ≡ true → leb q.size XLEN ≡ true → Pair two
+    unfolding float_pair found_if fits_one each_piece piece_slot floats_in by_fields parts_of
+    float_first ep eq fp cp cq =
         mixed p fp cp (rw (ep, eq, cp, cq)) (rw (ep, eq, ep))
-        (λ s otherwise given-a given-fa i l. rw (ep, eq, cp, cq, ep, lt-ltb 0 given-fa (omega arith), lt-ltb 0 given-a (omega arith), fp.bytes, same-fa s))
+        (λ s otherwise given-a given-fa i l. rw (ep, eq, cp, cq, ep, lt-ltb 0 given-fa (omega arith), lt-ltb 0 given-a (omega arith), fp.bytes, same_fa s))
 
-    float-second : is_float p.kind ≡ false → is_float q.kind ≡ true → Formatted q → leb p.size XLEN ≡ true → leb q.size b.FLEN ≡ true → Pair two
-    unfolding floatPair foundIf fitsOne eachPiece pieceSlot floatsIn byFields parts_of
-    float-second ep eq fq cp cq =
+    float_second : is_float p.kind ≡ false → is_float q.kind ≡ true → Formatted q → leb p.size XLEN ≡ true → leb q.size b.FLEN ≡ true → Pair two
+    unfolding float_pair found_if fits_one each_piece piece_slot floats_in by_fields parts_of
+    float_second ep eq fq cp cq =
         mixed q fq cq (rw (ep, eq, cp, cq)) (rw (ep, eq, eq))
-        (λ s otherwise given-a given-fa i l. rw (ep, eq, cp, cq, eq, lt-ltb 0 given-fa (omega arith), lt-ltb 0 given-a (omega arith), fq.bytes, same-fa s))
+        (λ s otherwise given-a given-fa i l. rw (ep, eq, cp, cq, eq, lt-ltb 0 given-fa (omega arith), lt-ltb 0 given-a (omega arith), fq.bytes, same_fa s))
 
-    two-pieces : isUsual p.kind p.size ≡ true → isUsual q.kind q.size ≡ true → Judged two
-    unfolding fitsOne
-    two-pieces up uq = go (is_float p.kind) (is_float q.kind) (fitsOne XLEN b.FLEN p) (fitsOne XLEN b.FLEN q) refl refl refl refl
+    two_pieces : is_usual p.kind p.size ≡ true → is_usual q.kind q.size ≡ true → Judged two
+    unfolding fits_one
+    two_pieces up uq = go (is_float p.kind) (is_float q.kind) (fits_one XLEN b.FLEN p) (fits_one XLEN b.FLEN q) refl refl refl refl
       where
-        go : (ep eq cp cq : Bool) → is_float p.kind ≡ ep → is_float q.kind ≡ eq → fitsOne XLEN b.FLEN p ≡ cp → fitsOne XLEN b.FLEN q ≡ cq → Judged two
-        go ep eq false cq eep eeq ecp ecq = unpaired (first-unfit ecp)
-        go ep eq true false eep eeq ecp ecq = unpaired (second-unfit ecq)
-        go false false true true eep eeq ecp ecq = unpaired (two-integers eep eeq)
+        go : (ep eq cp cq : Bool) → is_float p.kind ≡ ep → is_float q.kind ≡ eq → fits_one XLEN b.FLEN p ≡ cp → fits_one XLEN b.FLEN q ≡ cq → Judged two
+        go ep eq false cq eep eeq ecp ecq = unpaired (first_unfit ecp)
+        go ep eq true false eep eeq ecp ecq = unpaired (second_unfit ecq)
+        go false false true true eep eeq ecp ecq = unpaired (two_integers eep eeq)
         go true true true true eep eeq ecp ecq = pair (two_floats eep eeq (formatted p up eep) (formatted q uq eeq) (rw eep at ecp) (rw eeq at ecq))
-        go true false true true eep eeq ecp ecq = pair (float-first eep eeq (formatted p up eep) (rw eep at ecp) (rw eeq at ecq))
-        go false true true true eep eeq ecp ecq = pair (float-second eep eeq (formatted q uq eeq) (rw eep at ecp) (rw eeq at ecq))
+        go true false true true eep eeq ecp ecq = pair (float_first eep eeq (formatted p up eep) (rw eep at ecp) (rw eeq at ecq))
+        go false true true true eep eeq ecp ecq = pair (float_second eep eeq (formatted q uq eeq) (rw eep at ecp) (rw eeq at ecq))
 
   -- ---- any pieces of usual kinds and sizes
 
-  pub judged : (ps : List Piece) → areUsual ps ≡ true → Judged ps
-  unfolding every floatPair byFields
+  pub judged : (ps : List Piece) → are_usual ps ≡ true → Judged ps
+  unfolding every float_pair by_fields
   judged [] u = unpaired (record { finds = refl; always = λ s otherwise. refl })
-  judged (p ∷ []) u = one_piece p (both_true (isUsual p.kind p.size) _ u).0
+  judged (p ∷ []) u = one_piece p (both_true (is_usual p.kind p.size) _ u).0
   judged (p ∷ q ∷ []) u =
-      let a = both_true (isUsual p.kind p.size) _ u in
-      two-pieces p q a.0 (both_true (isUsual q.kind q.size) _ a.1).0
+      let a = both_true (is_usual p.kind p.size) _ u in
+      two_pieces p q a.0 (both_true (is_usual q.kind q.size) _ a.1).0
   judged (p ∷ q ∷ r ∷ ps) u = unpaired (record { finds = refl; always = λ s otherwise. refl })

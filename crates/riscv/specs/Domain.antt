@@ -6,25 +6,25 @@ use Rattle.shape.specs.declared.Scalar.{Scalar}
 use Rattle.shape.specs.declared.Shape.{Shape}
 use Rattle.shape.specs.Lists.{every}
 use Rattle.shape.specs.Numbers.{integer, single, double, quad}
-use Rattle.shape.specs.Spans.{spanEnd, inOrder, apart}
+use Rattle.shape.specs.Spans.{span_end, in_order, apart}
 
 -- integers of 1, 2, 4, 8 and 16 bytes, Singles of 4, Doubles of 8, Quads of 16
-abbrev pub isIntegerSize : ℕ → Bool
-isIntegerSize n = eqb n 1 || eqb n 2 || eqb n 4 || eqb n 8 || eqb n 16
+abbrev pub is_integer_size : ℕ → Bool
+is_integer_size n = eqb n 1 || eqb n 2 || eqb n 4 || eqb n 8 || eqb n 16
 
-abbrev pub isUsual : ℕ → ℕ → Bool
-isUsual kind size =
-    (eqb kind integer && isIntegerSize size) || (eqb kind single && eqb size 4) || (eqb kind double && eqb size 8) || (eqb kind quad && eqb size 16)
+abbrev pub is_usual : ℕ → ℕ → Bool
+is_usual kind size =
+    (eqb kind integer && is_integer_size size) || (eqb kind single && eqb size 4) || (eqb kind double && eqb size 8) || (eqb kind quad && eqb size 16)
 
-abbrev pub areUsual : List Piece → Bool
-areUsual ps = every (λ (p : Piece). isUsual p.kind p.size) ps
+abbrev pub are_usual : List Piece → Bool
+are_usual ps = every (λ (p : Piece). is_usual p.kind p.size) ps
 
-abbrev pub areInside : Shape → List Piece → Bool
-areInside shape ps = every (λ (p : Piece). leb (spanEnd p) shape.size) ps
+abbrev pub are_inside : Shape → List Piece → Bool
+are_inside shape ps = every (λ (p : Piece). leb (span_end p) shape.size) ps
 
 pub record ScalarDomain (s : Scalar) : Type 0 where
   -- of a usual kind and size
-  pub usual : isUsual s.kind s.size ≡ true
+  pub usual : is_usual s.kind s.size ≡ true
   -- aligned to its size
   pub aligned : s.align ≡ s.size
 
@@ -32,17 +32,17 @@ pub record ShapeDomain (shape : Shape) (ps : List Piece) : Type 0 where
   -- of size above 0
   pub some : 0 < shape.size
   -- aligned to 16 at most
-  pub shape-align : shape.align ≤ 16
+  pub shape_align : shape.align ≤ 16
   -- of a size that is a multiple of the alignment
   pub multiple : shape.size % shape.align ≡ 0
   -- pieces of usual kinds and sizes (of which none is 0)
-  pub usual : areUsual ps ≡ true
+  pub usual : are_usual ps ≡ true
   -- in offset order
-  pub order : inOrder ps ≡ true
+  pub order : in_order ps ≡ true
   -- without overlap
-  pub no-overlap : apart ps ≡ true
+  pub no_overlap : apart ps ≡ true
   -- inside the size
-  pub inside : areInside shape ps ≡ true
+  pub inside : are_inside shape ps ≡ true
 
 -- void, such a scalar, such an aggregate
 abbrev pub Domain : args.Arg → List Piece → Type 0

@@ -3,11 +3,11 @@
 use Rattle.std.specs.Prelude.{ℕ, ◌+◌, ◌-◌, ◌≡◌, List, [], ◌∷◌, map, Bool, false, ◌&&◌, cond, eqb, leb, ltb}
 use Rattle.shape.specs.declared.Arg as args
 use Rattle.shape.specs.declared.Piece.{Piece}
-use Rattle.shape.specs.Questions.{is_float, formatBytes}
+use Rattle.shape.specs.Questions.{is_float, format_bytes}
 use Rattle.shape.specs.Spans.{apart}
 use Rattle.slots.specs.declared.Slot.{Slot}
 use Rattle.slots.specs.Cut.{cut}
-use Rattle.slots.specs.Words.{slotsRead}
+use Rattle.slots.specs.Words.{slots_read}
 use Rattle.describe.specs.declared.Banks.{Banks}
 use Rattle.describe.specs.Description.{Description}
 use Rattle.abis.specs.Abis.{described}
@@ -15,37 +15,37 @@ use Rattle.spend.specs.declared.Left.{Left}
 use Rattle.spend.specs.declared.Spent.{Spent}
 use Rattle.spend.specs.declared.Way.{Way}
 use Rattle.spend.specs.declared.Way.TheVariants.{Ignore, Direct, Pieces, Reference, Memory}
-use Rattle.spend.specs.Ways.{no-mark, wayFrom}
+use Rattle.spend.specs.Ways.{no_mark, way_from}
 use Rattle.classify.specs.declared.Call.{Call}
 use Rattle.classify.specs.declared.Answer.{Answer}
-use Rattle.classify.specs.Pass.{way_of, passSlots}
-use Rattle.classify.specs.Classify.{Passed, returns, argument, variadicArgument}
-use Rattle.classify.specs.Spending.{returnChoice, argumentChoice, variadicArgumentChoice}
-use Rattle.riscv.specs.Riscv.{XLEN, Board, boardWith, Basic, integral, floating, Field, Inside, fields, a-union, CType, scalar, aggregate, Value, Holder, a, fa, stack, Part, part, Place, ignored, parts, address, stackBytes, State, state, Passing, passing, named, unnamed, result}
+use Rattle.classify.specs.Pass.{way_of, pass_slots}
+use Rattle.classify.specs.Classify.{Passed, returns, argument, variadic_argument}
+use Rattle.classify.specs.Spending.{return_choice, argument_choice, variadic_argument_choice}
+use Rattle.riscv.specs.Riscv.{XLEN, Board, board_with, Basic, integral, floating, Field, Inside, fields, a_union, CType, scalar, aggregate, Value, Holder, a, fa, stack, Part, part, Place, ignored, parts, address, stack_bytes, State, state, Passing, passing, named, unnamed, result}
 
 -- ---- boards, values
 
-abbrev pub boardOf : Banks → Board
-boardOf B = boardWith B.float_width B.float
+abbrev pub board_of : Banks → Board
+board_of B = board_with B.float_width B.float
 
-abbrev pub basicOf : ℕ → ℕ → Basic
-basicOf kind size = cond (is_float kind) (floating size) (integral size)
+abbrev pub basic_of : ℕ → ℕ → Basic
+basic_of kind size = cond (is_float kind) (floating size) (integral size)
 
 abbrev pub field_of : Piece → Field
-field_of p = record { type = basicOf p.kind p.size; offset = p.offset }
+field_of p = record { type = basic_of p.kind p.size; offset = p.offset }
 
 -- fields come in the order of their offsets, whatever that of the pieces
 unfoldable pub insert : Piece → List Piece → List Piece
 insert p [] = p ∷ []
 insert p (q ∷ qs) = cond (leb p.offset q.offset) (p ∷ q ∷ qs) (q ∷ insert p qs)
 
-unfoldable pub byOffset : List Piece → List Piece
-byOffset [] = []
-byOffset (p ∷ ps) = insert p (byOffset ps)
+unfoldable pub by_offset : List Piece → List Piece
+by_offset [] = []
+by_offset (p ∷ ps) = insert p (by_offset ps)
 
 -- pieces that share a byte are a union's
-abbrev pub insideOf : List Piece → Inside
-insideOf ps = cond (apart ps) (fields (map field_of (byOffset ps))) a-union
+abbrev pub inside_of : List Piece → Inside
+inside_of ps = cond (apart ps) (fields (map field_of (by_offset ps))) a_union
 
 abbrev pub value : CType → ℕ → Value
 value t align = record { type = t; alignment = align }
@@ -53,14 +53,14 @@ value t align = record { type = t; alignment = align }
 -- void is as an aggregate without a byte
 abbrev pub value_of : args.Arg → List Piece → Value
 value_of args.TheVariants.Void ps = value (aggregate 0 (fields [])) 1
-value_of (args.TheVariants.Scalar s) ps = value (scalar (basicOf s.kind s.size)) s.align
-value_of (args.TheVariants.Aggregate shape) ps = value (aggregate shape.size (insideOf ps)) shape.align
+value_of (args.TheVariants.Scalar s) ps = value (scalar (basic_of s.kind s.size)) s.align
+value_of (args.TheVariants.Aggregate shape) ps = value (aggregate shape.size (inside_of ps)) shape.align
 
 -- how many bytes it has
-abbrev pub sizeOfArg : args.Arg → ℕ
-sizeOfArg args.TheVariants.Void = 0
-sizeOfArg (args.TheVariants.Scalar s) = s.size
-sizeOfArg (args.TheVariants.Aggregate shape) = shape.size
+abbrev pub size_of_arg : args.Arg → ℕ
+size_of_arg args.TheVariants.Void = 0
+size_of_arg (args.TheVariants.Scalar s) = s.size
+size_of_arg (args.TheVariants.Aggregate shape) = shape.size
 
 -- ---- answers
 
@@ -70,7 +70,7 @@ unfoldable pub parts_of : ℕ → ℕ → ℕ → ℕ → List Slot → List Par
 parts_of n given m held [] = []
 parts_of n given m held (slot ∷ slots) =
     cond (is_float slot.kind)
-    (part (cond (ltb 0 held) (fa m) stack) slot.offset (cond (eqb slot.size 0) (formatBytes slot.kind) 0) ∷ parts_of n given (m + 1) (held - 1) slots)
+    (part (cond (ltb 0 held) (fa m) stack) slot.offset (cond (eqb slot.size 0) (format_bytes slot.kind) 0) ∷ parts_of n given (m + 1) (held - 1) slots)
     (cond (ltb 0 given) (part (a n) slot.offset slot.size ∷ parts_of (n + 1) (given - 1) m held slots)
     (part stack slot.offset slot.size ∷ parts_of n given m held slots))
 
@@ -83,27 +83,27 @@ module _ (B : Banks) where
   abbrev pub state_of : Left → State
   state_of left = state (B.integer - left.integer) (B.float - left.float)
 
-  abbrev firstInteger : Left → Spent → ℕ
-  firstInteger before spent = B.integer - before.integer + spent.integers_passed
+  abbrev first_integer : Left → Spent → ℕ
+  first_integer before spent = B.integer - before.integer + spent.integers_passed
 
-  abbrev firstFloat : Left → Spent → ℕ
-  firstFloat before spent = B.float - before.float + spent.floats_passed
+  abbrev first_float : Left → Spent → ℕ
+  first_float before spent = B.float - before.float + spent.floats_passed
 
   -- a scalar as it is: in the float register that it was given, or else in words
-  abbrev directOf : ℕ → Left → Spent → List Part
-  directOf size before spent =
-      cond (ltb 0 spent.floats_given) (part (fa (firstFloat before spent)) 0 size ∷ []) (parts_of (firstInteger before spent) spent.integers_given 0 0 (words_of size))
+  abbrev direct_of : ℕ → Left → Spent → List Part
+  direct_of size before spent =
+      cond (ltb 0 spent.floats_given) (part (fa (first_float before spent)) 0 size ∷ []) (parts_of (first_integer before spent) spent.integers_given 0 0 (words_of size))
 
   -- an address: in the integer register that was given for it, and on the stack if none was
-  abbrev holderOf : Left → Spent → Holder
-  holderOf before spent = cond (ltb 0 spent.integers_given) (a (firstInteger before spent)) stack
+  abbrev holder_of : Left → Spent → Holder
+  holder_of before spent = cond (ltb 0 spent.integers_given) (a (first_integer before spent)) stack
 
   abbrev pub place_of : Way → ℕ → Left → Spent → List Slot → Place
   place_of Ignore size before spent slots = ignored
-  place_of Direct size before spent slots = parts (directOf size before spent)
-  place_of Pieces size before spent slots = parts (parts_of (firstInteger before spent) spent.integers_given (firstFloat before spent) spent.floats_given slots)
-  place_of Reference size before spent slots = address (holderOf before spent)
-  place_of Memory size before spent slots = parts (parts_of (firstInteger before spent) 0 (firstFloat before spent) 0 (words_of size))
+  place_of Direct size before spent slots = parts (direct_of size before spent)
+  place_of Pieces size before spent slots = parts (parts_of (first_integer before spent) spent.integers_given (first_float before spent) spent.floats_given slots)
+  place_of Reference size before spent slots = address (holder_of before spent)
+  place_of Memory size before spent slots = parts (parts_of (first_integer before spent) 0 (first_float before spent) 0 (words_of size))
 
   -- an argument of so many bytes, between what was left before and after it
   unfoldable pub reads : ℕ → Left → Way → Spent → List Slot → Left → Passing
@@ -111,8 +111,8 @@ module _ (B : Banks) where
 
 -- ---- results: in the first two registers of each bank, which aren't counted with the arguments'; or at an address, which is an argument
 
-abbrev resultParts : List Slot → List Part
-resultParts slots = parts_of 0 2 0 2 slots
+abbrev result_parts : List Slot → List Part
+result_parts slots = parts_of 0 2 0 2 slots
 
 module _ (B : Banks) where
   -- a float register holds a scalar as it is
@@ -122,55 +122,55 @@ module _ (B : Banks) where
   is_held (args.TheVariants.Aggregate shape) = false
 
   -- a scalar as it is: in fa0 if that holds it, or else in words
-  abbrev directResult : args.Arg → List Part
-  directResult arg = cond (is_held arg) (part (fa 0) 0 (sizeOfArg arg) ∷ []) (resultParts (words_of (sizeOfArg arg)))
+  abbrev direct_result : args.Arg → List Part
+  direct_result arg = cond (is_held arg) (part (fa 0) 0 (size_of_arg arg) ∷ []) (result_parts (words_of (size_of_arg arg)))
 
   -- no result is on the stack: Memory says where none is
-  abbrev pub resultPlace : Way → args.Arg → Left → Spent → List Slot → Place
-  resultPlace Ignore arg before spent slots = ignored
-  resultPlace Direct arg before spent slots = parts (directResult arg)
-  resultPlace Pieces arg before spent slots = parts (resultParts slots)
-  resultPlace Reference arg before spent slots = address (holderOf B before spent)
-  resultPlace Memory arg before spent slots = parts (part stack 0 (sizeOfArg arg) ∷ [])
+  abbrev pub result_place : Way → args.Arg → Left → Spent → List Slot → Place
+  result_place Ignore arg before spent slots = ignored
+  result_place Direct arg before spent slots = parts (direct_result arg)
+  result_place Pieces arg before spent slots = parts (result_parts slots)
+  result_place Reference arg before spent slots = address (holder_of B before spent)
+  result_place Memory arg before spent slots = parts (part stack 0 (size_of_arg arg) ∷ [])
 
-  unfoldable pub readsResult : args.Arg → Left → Way → Spent → List Slot → Left → Passing
-  readsResult arg before way spent slots after = passing (resultPlace way arg before spent slots) (state_of B after)
+  unfoldable pub reads_result : args.Arg → Left → Way → Spent → List Slot → Left → Passing
+  reads_result arg before way spent slots after = passing (result_place way arg before spent slots) (state_of B after)
 
 -- ---- a description beside the standard: a named argument, an unnamed one or a result, with so many registers left
 
 pub data Asked : Type 0 where
-  as-named as-unnamed as-result : Asked
+  as_named as_unnamed as_result : Asked
 
-abbrev pub readsBy : Asked → Banks → args.Arg → Left → Way → Spent → List Slot → Left → Passing
-readsBy as-named B arg before way spent slots after = reads B (sizeOfArg arg) before way spent slots after
-readsBy as-unnamed B arg before way spent slots after = reads B (sizeOfArg arg) before way spent slots after
-readsBy as-result B arg before way spent slots after = readsResult B arg before way spent slots after
+abbrev pub reads_by : Asked → Banks → args.Arg → Left → Way → Spent → List Slot → Left → Passing
+reads_by as_named B arg before way spent slots after = reads B (size_of_arg arg) before way spent slots after
+reads_by as_unnamed B arg before way spent slots after = reads B (size_of_arg arg) before way spent slots after
+reads_by as_result B arg before way spent slots after = reads_result B arg before way spent slots after
 
 -- what travels so, and passes over and is given this
-abbrev pub readsPassed : Asked → Banks → args.Arg → Left → Passed → Spent → Passing
-readsPassed asked B arg before p spent = readsBy asked B arg before (way_of p.pass) spent (passSlots p.pass) p.left
+abbrev pub reads_passed : Asked → Banks → args.Arg → Left → Passed → Spent → Passing
+reads_passed asked B arg before p spent = reads_by asked B arg before (way_of p.pass) spent (pass_slots p.pass) p.left
 
 -- what the description is defined to answer
 abbrev pub answered : Asked → Description → Left → args.Arg → List Piece → Passing
-answered as-named D left arg ps = readsPassed as-named D.banks arg left (argument D left arg ps) (argumentChoice D left arg ps).decision.spent
-answered as-unnamed D left arg ps = readsPassed as-unnamed D.banks arg left (variadicArgument D left arg ps) (variadicArgumentChoice D left arg ps).decision.spent
-answered as-result D left arg ps = readsPassed as-result D.banks arg left (returns D left arg ps) (returnChoice D left arg ps).decision.spent
+answered as_named D left arg ps = reads_passed as_named D.banks arg left (argument D left arg ps) (argument_choice D left arg ps).decision.spent
+answered as_unnamed D left arg ps = reads_passed as_unnamed D.banks arg left (variadic_argument D left arg ps) (variadic_argument_choice D left arg ps).decision.spent
+answered as_result D left arg ps = reads_passed as_result D.banks arg left (returns D left arg ps) (return_choice D left arg ps).decision.spent
 
 -- what the standard says for its board
 abbrev pub standard : Asked → Banks → Left → args.Arg → List Piece → Passing
-standard as-named B left arg ps = named (boardOf B) (state_of B left) (value_of arg ps).type
-standard as-unnamed B left arg ps = unnamed (state_of B left) (value_of arg ps)
-standard as-result B left arg ps = result (boardOf B) (state_of B left) (value_of arg ps).type
+standard as_named B left arg ps = named (board_of B) (state_of B left) (value_of arg ps).type
+standard as_unnamed B left arg ps = unnamed (state_of B left) (value_of arg ps)
+standard as_result B left arg ps = result (board_of B) (state_of B left) (value_of arg ps).type
 
 -- ---- an operation: its answer, with the words of the buffer beside it, says what the standard says, has as many bytes on the stack, and hands back a call
 -- of the same description, still without the mark
 
-abbrev pub answerRead : Asked → Banks → args.Arg → Left → Answer → List ℕ → Passing
-answerRead asked B arg before answer words =
-    readsBy asked B arg before (wayFrom answer.outcome.way) answer.outcome.spent (slotsRead answer.outcome.slots words) answer.next.left
+abbrev pub answer_read : Asked → Banks → args.Arg → Left → Answer → List ℕ → Passing
+answer_read asked B arg before answer words =
+    reads_by asked B arg before (way_from answer.outcome.way) answer.outcome.spent (slots_read answer.outcome.slots words) answer.next.left
 
 pub record Says (asked : Asked) (c : Call) (arg : args.Arg) (ps : List Piece) (answer : Answer) (words : List ℕ) : Type 0 where
-  pub travels : answerRead asked (described c.abi).banks arg c.left answer words ≡ standard asked (described c.abi).banks c.left arg ps
-  pub stacked : answer.outcome.stacked.bytes ≡ stackBytes (standard asked (described c.abi).banks c.left arg ps).place
-  pub same-abi : answer.next.abi ≡ c.abi
-  pub unmarked : answer.next.left.integers_only ≡ no-mark
+  pub travels : answer_read asked (described c.abi).banks arg c.left answer words ≡ standard asked (described c.abi).banks c.left arg ps
+  pub stacked : answer.outcome.stacked.bytes ≡ stack_bytes (standard asked (described c.abi).banks c.left arg ps).place
+  pub same_abi : answer.next.abi ≡ c.abi
+  pub unmarked : answer.next.left.integers_only ≡ no_mark

@@ -20,92 +20,92 @@ use Rattle.describe.specs.declared.Cleanup.{Cleanup}
 use Rattle.describe.specs.declared.Cleanup.TheVariants.{Caller, Callee}
 
 -- A test has a number from 1, since 0 says that a list has ended, and a number of its own.
-abbrev pub testCode : Test → ℕ
-testCode Anything = 1
-testCode Empty = 2
-testCode (SizeOneOf k a b c d) = 3
-testCode (SizeAtMost limit) = 4
-testCode (Homogeneous limit) = 5
-testCode FloatPair = 6
-testCode X87Stack = 7
-testCode LoneFloat = 8
-testCode FloatingMode = 9
-testCode ComplexFloat = 10
-testCode (Eightbytes limit) = 11
+abbrev pub test_code : Test → ℕ
+test_code Anything = 1
+test_code Empty = 2
+test_code (SizeOneOf k a b c d) = 3
+test_code (SizeAtMost limit) = 4
+test_code (Homogeneous limit) = 5
+test_code FloatPair = 6
+test_code X87Stack = 7
+test_code LoneFloat = 8
+test_code FloatingMode = 9
+test_code ComplexFloat = 10
+test_code (Eightbytes limit) = 11
 
 -- Four sizes are two bits each, the first lowest.
-abbrev pub sizeCode : ℕ → ℕ
-sizeCode size = cond (eqb size 1) 0 (cond (eqb size 2) 1 (cond (eqb size 4) 2 3))
+abbrev pub size_code : ℕ → ℕ
+size_code size = cond (eqb size 1) 0 (cond (eqb size 2) 1 (cond (eqb size 4) 2 3))
 
-abbrev pub testNumber : Test → ℕ
-testNumber Anything = 0
-testNumber Empty = 0
-testNumber (SizeOneOf k a b c d) = sizeCode a + 4 * sizeCode b + 16 * sizeCode c + 64 * sizeCode d
-testNumber (SizeAtMost limit) = limit
-testNumber (Homogeneous limit) = limit
-testNumber FloatPair = 0
-testNumber X87Stack = 0
-testNumber LoneFloat = 0
-testNumber FloatingMode = 0
-testNumber ComplexFloat = 0
-testNumber (Eightbytes limit) = limit
+abbrev pub test_number : Test → ℕ
+test_number Anything = 0
+test_number Empty = 0
+test_number (SizeOneOf k a b c d) = size_code a + 4 * size_code b + 16 * size_code c + 64 * size_code d
+test_number (SizeAtMost limit) = limit
+test_number (Homogeneous limit) = limit
+test_number FloatPair = 0
+test_number X87Stack = 0
+test_number LoneFloat = 0
+test_number FloatingMode = 0
+test_number ComplexFloat = 0
+test_number (Eightbytes limit) = limit
 
-abbrev pub travelCode : Travel → ℕ
-travelCode Ignore = 0
-travelCode AsFound = 1
-travelCode AsIntegers = 2
-travelCode AsOneInteger = 3
-travelCode ByReference = 4
-travelCode InMemory = 5
-travelCode InMemoryAndSpend = 6
+abbrev pub travel_code : Travel → ℕ
+travel_code Ignore = 0
+travel_code AsFound = 1
+travel_code AsIntegers = 2
+travel_code AsOneInteger = 3
+travel_code ByReference = 4
+travel_code InMemory = 5
+travel_code InMemoryAndSpend = 6
 
-abbrev pub shortCode : Short → ℕ
-shortCode Unchanged = 0
-shortCode Memory = 1
-shortCode MemoryAndDrain = 2
-shortCode TryNextRule = 3
-shortCode Split = 4
+abbrev pub short_code : Short → ℕ
+short_code Unchanged = 0
+short_code Memory = 1
+short_code MemoryAndDrain = 2
+short_code TryNextRule = 3
+short_code Split = 4
 
-abbrev pub returnPointerCode : ReturnPointer → ℕ
-returnPointerCode FirstArgument = 0
-returnPointerCode FirstArgumentPopped = 1
-returnPointerCode Dedicated = 2
+abbrev pub return_pointer_code : ReturnPointer → ℕ
+return_pointer_code FirstArgument = 0
+return_pointer_code FirstArgumentPopped = 1
+return_pointer_code Dedicated = 2
 
-abbrev pub variadicCode : Variadic → ℕ
-variadicCode SameAsFixed = 0
-variadicCode AlwaysMemory = 1
-variadicCode BothBanks = 2
-variadicCode IntegersOnly = 3
-variadicCode UnnamedIntegers = 4
-variadicCode UnnamedIntegersEven = 5
+abbrev pub variadic_code : Variadic → ℕ
+variadic_code SameAsFixed = 0
+variadic_code AlwaysMemory = 1
+variadic_code BothBanks = 2
+variadic_code IntegersOnly = 3
+variadic_code UnnamedIntegers = 4
+variadic_code UnnamedIntegersEven = 5
 
-abbrev pub stackArgsCode : StackArgs → ℕ
-stackArgsCode RegisterSized = 0
-stackArgsCode Packed = 1
+abbrev pub stack_args_code : StackArgs → ℕ
+stack_args_code RegisterSized = 0
+stack_args_code Packed = 1
 
-abbrev pub narrowCode : Narrow → ℕ
-narrowCode Unspecified = 0
-narrowCode ToInt = 1
-narrowCode ArgsToInt = 2
+abbrev pub narrow_code : Narrow → ℕ
+narrow_code Unspecified = 0
+narrow_code ToInt = 1
+narrow_code ArgsToInt = 2
 
-abbrev pub bitIntsCode : BitInts → ℕ
-bitIntsCode SpareBits = 0
-bitIntsCode Untaught = 1
+abbrev pub bit_ints_code : BitInts → ℕ
+bit_ints_code SpareBits = 0
+bit_ints_code Untaught = 1
 
-abbrev pub cleanupCode : Cleanup → ℕ
-cleanupCode Caller = 0
-cleanupCode Callee = 1
+abbrev pub cleanup_code : Cleanup → ℕ
+cleanup_code Caller = 0
+cleanup_code Callee = 1
 
 -- The way back. A number past the last case is the last case.
-unfoldable pub sizeFrom : ℕ → ℕ
-sizeFrom code = get_or (1 ∷ 2 ∷ 4 ∷ []) code 8
+unfoldable pub size_from : ℕ → ℕ
+size_from code = get_or (1 ∷ 2 ∷ 4 ∷ []) code 8
 
-abbrev pub firstTests : ℕ → List Test
-firstTests number =
+abbrev pub first_tests : ℕ → List Test
+first_tests number =
     Anything
     ∷ Anything
     ∷ Empty
-    ∷ SizeOneOf 4 (sizeFrom (number % 4)) (sizeFrom (number / 4 % 4)) (sizeFrom (number / 16 % 4)) (sizeFrom (number / 64))
+    ∷ SizeOneOf 4 (size_from (number % 4)) (size_from (number / 4 % 4)) (size_from (number / 16 % 4)) (size_from (number / 64))
     ∷ SizeAtMost number
     ∷ Homogeneous number
     ∷ FloatPair
@@ -115,30 +115,30 @@ firstTests number =
     ∷ ComplexFloat
     ∷ []
 
-unfoldable pub testFrom : ℕ → ℕ → Test
-testFrom code number = get_or (firstTests number) code (Eightbytes number)
+unfoldable pub test_from : ℕ → ℕ → Test
+test_from code number = get_or (first_tests number) code (Eightbytes number)
 
-unfoldable pub travelFrom : ℕ → Travel
-travelFrom code =
+unfoldable pub travel_from : ℕ → Travel
+travel_from code =
     get_or (Ignore ∷ AsFound ∷ AsIntegers ∷ AsOneInteger ∷ ByReference ∷ InMemory ∷ []) code InMemoryAndSpend
 
-unfoldable pub shortFrom : ℕ → Short
-shortFrom code = get_or (Unchanged ∷ Memory ∷ MemoryAndDrain ∷ TryNextRule ∷ []) code Split
+unfoldable pub short_from : ℕ → Short
+short_from code = get_or (Unchanged ∷ Memory ∷ MemoryAndDrain ∷ TryNextRule ∷ []) code Split
 
-unfoldable pub returnPointerFrom : ℕ → ReturnPointer
-returnPointerFrom code = get_or (FirstArgument ∷ FirstArgumentPopped ∷ []) code Dedicated
+unfoldable pub return_pointer_from : ℕ → ReturnPointer
+return_pointer_from code = get_or (FirstArgument ∷ FirstArgumentPopped ∷ []) code Dedicated
 
-unfoldable pub variadicFrom : ℕ → Variadic
-variadicFrom code = get_or (SameAsFixed ∷ AlwaysMemory ∷ BothBanks ∷ IntegersOnly ∷ UnnamedIntegers ∷ []) code UnnamedIntegersEven
+unfoldable pub variadic_from : ℕ → Variadic
+variadic_from code = get_or (SameAsFixed ∷ AlwaysMemory ∷ BothBanks ∷ IntegersOnly ∷ UnnamedIntegers ∷ []) code UnnamedIntegersEven
 
-unfoldable pub stackArgsFrom : ℕ → StackArgs
-stackArgsFrom code = get_or (RegisterSized ∷ []) code Packed
+unfoldable pub stack_args_from : ℕ → StackArgs
+stack_args_from code = get_or (RegisterSized ∷ []) code Packed
 
-unfoldable pub narrowFrom : ℕ → Narrow
-narrowFrom code = get_or (Unspecified ∷ ToInt ∷ []) code ArgsToInt
+unfoldable pub narrow_from : ℕ → Narrow
+narrow_from code = get_or (Unspecified ∷ ToInt ∷ []) code ArgsToInt
 
-unfoldable pub bitIntsFrom : ℕ → BitInts
-bitIntsFrom code = get_or (SpareBits ∷ []) code Untaught
+unfoldable pub bit_ints_from : ℕ → BitInts
+bit_ints_from code = get_or (SpareBits ∷ []) code Untaught
 
-unfoldable pub cleanupFrom : ℕ → Cleanup
-cleanupFrom code = get_or (Caller ∷ []) code Callee
+unfoldable pub cleanup_from : ℕ → Cleanup
+cleanup_from code = get_or (Caller ∷ []) code Callee

@@ -1,7 +1,7 @@
 // What a row says beside its rules, read back.
 ghost use Rattle.std.specs.Prelude.{◌≡◌};
-ghost use Rattle.rows.specs.Row.{banksFrom, scalarsFrom, termsFrom, othersFrom};
-ghost use Rattle.rows.specs.Codes.{returnPointerCode, variadicCode, stackArgsCode, narrowCode, bitIntsCode, cleanupCode, returnPointerFrom, variadicFrom, stackArgsFrom, narrowFrom, bitIntsFrom, cleanupFrom};
+ghost use Rattle.rows.specs.Row.{banks_from, scalars_from, terms_from, others_from};
+ghost use Rattle.rows.specs.Codes.{return_pointer_code, variadic_code, stack_args_code, narrow_code, bit_ints_code, cleanup_code, return_pointer_from, variadic_from, stack_args_from, narrow_from, bit_ints_from, cleanup_from};
 
 use crate::codes::*;
 use describe::{
@@ -40,7 +40,7 @@ pub const RULES: u64 = 4;
 
 // What classification reads.
 pub fn terms_of(row: [u8; WIDTH]) -> Terms
-    ensures { result ≡ termsFrom row }
+    ensures { result ≡ terms_from row }
 {
     let calls = row[CALLS];
     Terms {
@@ -54,7 +54,7 @@ pub fn terms_of(row: [u8; WIDTH]) -> Terms
 
 // What it doesn't.
 pub fn others_of(row: [u8; WIDTH]) -> Others
-    ensures { result ≡ othersFrom row }
+    ensures { result ≡ others_from row }
 {
     let stack = row[STACK];
     Others {
@@ -65,7 +65,7 @@ pub fn others_of(row: [u8; WIDTH]) -> Others
 }
 
 fn banks_of(row: [u8; WIDTH]) -> Banks
-    ensures { result ≡ banksFrom row }
+    ensures { result ≡ banks_from row }
 {
     Banks {
         integer: shape::wide(row[INTEGER]),
@@ -77,7 +77,7 @@ fn banks_of(row: [u8; WIDTH]) -> Banks
 }
 
 fn scalars_of(row: [u8; WIDTH]) -> Scalars
-    ensures { result ≡ scalarsFrom row }
+    ensures { result ≡ scalars_from row }
 {
     let flags = row[FLAGS];
     let formats = row[FORMATS];
@@ -96,7 +96,7 @@ fn scalars_of(row: [u8; WIDTH]) -> Scalars
 }
 
 fn return_pointer_from(code: u8) -> ReturnPointer
-    ensures { result ≡ returnPointerFrom code }
+    ensures { result ≡ return_pointer_from code }
 {
     match code {
         0 => ReturnPointer::FirstArgument,
@@ -106,7 +106,7 @@ fn return_pointer_from(code: u8) -> ReturnPointer
 }
 
 fn variadic_from(code: u8) -> Variadic
-    ensures { result ≡ variadicFrom code }
+    ensures { result ≡ variadic_from code }
 {
     match code {
         0 => Variadic::SameAsFixed,
@@ -119,7 +119,7 @@ fn variadic_from(code: u8) -> Variadic
 }
 
 fn stack_args_from(code: u8) -> StackArgs
-    ensures { result ≡ stackArgsFrom code }
+    ensures { result ≡ stack_args_from code }
 {
     match code {
         0 => StackArgs::RegisterSized,
@@ -128,7 +128,7 @@ fn stack_args_from(code: u8) -> StackArgs
 }
 
 fn narrow_from(code: u8) -> Narrow
-    ensures { result ≡ narrowFrom code }
+    ensures { result ≡ narrow_from code }
 {
     match code {
         0 => Narrow::Unspecified,
@@ -138,7 +138,7 @@ fn narrow_from(code: u8) -> Narrow
 }
 
 fn bit_ints_from(code: u8) -> BitInts
-    ensures { result ≡ bitIntsFrom code }
+    ensures { result ≡ bit_ints_from code }
 {
     match code {
         0 => BitInts::SpareBits,
@@ -147,7 +147,7 @@ fn bit_ints_from(code: u8) -> BitInts
 }
 
 fn cleanup_from(code: u8) -> Cleanup
-    ensures { result ≡ cleanupFrom code }
+    ensures { result ≡ cleanup_from code }
 {
     match code {
         0 => Cleanup::Caller,
@@ -158,7 +158,7 @@ fn cleanup_from(code: u8) -> Cleanup
 // The numbers of these cases, as a row has them and as they leave; the functions above read them back.
 
 pub fn return_pointer_number(pointer: ReturnPointer) -> u64
-    ensures { result ≡ returnPointerCode pointer }
+    ensures { result ≡ return_pointer_code pointer }
 {
     match pointer {
         ReturnPointer::FirstArgument => 0,
@@ -168,7 +168,7 @@ pub fn return_pointer_number(pointer: ReturnPointer) -> u64
 }
 
 pub fn variadic_number(variadic: Variadic) -> u64
-    ensures { result ≡ variadicCode variadic }
+    ensures { result ≡ variadic_code variadic }
 {
     match variadic {
         Variadic::SameAsFixed => 0,
@@ -181,7 +181,7 @@ pub fn variadic_number(variadic: Variadic) -> u64
 }
 
 pub fn stack_args_number(stack: StackArgs) -> u64
-    ensures { result ≡ stackArgsCode stack }
+    ensures { result ≡ stack_args_code stack }
 {
     match stack {
         StackArgs::RegisterSized => 0,
@@ -190,7 +190,7 @@ pub fn stack_args_number(stack: StackArgs) -> u64
 }
 
 pub fn narrow_number(narrow: Narrow) -> u64
-    ensures { result ≡ narrowCode narrow }
+    ensures { result ≡ narrow_code narrow }
 {
     match narrow {
         Narrow::Unspecified => 0,
@@ -200,7 +200,7 @@ pub fn narrow_number(narrow: Narrow) -> u64
 }
 
 pub fn bit_ints_number(bits: BitInts) -> u64
-    ensures { result ≡ bitIntsCode bits }
+    ensures { result ≡ bit_ints_code bits }
 {
     match bits {
         BitInts::SpareBits => 0,
@@ -209,7 +209,7 @@ pub fn bit_ints_number(bits: BitInts) -> u64
 }
 
 pub fn cleanup_number(cleanup: Cleanup) -> u64
-    ensures { result ≡ cleanupCode cleanup }
+    ensures { result ≡ cleanup_code cleanup }
 {
     match cleanup {
         Cleanup::Caller => 0,

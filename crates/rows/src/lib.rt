@@ -1,11 +1,13 @@
 // A description as a row of bytes, read back (REFERENCE 5): `fields` has what it says beside its rules. Its rules are read here (5.3), one by its
 // place, or a whole list as two numbers, of which a walk takes one after another.
+#![tactic(auto)]
+
 pub mod codes;
 mod fields;
 
 ghost use Rattle.std.specs.Prelude.{◌≡◌, ◌+◌, ◌≤◌, ◌<◌, get_or};
-ghost use Rattle.rows.specs.Row.{returnRule, argumentRule, ruleOf, list_of, pair_of, ways_of, firstRule, laterRules};
-ghost use Rattle.rows.specs.Codes.{testFrom, sizeFrom, travelFrom, shortFrom};
+ghost use Rattle.rows.specs.Row.{return_rule, argument_rule, rule_of, list_of, pair_of, ways_of, first_rule, later_rules};
+ghost use Rattle.rows.specs.Codes.{test_from, size_from, travel_from, short_from};
 
 use codes::*;
 use describe::{Rule, Short, Test, Travel};
@@ -24,14 +26,14 @@ pub struct Rules {
 
 // Rule `i` for returns. A walk begins at 0 and goes on from one rule to the next; past the end stands a rule that ignores anything.
 pub fn return_rule(row: [u8; WIDTH], i: u64) -> Rule
-    ensures { result ≡ returnRule row i }
+    ensures { result ≡ return_rule row i }
 {
     rule_of(row, RETURNS, i)
 }
 
 // Rule `i` for arguments, likewise.
 pub fn argument_rule(row: [u8; WIDTH], i: u64) -> Rule
-    ensures { result ≡ argumentRule row i }
+    ensures { result ≡ argument_rule row i }
 {
     rule_of(row, ARGUMENTS, i)
 }
@@ -52,7 +54,7 @@ pub fn argument_rules(row: [u8; WIDTH]) -> Rules
 
 // The first rule of a list. Where none is left stands a rule that ignores anything.
 pub fn first_rule(rules: Rules) -> Rule
-    ensures { result ≡ firstRule rules }
+    ensures { result ≡ first_rule rules }
 {
     let way = (rules.ways % 256) as u8;
     Rule {
@@ -64,14 +66,14 @@ pub fn first_rule(rules: Rules) -> Rule
 
 // Its test alone: a walk needs the rest of a rule only where the test finds something.
 pub fn first_test(rules: Rules) -> Test
-    ensures { result ≡ (firstRule rules).when }
+    ensures { result ≡ (first_rule rules).when }
 {
     test_from((rules.tests % 256) as u8, (rules.tests / 256 % 256) as u8)
 }
 
 // The rules behind the first.
 pub fn later_rules(rules: Rules) -> Rules
-    ensures { result ≡ laterRules rules }
+    ensures { result ≡ later_rules rules }
 {
     Rules {
         tests: rules.tests / 65536,
@@ -131,7 +133,7 @@ fn ways_of(a: u8, b: u8, c: u8, d: u8) -> u64
 // The rule at place `i` of the list whose first byte stands at `first`.
 fn rule_of(row: [u8; WIDTH], first: usize, i: u64) -> Rule
     requires { first ≤ 20 }
-    ensures { result ≡ ruleOf row first i }
+    ensures { result ≡ rule_of row first i }
 {
     if i < RULES {
         let at = first + 3 * (i as usize);
@@ -151,7 +153,7 @@ fn rule_of(row: [u8; WIDTH], first: usize, i: u64) -> Rule
 }
 
 fn test_from(code: u8, number: u8) -> Test
-    ensures { result ≡ testFrom code number }
+    ensures { result ≡ test_from code number }
 {
     match code {
         NO_RULE => Test::Anything,
@@ -177,7 +179,7 @@ fn test_from(code: u8, number: u8) -> Test
 
 // One of the four sizes that a register may hold, by two bits.
 fn size_from(code: u8) -> u64
-    ensures { result ≡ sizeFrom code }
+    ensures { result ≡ size_from code }
 {
     match code {
         0 => 1,
@@ -188,7 +190,7 @@ fn size_from(code: u8) -> u64
 }
 
 fn travel_from(code: u8) -> Travel
-    ensures { result ≡ travelFrom code }
+    ensures { result ≡ travel_from code }
 {
     match code {
         0 => Travel::Ignore,
@@ -202,7 +204,7 @@ fn travel_from(code: u8) -> Travel
 }
 
 fn short_from(code: u8) -> Short
-    ensures { result ≡ shortFrom code }
+    ensures { result ≡ short_from code }
 {
     match code {
         0 => Short::Unchanged,

@@ -12,9 +12,9 @@ pub both_false : (a b : Bool) → a || b ≡ false → (a ≡ false) × (b ≡ f
 both_false true b e = absurd (true≢false e)
 both_false false b e = (refl, e)
 
-pub second-fails : (a b : Bool) → b ≡ false → a && b ≡ false
-second-fails true b e = e
-second-fails false b e = refl
+pub second_fails : (a b : Bool) → b ≡ false → a && b ≡ false
+second_fails true b e = e
+second_fails false b e = refl
 
 pub implied : (a b : Bool) → a && not b ≡ false → a ≡ true → b ≡ true
 implied a true h e = refl

@@ -12,27 +12,27 @@ use lib.ListN.{length, take, drop, set, length-append, length-drop, take-append-
 use lib.Seq.{sets, sets-eq, length-take-le, take-append_seam, drop-append_seam, drop-append-add, drop-drop, take_at}
 use Rattle.shape.specs.Words.{put_at}
 
-pub put-fits : (ws : List ℕ) (at : ℕ) (vs : List ℕ) → at + length vs ≤ length ws
+pub put_fits : (ws : List ℕ) (at : ℕ) (vs : List ℕ) → at + length vs ≤ length ws
     → put_at ws at vs ≡ take at ws ++ vs ++ drop (at + length vs) ws
 unfolding put_at
-put-fits ws at vs h = rw (le-leb _ _ h)
+put_fits ws at vs h = rw (le-leb _ _ h)
 
-pub put-short : (ws : List ℕ) (at : ℕ) (vs : List ℕ) → length ws < at + length vs → ws ≡ put_at ws at vs
+pub put_short : (ws : List ℕ) (at : ℕ) (vs : List ℕ) → length ws < at + length vs → ws ≡ put_at ws at vs
 unfolding put_at
-put-short ws at vs h = rw (lt-leb _ _ h)
+put_short ws at vs h = rw (lt-leb _ _ h)
 
-pub length-put : (ws : List ℕ) (at : ℕ) (vs : List ℕ) → at + length vs ≤ length ws → length (put_at ws at vs) ≡ length ws
-length-put ws at vs h =
+pub length_put : (ws : List ℕ) (at : ℕ) (vs : List ℕ) → at + length vs ≤ length ws → length (put_at ws at vs) ≡ length ws
+length_put ws at vs h =
     let t : length (take at ws) ≡ at = length-take-le at ws (omega arith) in
-    rw (put-fits ws at vs h) (simp (length-append, length-drop) (omega arith))
+    rw (put_fits ws at vs h) (simp (length-append, length-drop) (omega arith))
 
 pub drop_past : (p q : List ℕ) (n m : ℕ) → length p ≡ n → drop (n + m) (p ++ q) ≡ drop m q
 drop_past p q n m e = subst (λ (k : ℕ). drop (k + m) (p ++ q) ≡ drop m q) e (drop-append-add p q m)
 
 -- a run is its first part and then the rest, from where the first part ends
-pub put-split : (ws : List ℕ) (at : ℕ) (vs rest : List ℕ) → at + (length vs + length rest) ≤ length ws
+pub put_split : (ws : List ℕ) (at : ℕ) (vs rest : List ℕ) → at + (length vs + length rest) ≤ length ws
     → put_at ws at (vs ++ rest) ≡ put_at (put_at ws at vs) (at + length vs) rest
-put-split ws at vs rest h =
+put_split ws at vs rest h =
     let n : ℕ = at + length vs in
     let la : length (vs ++ rest) ≡ length vs + length rest = length-append vs rest in
     let lt : length (take at ws) ≡ at = length-take-le at ws (omega arith) in
@@ -46,52 +46,52 @@ put-split ws at vs rest h =
     let e : at + length (vs ++ rest) ≡ n + length rest = omega arith in
     let m : take at ws ++ (vs ++ rest) ++ drop (at + length (vs ++ rest)) ws ≡ take n w ++ rest ++ drop (n + length rest) w =
     cc (append_assoc (take at ws) vs rest) in
-    put-fits ws at (vs ++ rest) (omega arith)
+    put_fits ws at (vs ++ rest) (omega arith)
     ∙ m
-    ∙ sym (put-fits w n rest (omega arith))
-    ∙ sym (ap (λ (l : List ℕ). put_at l n rest) (put-fits ws at vs (omega arith)))
+    ∙ sym (put_fits w n rest (omega arith))
+    ∙ sym (ap (λ (l : List ℕ). put_at l n rest) (put_fits ws at vs (omega arith)))
 
-pub put-none : (ws : List ℕ) (at : ℕ) → at ≤ length ws → put_at ws at [] ≡ ws
-put-none ws at h =
+pub put_none : (ws : List ℕ) (at : ℕ) → at ≤ length ws → put_at ws at [] ≡ ws
+put_none ws at h =
     let z : at + 0 ≡ at = omega arith in
-    put-fits ws at [] (omega arith) ∙ rw z (rw append-nil (take-append-drop at ws))
+    put_fits ws at [] (omega arith) ∙ rw z (rw append-nil (take-append-drop at ws))
 
 -- stores in a row, as the code has them: to the place `at`, and then to `at + 1`, `at + 2`, ..
-abbrev storesFrom : List ℕ → ℕ → ℕ → List ℕ → List ℕ
-storesFrom ws at i [] = ws
-storesFrom ws at i (v ∷ vs) = storesFrom (set ws (at + i) v) at (suc i) vs
+abbrev stores_from : List ℕ → ℕ → ℕ → List ℕ → List ℕ
+stores_from ws at i [] = ws
+stores_from ws at i (v ∷ vs) = stores_from (set ws (at + i) v) at (suc i) vs
 
 abbrev pub stores : List ℕ → ℕ → List ℕ → List ℕ
 stores ws at [] = ws
-stores ws at (v ∷ vs) = storesFrom (set ws at v) at 1 vs
+stores ws at (v ∷ vs) = stores_from (set ws at v) at 1 vs
 
-stores-from : (ws : List ℕ) (at i : ℕ) (vs : List ℕ) → storesFrom ws at i vs ≡ sets ws (at + i) vs
-stores-from ws at i [] = refl
-stores-from ws at i (v ∷ vs) =
+stores_from_lem : (ws : List ℕ) (at i : ℕ) (vs : List ℕ) → stores_from ws at i vs ≡ sets ws (at + i) vs
+stores_from_lem ws at i [] = refl
+stores_from_lem ws at i (v ∷ vs) =
     let e : at + suc i ≡ suc (at + i) = omega arith in
-    rw e at (stores-from (set ws (at + i) v) at (suc i) vs)
+    rw e at (stores_from_lem (set ws (at + i) v) at (suc i) vs)
 
 -- they put the words there
-pub put-stores : (ws : List ℕ) (at : ℕ) (vs : List ℕ) → at + length vs ≤ length ws → stores ws at vs ≡ put_at ws at vs
-put-stores ws at [] h = sym (put-none ws at (omega arith))
-put-stores ws at (v ∷ vs) h =
-    rw add-one at (stores-from (set ws at v) at 1 vs) ∙ sets-eq (v ∷ vs) ws at h ∙ sym (put-fits ws at (v ∷ vs) h)
+pub put_stores : (ws : List ℕ) (at : ℕ) (vs : List ℕ) → at + length vs ≤ length ws → stores ws at vs ≡ put_at ws at vs
+put_stores ws at [] h = sym (put_none ws at (omega arith))
+put_stores ws at (v ∷ vs) h =
+    rw add-one at (stores_from_lem (set ws at v) at 1 vs) ∙ sets-eq (v ∷ vs) ws at h ∙ sym (put_fits ws at (v ∷ vs) h)
 
 -- a writer that answers whether the words fitted
 module _ (ws : List ℕ) (at : ℕ) (vs : List ℕ) where
-  pub fitted-not : length ws < at + length vs → (false ≡ leb (at + length vs) (length ws)) × (ws ≡ put_at ws at vs)
-  fitted-not h = (sym (lt-leb _ _ h), put-short ws at vs h)
+  pub fitted_not : length ws < at + length vs → (false ≡ leb (at + length vs) (length ws)) × (ws ≡ put_at ws at vs)
+  fitted_not h = (sym (lt-leb _ _ h), put_short ws at vs h)
 
   pub fitted : at + length vs ≤ length ws → (true ≡ leb (at + length vs) (length ws)) × (stores ws at vs ≡ put_at ws at vs)
-  fitted h = (sym (le-leb _ _ h), put-stores ws at vs h)
+  fitted h = (sym (le-leb _ _ h), put_stores ws at vs h)
 
 -- words put at the front stand there, and those behind them are as they were
 module _ (ws vs : List ℕ) (fits : length vs ≤ length ws) where
   pub put_first : put_at ws 0 vs ≡ vs ++ drop (length vs) ws
-  put_first = put-fits ws 0 vs (omega arith) ∙ ap (λ (n : ℕ). vs ++ drop n ws) (zero-add (length vs))
+  put_first = put_fits ws 0 vs (omega arith) ∙ ap (λ (n : ℕ). vs ++ drop n ws) (zero-add (length vs))
 
   pub put_front : take (length vs) (put_at ws 0 vs) ≡ vs
   put_front = ap (take (length vs)) put_first ∙ take-append_seam vs (drop (length vs) ws)
 
-  pub put-behind : drop (length vs) (put_at ws 0 vs) ≡ drop (length vs) ws
-  put-behind = ap (drop (length vs)) put_first ∙ drop-append_seam vs (drop (length vs) ws)
+  pub put_behind : drop (length vs) (put_at ws 0 vs) ≡ drop (length vs) ws
+  put_behind = ap (drop (length vs)) put_first ∙ drop-append_seam vs (drop (length vs) ws)

@@ -2,74 +2,74 @@
 use mathlib.Core.Path.{sym, ◌∙◌}
 use contract.Lifetimes.{Lfts}
 use Rattle.shape.proofs.OneAnswer.{OneAnswer, OneExit}
-use Rattle.shape.proofs.is_all_of.Reads as is-all-of
-use Rattle.shape.proofs.piece_at.Reads as piece-at
-use Rattle.shape.proofs.put_piece.Reads as put-piece
-use Rattle.shape.proofs.scalar_at.Reads as scalar-at
-use Rattle.shape.proofs.Scalar.integer.Reads as scalar-integer
-use Rattle.shape.proofs.Scalar.float.Reads as scalar-float
-use Rattle.shape.proofs.Scalar.is_float.Reads as scalar-is-float
-use Rattle.shape.proofs.Piece.is_float.Reads as piece-is-float
-use Rattle.shape.proofs.Piece.end.Reads as piece-end
+use Rattle.shape.proofs.is_all_of.Reads as is_all_of
+use Rattle.shape.proofs.piece_at.Reads as piece_at
+use Rattle.shape.proofs.put_piece.Reads as put_piece
+use Rattle.shape.proofs.scalar_at.Reads as scalar_at
+use Rattle.shape.proofs.Scalar.integer.Reads as scalar_integer
+use Rattle.shape.proofs.Scalar.float.Reads as scalar_float
+use Rattle.shape.proofs.Scalar.is_float.Reads as scalar_is_float
+use Rattle.shape.proofs.Piece.is_float.Reads as piece_is_float
+use Rattle.shape.proofs.Piece.end.Reads as piece_end
 use Rattle.shape.proofs.least.Reads as least
 use Rattle.shape.proofs.most.Reads as most
 use Rattle.shape.proofs.minus.Reads as minus
 use Rattle.shape.proofs.sum.Reads as sum
 use Rattle.shape.proofs.product.Reads as product
 use Rattle.shape.proofs.round_up.Reads as round_up
-use Rattle.shape.proofs.one_if.Reads as one-if
+use Rattle.shape.proofs.one_if.Reads as one_if
 use Rattle.shape.proofs.wide.Reads as wide
 
-is-all-of-decides : (κs : Lfts 1) → OneAnswer (is-all-of.Post κs)
-is-all-of-decides κs a r q s t p p' = p ∙ sym p'
+is_all_of_decides : (κs : Lfts 1) → OneAnswer (is_all_of.Post κs)
+is_all_of_decides κs a r q s t p p' = p ∙ sym p'
 
-piece-at-decides : (κs : Lfts 1) → OneAnswer (piece-at.Post κs)
-piece-at-decides κs a r q s t p p' = p ∙ sym p'
+piece_at_decides : (κs : Lfts 1) → OneAnswer (piece_at.Post κs)
+piece_at_decides κs a r q s t p p' = p ∙ sym p'
 
-put-piece-decides : (κs : Lfts 1) → OneAnswer (put-piece.Post κs)
-put-piece-decides κs a r q s t p p' = p.0 ∙ sym p'.0
+put_piece_decides : (κs : Lfts 1) → OneAnswer (put_piece.Post κs)
+put_piece_decides κs a r q s t p p' = p.0 ∙ sym p'.0
 
-put-piece-words : (κs : Lfts 1) → OneExit (put-piece.Post κs) (λ s. s.0.now)
-put-piece-words κs a r q s t p p' = p.1 ∙ sym p'.1
+put_piece_words : (κs : Lfts 1) → OneExit (put_piece.Post κs) (λ s. s.0.now)
+put_piece_words κs a r q s t p p' = p.1 ∙ sym p'.1
 
-scalar-at-decides : (κs : Lfts 1) → OneAnswer (scalar-at.Post κs)
-scalar-at-decides κs a r q s t p p' = p ∙ sym p'
+scalar_at_decides : (κs : Lfts 1) → OneAnswer (scalar_at.Post κs)
+scalar_at_decides κs a r q s t p p' = p ∙ sym p'
 
-scalar-integer-decides : (κs : Lfts 0) → OneAnswer (scalar-integer.Post κs)
-scalar-integer-decides κs a r q s t p p' = p ∙ sym p'
+scalar_integer_decides : (κs : Lfts 0) → OneAnswer (scalar_integer.Post κs)
+scalar_integer_decides κs a r q s t p p' = p ∙ sym p'
 
-scalar-float-decides : (κs : Lfts 0) → OneAnswer (scalar-float.Post κs)
-scalar-float-decides κs a r q s t p p' = p ∙ sym p'
+scalar_float_decides : (κs : Lfts 0) → OneAnswer (scalar_float.Post κs)
+scalar_float_decides κs a r q s t p p' = p ∙ sym p'
 
-scalar-is-float-decides : (κs : Lfts 0) → OneAnswer (scalar-is-float.Post κs)
-scalar-is-float-decides κs a r q s t p p' = p ∙ sym p'
+scalar_is_float_decides : (κs : Lfts 0) → OneAnswer (scalar_is_float.Post κs)
+scalar_is_float_decides κs a r q s t p p' = p ∙ sym p'
 
-piece-is-float-decides : (κs : Lfts 0) → OneAnswer (piece-is-float.Post κs)
-piece-is-float-decides κs a r q s t p p' = p ∙ sym p'
+piece_is_float_decides : (κs : Lfts 0) → OneAnswer (piece_is_float.Post κs)
+piece_is_float_decides κs a r q s t p p' = p ∙ sym p'
 
-piece-end-decides : (κs : Lfts 0) → OneAnswer (piece-end.Post κs)
-piece-end-decides κs a r q s t p p' = p ∙ sym p'
+piece_end_decides : (κs : Lfts 0) → OneAnswer (piece_end.Post κs)
+piece_end_decides κs a r q s t p p' = p ∙ sym p'
 
-least-decides : (κs : Lfts 0) → OneAnswer (least.Post κs)
-least-decides κs a r q s t p p' = p ∙ sym p'
+least_decides : (κs : Lfts 0) → OneAnswer (least.Post κs)
+least_decides κs a r q s t p p' = p ∙ sym p'
 
-most-decides : (κs : Lfts 0) → OneAnswer (most.Post κs)
-most-decides κs a r q s t p p' = p ∙ sym p'
+most_decides : (κs : Lfts 0) → OneAnswer (most.Post κs)
+most_decides κs a r q s t p p' = p ∙ sym p'
 
-minus-decides : (κs : Lfts 0) → OneAnswer (minus.Post κs)
-minus-decides κs a r q s t p p' = p ∙ sym p'
+minus_decides : (κs : Lfts 0) → OneAnswer (minus.Post κs)
+minus_decides κs a r q s t p p' = p ∙ sym p'
 
-sum-decides : (κs : Lfts 0) → OneAnswer (sum.Post κs)
-sum-decides κs a r q s t p p' = p ∙ sym p'
+sum_decides : (κs : Lfts 0) → OneAnswer (sum.Post κs)
+sum_decides κs a r q s t p p' = p ∙ sym p'
 
-product-decides : (κs : Lfts 0) → OneAnswer (product.Post κs)
-product-decides κs a r q s t p p' = p ∙ sym p'
+product_decides : (κs : Lfts 0) → OneAnswer (product.Post κs)
+product_decides κs a r q s t p p' = p ∙ sym p'
 
-round-up-decides : (κs : Lfts 0) → OneAnswer (round_up.Post κs)
-round-up-decides κs a r q s t p p' = p ∙ sym p'
+round_up_decides : (κs : Lfts 0) → OneAnswer (round_up.Post κs)
+round_up_decides κs a r q s t p p' = p ∙ sym p'
 
-one-if-decides : (κs : Lfts 0) → OneAnswer (one-if.Post κs)
-one-if-decides κs a r q s t p p' = p.0 ∙ sym p'.0
+one_if_decides : (κs : Lfts 0) → OneAnswer (one_if.Post κs)
+one_if_decides κs a r q s t p p' = p.0 ∙ sym p'.0
 
-wide-decides : (κs : Lfts 0) → OneAnswer (wide.Post κs)
-wide-decides κs a r q s t p p' = p.0 ∙ sym p'.0
+wide_decides : (κs : Lfts 0) → OneAnswer (wide.Post κs)
+wide_decides κs a r q s t p p' = p.0 ∙ sym p'.0

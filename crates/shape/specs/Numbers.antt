@@ -11,78 +11,78 @@ single = 1
 abbrev pub double : ℕ
 double = 2
 
-abbrev pub x87-extended : ℕ
-x87-extended = 3
+abbrev pub x87_extended : ℕ
+x87_extended = 3
 
 abbrev pub quad : ℕ
 quad = 4
 
 -- forms of what a call is asked about
-abbrev pub form-void : ℕ
-form-void = 0
+abbrev pub form_void : ℕ
+form_void = 0
 
-abbrev pub form-scalar : ℕ
-form-scalar = 1
+abbrev pub form_scalar : ℕ
+form_scalar = 1
 
-abbrev pub form-aggregate : ℕ
-form-aggregate = 2
+abbrev pub form_aggregate : ℕ
+form_aggregate = 2
 
 -- refusals; 0 is none
 abbrev pub accepted : ℕ
 accepted = 0
 
-abbrev pub bad-abi : ℕ
-bad-abi = 1
+abbrev pub bad_abi : ℕ
+bad_abi = 1
 
-abbrev pub bad-call : ℕ
-bad-call = 2
+abbrev pub bad_call : ℕ
+bad_call = 2
 
-abbrev pub bad-list : ℕ
-bad-list = 3
+abbrev pub bad_list : ℕ
+bad_list = 3
 
 abbrev pub bad_kind : ℕ
 bad_kind = 4
 
-abbrev pub bad-size : ℕ
-bad-size = 5
+abbrev pub bad_size : ℕ
+bad_size = 5
 
-abbrev pub bad-align : ℕ
-bad-align = 6
+abbrev pub bad_align : ℕ
+bad_align = 6
 
 abbrev pub no_room : ℕ
 no_room = 7
 
-abbrev pub bad-area : ℕ
-bad-area = 8
+abbrev pub bad_area : ℕ
+bad_area = 8
 
-abbrev pub bad-extent : ℕ
-bad-extent = 9
+abbrev pub bad_extent : ℕ
+bad_extent = 9
 
-abbrev pub bad-type : ℕ
-bad-type = 10
+abbrev pub bad_type : ℕ
+bad_type = 10
 
-abbrev pub too-deep : ℕ
-too-deep = 11
+abbrev pub too_deep : ℕ
+too_deep = 11
 
 -- the largest size of a scalar or a piece
-abbrev pub most-size : ℕ
-most-size = 64
+abbrev pub most_size : ℕ
+most_size = 64
 
 -- the largest offset, and the largest size of a shape
-abbrev pub most-offset : ℕ
-most-offset = 16777216
+abbrev pub most_offset : ℕ
+most_offset = 16777216
 
-abbrev pub most-align : ℕ
-most-align = 4096
+abbrev pub most_align : ℕ
+most_align = 4096
 
-abbrev pub most-pieces : ℕ
-most-pieces = 1024
+abbrev pub most_pieces : ℕ
+most_pieces = 1024
 
 -- the largest number of 64 bits
-abbrev pub most-word : ℕ
-most-word = 18446744073709551615
+abbrev pub most_word : ℕ
+most_word = 18446744073709551615
 
 -- a yes as 1, a no as 0
-abbrev pub oneIf : Bool → ℕ
-oneIf true = 1
-oneIf false = 0
+abbrev pub one_if : Bool → ℕ
+one_if true = 1
+one_if false = 0

@@ -2,12 +2,12 @@
 use Rattle.std.specs.Prelude.{ℕ, ◌+◌, min, max, List, [], ◌∷◌, Bool, true, false, ◌&&◌, not, eqb, get_or}
 use Rattle.shape.specs.declared.Piece.{Piece}
 use Rattle.shape.specs.declared.Scalar.{Scalar}
-use Rattle.shape.specs.Numbers.{integer, most-word}
+use Rattle.shape.specs.Numbers.{integer, most_word}
 use Rattle.shape.specs.Words.{scalar}
 
 -- an integer, and a float in a format, of a size and aligned to itself
-abbrev pub integerOf : ℕ → Scalar
-integerOf size = scalar integer size size
+abbrev pub integer_of : ℕ → Scalar
+integer_of size = scalar integer size size
 
 abbrev pub float_of : ℕ → ℕ → Scalar
 float_of format size = scalar format size size
@@ -17,8 +17,8 @@ abbrev pub is_float : ℕ → Bool
 is_float kind = not (eqb kind integer)
 
 -- how many bytes a float of a format has; an x87 value has ten
-abbrev pub formatBytes : ℕ → ℕ
-formatBytes kind = get_or (0 ∷ 4 ∷ 8 ∷ 10 ∷ 16 ∷ []) kind 0
+abbrev pub format_bytes : ℕ → ℕ
+format_bytes kind = get_or (0 ∷ 4 ∷ 8 ∷ 10 ∷ 16 ∷ []) kind 0
 
 -- how many bytes a piece covers: size 0 counts as 1
 abbrev pub bytes_of : Piece → ℕ
@@ -26,7 +26,7 @@ bytes_of p = max p.size 1
 
 -- one past the last byte that a piece covers. Inside the limits that is below 64 bits; outside them it stops at the largest number
 abbrev pub end_of : Piece → ℕ
-end_of p = min (p.offset + bytes_of p) most-word
+end_of p = min (p.offset + bytes_of p) most_word
 
 -- every piece is of this kind
 unfoldable pub all_of : ℕ → List Piece → Bool
@@ -34,6 +34,6 @@ all_of kind [] = true
 all_of kind (p ∷ ps) = eqb p.kind kind && all_of kind ps
 
 -- there is a piece, and every piece is of this kind
-unfoldable pub isAllOf : ℕ → List Piece → Bool
-isAllOf kind [] = false
-isAllOf kind (p ∷ ps) = all_of kind (p ∷ ps)
+unfoldable pub is_all_of : ℕ → List Piece → Bool
+is_all_of kind [] = false
+is_all_of kind (p ∷ ps) = all_of kind (p ∷ ps)

@@ -5,15 +5,15 @@ use Rattle.shape.specs.declared.Piece.{Piece}
 use Rattle.shape.specs.Lists.{every}
 
 -- one past a piece's last byte, where its size isn't 0
-abbrev pub spanEnd : Piece → ℕ
-spanEnd p = p.offset + p.size
+abbrev pub span_end : Piece → ℕ
+span_end p = p.offset + p.size
 
 -- no piece starts before one that stands before it
-unfoldable pub inOrder : List Piece → Bool
-inOrder [] = true
-inOrder (p ∷ ps) = every (λ (q : Piece). leb p.offset q.offset) ps && inOrder ps
+unfoldable pub in_order : List Piece → Bool
+in_order [] = true
+in_order (p ∷ ps) = every (λ (q : Piece). leb p.offset q.offset) ps && in_order ps
 
 -- of two pieces one ends before the other starts
 unfoldable pub apart : List Piece → Bool
 apart [] = true
-apart (p ∷ ps) = every (λ (q : Piece). leb (spanEnd p) q.offset || leb (spanEnd q) p.offset) ps && apart ps
+apart (p ∷ ps) = every (λ (q : Piece). leb (span_end p) q.offset || leb (span_end q) p.offset) ps && apart ps

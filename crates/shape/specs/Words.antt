@@ -8,8 +8,8 @@ use Rattle.shape.specs.declared.Scalar.{Scalar}
 abbrev pub piece_size : ℕ
 piece_size = 4
 
-abbrev pub scalarSize : ℕ
-scalarSize = 3
+abbrev pub scalar_size : ℕ
+scalar_size = 3
 
 abbrev pub piece : ℕ → ℕ → ℕ → ℕ → Piece
 piece k s a o = record { kind = k; size = s; align = a; offset = o }
@@ -22,41 +22,41 @@ pieces_of (k ∷ s ∷ a ∷ []) = []
 pieces_of (k ∷ s ∷ a ∷ o ∷ ws) = piece k s a o ∷ pieces_of ws
 
 -- the first of some pieces, all zeros where there is none
-unfoldable pub firstPiece : List Piece → Piece
-firstPiece [] = piece 0 0 0 0
-firstPiece (p ∷ ps) = p
+unfoldable pub first_piece : List Piece → Piece
+first_piece [] = piece 0 0 0 0
+first_piece (p ∷ ps) = p
 
 -- the piece that starts at a place of the words
 unfoldable pub piece_at : List ℕ → ℕ → Piece
-piece_at ws at = firstPiece (pieces_of (drop at ws))
+piece_at ws at = first_piece (pieces_of (drop at ws))
 
 abbrev pub scalar : ℕ → ℕ → ℕ → Scalar
 scalar k s a = record { kind = k; size = s; align = a }
 
-unfoldable pub scalarsOf : List ℕ → List Scalar
-scalarsOf [] = []
-scalarsOf (k ∷ []) = []
-scalarsOf (k ∷ s ∷ []) = []
-scalarsOf (k ∷ s ∷ a ∷ ws) = scalar k s a ∷ scalarsOf ws
+unfoldable pub scalars_of : List ℕ → List Scalar
+scalars_of [] = []
+scalars_of (k ∷ []) = []
+scalars_of (k ∷ s ∷ []) = []
+scalars_of (k ∷ s ∷ a ∷ ws) = scalar k s a ∷ scalars_of ws
 
 -- the first of some scalars, all zeros where there is none
-unfoldable pub firstScalar : List Scalar → Scalar
-firstScalar [] = scalar 0 0 0
-firstScalar (s ∷ ss) = s
+unfoldable pub first_scalar : List Scalar → Scalar
+first_scalar [] = scalar 0 0 0
+first_scalar (s ∷ ss) = s
 
 -- the scalar that starts at a place of the words
-unfoldable pub scalarAt : List ℕ → ℕ → Scalar
-scalarAt ws at = firstScalar (scalarsOf (drop at ws))
+unfoldable pub scalar_at : List ℕ → ℕ → Scalar
+scalar_at ws at = first_scalar (scalars_of (drop at ws))
 
 -- ---- written
 
-abbrev pub pickWords : Bool → List ℕ → List ℕ → List ℕ
-pickWords true a b = a
-pickWords false a b = b
+abbrev pub pick_words : Bool → List ℕ → List ℕ → List ℕ
+pick_words true a b = a
+pick_words false a b = b
 
 -- `vs` in the place of the words from `at` on, where they fit; no word changes where they don't
 unfoldable pub put_at : List ℕ → ℕ → List ℕ → List ℕ
-put_at ws at vs = pickWords (leb (at + length vs) (length ws)) (take at ws ++ vs ++ drop (at + length vs) ws) ws
+put_at ws at vs = pick_words (leb (at + length vs) (length ws)) (take at ws ++ vs ++ drop (at + length vs) ws) ws
 
-abbrev pub pieceWords : Piece → List ℕ
-pieceWords p = p.kind ∷ p.size ∷ p.align ∷ p.offset ∷ []
+abbrev pub piece_words : Piece → List ℕ
+piece_words p = p.kind ∷ p.size ∷ p.align ∷ p.offset ∷ []

@@ -1,10 +1,12 @@
 // What a classifier is asked about: kinds, scalars, pieces and shapes, and the refusals. Pieces come in as words, four to a piece: kind, size,
 // alignment, offset. Whether it may be asked, the crate checks says. The rules are those of docs/REFERENCE.md, 1, 2, 4.1 and 4.2.
+#![tactic(auto)]
+
 ghost use Rattle.std.specs.Prelude.{◌≡◌, ◌-◌, ◌<◌, ◌≤◌, min, max, ◌+◌, leb, length};
-ghost use Rattle.shape.specs.Numbers.{oneIf};
+ghost use Rattle.shape.specs.Numbers.{one_if};
 ghost use Rattle.shape.specs.Arithmetic.{plus, times, rounded};
-ghost use Rattle.shape.specs.Words.{pieces_of, piece_at, scalarAt, put_at, piece_size, pieceWords};
-ghost use Rattle.shape.specs.Questions.{integerOf, float_of, is_float, end_of, isAllOf};
+ghost use Rattle.shape.specs.Words.{pieces_of, piece_at, scalar_at, put_at, piece_size, piece_words};
+ghost use Rattle.shape.specs.Questions.{integer_of, float_of, is_float, end_of, is_all_of};
 
 // Kinds: an integer, or a float in one of four formats.
 pub const INTEGER: u64 = 0;
@@ -68,7 +70,7 @@ pub struct Scalar {
 impl Scalar {
     // An integer of this size, aligned to itself.
     pub fn integer(size: u64) -> Scalar
-        ensures { result ≡ integerOf size }
+        ensures { result ≡ integer_of size }
     {
         Scalar {
             kind: INTEGER,
@@ -138,7 +140,7 @@ pub enum Arg {
 
 // Whether some words hold a piece and every piece is of this kind.
 pub fn is_all_of(words: &[u64], kind: u64) -> bool
-    ensures { result ≡ isAllOf kind (pieces_of words.now) }
+    ensures { result ≡ is_all_of kind (pieces_of words.now) }
 {
     if words.len() < PIECE {
         return false;
@@ -186,7 +188,7 @@ pub fn piece_at(words: &[u64], at: usize) -> Piece
 
 // Writes a piece from a place of the buffer on, where it fits; whether it does.
 pub fn put_piece(out: &mut [u64], at: usize, piece: Piece) -> bool
-    ensures { (result ≡ leb (at + piece_size) (length out.old)) × (out.new ≡ put_at out.old at (pieceWords piece)) }
+    ensures { (result ≡ leb (at + piece_size) (length out.old)) × (out.new ≡ put_at out.old at (piece_words piece)) }
 {
     let n = out.len();
     if n < PIECE {
@@ -204,7 +206,7 @@ pub fn put_piece(out: &mut [u64], at: usize, piece: Piece) -> bool
 
 // The scalar that starts at a place of the words: all zeros where no whole scalar is left there.
 pub fn scalar_at(words: &[u64], at: usize) -> Scalar
-    ensures { result ≡ scalarAt words.now at }
+    ensures { result ≡ scalar_at words.now at }
 {
     let n = words.len();
     if n < SCALAR {
@@ -281,7 +283,7 @@ pub fn round_up(n: u64, a: u64) -> u64
 
 // A yes as 1, a no as 0.
 pub fn one_if(b: bool) -> u64
-    ensures { (result ≡ oneIf b) × (result ≤ 1) }
+    ensures { (result ≡ one_if b) × (result ≤ 1) }
 {
     if b { 1 } else { 0 }
 }

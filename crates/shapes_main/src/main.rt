@@ -1,6 +1,8 @@
 // Reads shapes from standard input, as a sheet has them, and prints what each test that looks inside finds in each, a line for each test:
 // `nothing`, or how many slots and then the slots. Three lines more say how it is laid out: its alignment in memory on each row, the record
 // that its pieces make, and the pieces that their scalars make. The answers of the original to the same shapes are compared with these.
+#![tactic(auto)]
+
 ghost use Rattle.std.specs.Prelude.{◌<◌, ◌≤◌, length};
 ghost use Rattle.io.specs.Counts.{IsPrefixLen};
 

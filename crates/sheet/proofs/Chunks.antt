@@ -10,28 +10,28 @@ use lib.Dec.{leb}
 use lib.ListN.{length, take, drop, length-append, take-append-drop}
 use lib.Seq.{length-take-le, drop_at}
 use Rattle.shape.specs.Words.{put_at}
-use Rattle.sheet_records.specs.Records.{recordSize}
+use Rattle.sheet_records.specs.Records.{record_size}
 use Rattle.sheet_lines.specs.Printing.{longest}
 use Rattle.sheet.specs.declared.Step.{Step}
 use Rattle.sheet.specs.declared.Steps.{Steps}
-use Rattle.sheet.specs.Sheet.{Between, between, begin, stepTo, stopText, ended, finishState, text, afterRecord, texts, afterAll, recordsIn, whole, taken, stepAnswer, stepOut, Stepped, finishText, finishAnswer, finishOut, Finished, stepsAnswer, stepsPieces, stepsSlots, stepsOut, Taken, endText, sheetText}
-use Rattle.sheet.proofs.BoundLaws.{text-bound}
-use Rattle.sheet.proofs.ChunkLaws.{texts-append, after-append, records-front, records-join, taken-most, taken-fits, read_back}
+use Rattle.sheet.specs.Sheet.{Between, between, begin, step_to, stop_text, ended, finish_state, text, after_record, texts, after_all, records_in, whole, taken, step_answer, step_out, Stepped, finish_text, finish_answer, finish_out, Finished, steps_answer, steps_pieces, steps_slots, steps_out, Taken, end_text, sheet_text}
+use Rattle.sheet.proofs.BoundLaws.{text_bound}
+use Rattle.sheet.proofs.ChunkLaws.{texts_append, after_append, records_front, records_join, taken_most, taken_fits, read_back}
 
 -- the whole records of some bytes
 abbrev pub records : List ℕ → List (List ℕ)
-records bytes = recordsIn (whole bytes) bytes
+records bytes = records_in (whole bytes) bytes
 
 -- ---- one edge
 
 -- The lines of x ++ y, x being whole records, are those of x and then those of y from what x left: the state, the words of the pieces and
 -- those of the slots. And y leaves then what x ++ y leaves.
-module _ (b : Between) (m : ℕ) (x y : List ℕ) (e : length x ≡ m * recordSize) where
-  pub edge-lines : texts b (records (x ++ y)) ≡ texts b (records x) ++ texts (afterAll b (records x)) (records y)
-  edge-lines = ap (texts b) (records-join m x y e) ∙ texts-append b (records x) (records y)
+module _ (b : Between) (m : ℕ) (x y : List ℕ) (e : length x ≡ m * record_size) where
+  pub edge_lines : texts b (records (x ++ y)) ≡ texts b (records x) ++ texts (after_all b (records x)) (records y)
+  edge_lines = ap (texts b) (records_join m x y e) ∙ texts_append b (records x) (records y)
 
-  pub edge-leaves : afterAll b (records (x ++ y)) ≡ afterAll (afterAll b (records x)) (records y)
-  edge-leaves = ap (afterAll b) (records-join m x y e) ∙ after-append b (records x) (records y)
+  pub edge_leaves : after_all b (records (x ++ y)) ≡ after_all (after_all b (records x)) (records y)
+  edge_leaves = ap (after_all b) (records_join m x y e) ∙ after_append b (records x) (records y)
 
 -- ---- any chunks
 
@@ -63,9 +63,9 @@ unfoldable pub AllKept : Between → List Turn → Type 0
 AllKept b [] = Unit {0}
 AllKept b (t ∷ ts) = Kept b t × AllKept (left t) ts
 
-unfoldable pub leftBy : Between → List Turn → Between
-leftBy b [] = b
-leftBy b (t ∷ ts) = leftBy (left t) ts
+unfoldable pub left_by : Between → List Turn → Between
+left_by b [] = b
+left_by b (t ∷ ts) = left_by (left t) ts
 
 unfoldable pub bytes_of : List Turn → List ℕ
 bytes_of [] = []
@@ -80,60 +80,60 @@ abbrev count : Between → Turn → ℕ
 count b t = taken (whole t.lent) b t.lent (length t.room) 0
 
 module _ (b : Between) (t : Turn) (x : Kept b t) where
-  used-is : t.answer.used ≡ count b t * recordSize
-  unfolding stepsAnswer
-  used-is = ap (λ (r : Steps). r.used) x.answers
+  used_is : t.answer.used ≡ count b t * record_size
+  unfolding steps_answer
+  used_is = ap (λ (r : Steps). r.used) x.answers
 
-  inside : count b t * recordSize ≤ length t.lent
-  inside = let h = taken-most (whole t.lent) b t.lent (length t.room) 0 in omega arith
+  inside : count b t * record_size ≤ length t.lent
+  inside = let h = taken_most (whole t.lent) b t.lent (length t.room) 0 in omega arith
 
-  chunk-length : length (chunk t) ≡ count b t * recordSize
-  chunk-length = ap (λ (k : ℕ). length (take k t.lent)) used-is ∙ length-take-le (count b t * recordSize) t.lent inside
+  chunk_length : length (chunk t) ≡ count b t * record_size
+  chunk_length = ap (λ (k : ℕ). length (take k t.lent)) used_is ∙ length-take-le (count b t * record_size) t.lent inside
 
-  chunk-records : records (chunk t) ≡ recordsIn (count b t) t.lent
-  chunk-records =
-      let l = chunk-length in
+  chunk_records : records (chunk t) ≡ records_in (count b t) t.lent
+  chunk_records =
+      let l = chunk_length in
       let w : whole (chunk t) ≡ count b t = omega arith in
       let s : chunk t ++ drop t.answer.used t.lent ≡ t.lent = take-append-drop t.answer.used t.lent in
-      ap (λ (n : ℕ). recordsIn n (chunk t)) w
-      ∙ sym (records-front (count b t) (chunk t) (drop t.answer.used t.lent) (omega arith))
-      ∙ ap (recordsIn (count b t)) s
+      ap (λ (n : ℕ). records_in n (chunk t)) w
+      ∙ sym (records_front (count b t) (chunk t) (drop t.answer.used t.lent) (omega arith))
+      ∙ ap (records_in (count b t)) s
 
-  left_is : left t ≡ afterAll b (records (chunk t))
-  unfolding stepsAnswer stepsPieces stepsSlots
+  left_is : left t ≡ after_all b (records (chunk t))
+  unfolding steps_answer steps_pieces steps_slots
   left_is =
-      let p : t.answer.next ≡ (afterAll b (recordsIn (count b t) t.lent)).state = ap (λ (r : Steps). r.next) x.answers in
-      rw chunk-records (rw (p, x.pieces-left, x.slots-left))
+      let p : t.answer.next ≡ (after_all b (records_in (count b t) t.lent)).state = ap (λ (r : Steps). r.next) x.answers in
+      rw chunk_records (rw (p, x.pieces_left, x.slots_left))
 
   lines_are : lines t ≡ texts b (records (chunk t))
-  unfolding stepsAnswer stepsOut
+  unfolding steps_answer steps_out
   lines_are =
-      let h = taken-fits (whole t.lent) b t.lent (length t.room) 0 (omega arith) in
-      let p : t.answer.at ≡ length (texts b (recordsIn (count b t) t.lent)) = ap (λ (r : Steps). r.at) x.answers in
-      rw chunk-records (rw (p, x.text-left) (read_back t.room (texts b (recordsIn (count b t) t.lent)) (omega arith)))
+      let h = taken_fits (whole t.lent) b t.lent (length t.room) 0 (omega arith) in
+      let p : t.answer.at ≡ length (texts b (records_in (count b t) t.lent)) = ap (λ (r : Steps). r.at) x.answers in
+      rw chunk_records (rw (p, x.text_left) (read_back t.room (texts b (records_in (count b t) t.lent)) (omega arith)))
 
 -- calls one after the other write the lines of their bytes and leave what these leave
-pub turns-write : (b : Between) (ts : List Turn) → AllKept b ts → lines_of ts ≡ texts b (records (bytes_of ts))
-unfolding AllKept bytes_of lines_of texts recordsIn
-turns-write b [] x = refl
-turns-write b (t ∷ ts) x =
-    rw (lines_are b t x.0, turns-write (left t) ts x.1, edge-lines b (count b t) (chunk t) (bytes_of ts) (chunk-length b t x.0), left_is b t x.0)
+pub turns_write : (b : Between) (ts : List Turn) → AllKept b ts → lines_of ts ≡ texts b (records (bytes_of ts))
+unfolding AllKept bytes_of lines_of texts records_in
+turns_write b [] x = refl
+turns_write b (t ∷ ts) x =
+    rw (lines_are b t x.0, turns_write (left t) ts x.1, edge_lines b (count b t) (chunk t) (bytes_of ts) (chunk_length b t x.0), left_is b t x.0)
 
-pub turns-leave : (b : Between) (ts : List Turn) → AllKept b ts → leftBy b ts ≡ afterAll b (records (bytes_of ts))
-unfolding AllKept bytes_of leftBy afterAll recordsIn
-turns-leave b [] x = refl
-turns-leave b (t ∷ ts) x =
-    turns-leave (left t) ts x.1
-    ∙ ap (λ (z : Between). afterAll z (records (bytes_of ts))) (left_is b t x.0)
-    ∙ sym (edge-leaves b (count b t) (chunk t) (bytes_of ts) (chunk-length b t x.0))
+pub turns_leave : (b : Between) (ts : List Turn) → AllKept b ts → left_by b ts ≡ after_all b (records (bytes_of ts))
+unfolding AllKept bytes_of left_by after_all records_in
+turns_leave b [] x = refl
+turns_leave b (t ∷ ts) x =
+    turns_leave (left t) ts x.1
+    ∙ ap (λ (z : Between). after_all z (records (bytes_of ts))) (left_is b t x.0)
+    ∙ sym (edge_leaves b (count b t) (chunk t) (bytes_of ts) (chunk_length b t x.0))
 
 -- The law: the same bytes in any chunks, in one or in many, have the same lines and leave the same state and the same words.
 module _ (b : Between) (ts us : List Turn) (x : AllKept b ts) (y : AllKept b us) (same : bytes_of ts ≡ bytes_of us) where
   pub same_lines : lines_of ts ≡ lines_of us
-  same_lines = turns-write b ts x ∙ ap (λ (z : List ℕ). texts b (records z)) same ∙ sym (turns-write b us y)
+  same_lines = turns_write b ts x ∙ ap (λ (z : List ℕ). texts b (records z)) same ∙ sym (turns_write b us y)
 
-  pub same_left : leftBy b ts ≡ leftBy b us
-  same_left = turns-leave b ts x ∙ ap (λ (z : List ℕ). afterAll b (records z)) same ∙ sym (turns-leave b us y)
+  pub same_left : left_by b ts ≡ left_by b us
+  same_left = turns_leave b ts x ∙ ap (λ (z : List ℕ). after_all b (records z)) same ∙ sym (turns_leave b us y)
 
 -- ---- from start to finish
 
@@ -145,62 +145,62 @@ pub record Last : Type 0 where
   pub slots : List ℕ
   pub out : List ℕ
 
-abbrev pub lastLine : Last → List ℕ
-lastLine l = take l.answer.at l.out
+abbrev pub last_line : Last → List ℕ
+last_line l = take l.answer.at l.out
 
 unfoldable pub Ends : Between → List ℕ → Last → Type 0
 Ends b [] l = Finished b.state l.room 0 l.answer l.out
 Ends b (x ∷ xs) l = Stepped b.state (x ∷ xs) b.pieces b.slots l.room 0 l.answer l.pieces l.slots l.out
 
 -- the end, and a short record, each with room for its line
-read-it : (o t o' : List ℕ) (at : ℕ) → length t ≤ length o → at ≡ 0 + length t → o' ≡ put_at o 0 t → take at o' ≡ t
-read-it o t o' at h e p =
+read_it : (o t o' : List ℕ) (at : ℕ) → length t ≤ length o → at ≡ 0 + length t → o' ≡ put_at o 0 t → take at o' ≡ t
+read_it o t o' at h e p =
     let z : at ≡ length t = omega arith in rw (z, p) (read_back o t h)
 
-finish-bound : (ended : Bool) → length (cond ended [] stopText) ≤ longest
-finish-bound true = omega arith
-finish-bound false = omega arith
+finish_bound : (ended : Bool) → length (cond ended [] stop_text) ≤ longest
+finish_bound true = omega arith
+finish_bound false = omega arith
 
-last_line : (b : Between) (rest : List ℕ) (l : Last) → longest ≤ length l.room → Ends b rest l → lastLine l ≡ endText b rest
-unfolding Ends endText stepAnswer stepOut finishAnswer finishOut
-last_line b [] l h x =
+last_line_lem : (b : Between) (rest : List ℕ) (l : Last) → longest ≤ length l.room → Ends b rest l → last_line l ≡ end_text b rest
+unfolding Ends end_text step_answer step_out finish_answer finish_out
+last_line_lem b [] l h x =
     let g : leb (0 + longest) (length l.room) ≡ true = le-leb (0 + longest) (length l.room) (omega arith) in
-    let k = finish-bound (ended b.state) in
-    let a : l.answer ≡ stepTo (finishState b.state) (0 + length (finishText b.state)) = rw g at x.answers in
-    let t : l.out ≡ put_at l.room 0 (finishText b.state) = rw g at x.text-left in
-    read-it l.room (finishText b.state) l.out l.answer.at (omega arith) (ap (λ (r : Step). r.at) a) t
-last_line b (r ∷ rs) l h x =
+    let k = finish_bound (ended b.state) in
+    let a : l.answer ≡ step_to (finish_state b.state) (0 + length (finish_text b.state)) = rw g at x.answers in
+    let t : l.out ≡ put_at l.room 0 (finish_text b.state) = rw g at x.text_left in
+    read_it l.room (finish_text b.state) l.out l.answer.at (omega arith) (ap (λ (r : Step). r.at) a) t
+last_line_lem b (r ∷ rs) l h x =
     let g : leb (0 + longest) (length l.room) ≡ true = le-leb (0 + longest) (length l.room) (omega arith) in
-    let k = text-bound b (r ∷ rs) in
-    let a : l.answer ≡ stepTo (afterRecord b (r ∷ rs)).state (0 + length (text b (r ∷ rs))) = rw g at x.answers in
-    let t : l.out ≡ put_at l.room 0 (text b (r ∷ rs)) = rw g at x.text-left in
-    read-it l.room (text b (r ∷ rs)) l.out l.answer.at (omega arith) (ap (λ (r : Step). r.at) a) t
+    let k = text_bound b (r ∷ rs) in
+    let a : l.answer ≡ step_to (after_record b (r ∷ rs)).state (0 + length (text b (r ∷ rs))) = rw g at x.answers in
+    let t : l.out ≡ put_at l.room 0 (text b (r ∷ rs)) = rw g at x.text_left in
+    read_it l.room (text b (r ∷ rs)) l.out l.answer.at (omega arith) (ap (λ (r : Step). r.at) a) t
 
 -- calls use whole records
 unfoldable counts : Between → List Turn → ℕ
 counts b [] = 0
 counts b (t ∷ ts) = count b t + counts (left t) ts
 
-bytes-length : (b : Between) (ts : List Turn) → AllKept b ts → length (bytes_of ts) ≡ counts b ts * recordSize
+bytes_length : (b : Between) (ts : List Turn) → AllKept b ts → length (bytes_of ts) ≡ counts b ts * record_size
 unfolding AllKept bytes_of counts
-bytes-length b [] x = refl
-bytes-length b (t ∷ ts) x =
-    let l = chunk-length b t x.0 in
-    let r = bytes-length (left t) ts x.1 in
+bytes_length b [] x = refl
+bytes_length b (t ∷ ts) x =
+    let l = chunk_length b t x.0 in
+    let r = bytes_length (left t) ts x.1 in
     let s = length-append (chunk t) (bytes_of ts) in
     omega arith
 
 -- Any chunks, and then the bytes that are left: together the lines of the sheet.
-pub whole-sheet : (ts : List Turn) → AllKept begin ts → (rest : List ℕ) → length rest < recordSize
-    → (l : Last) → longest ≤ length l.room → Ends (leftBy begin ts) rest l
-    → lines_of ts ++ lastLine l ≡ sheetText (bytes_of ts ++ rest)
-unfolding sheetText
-whole-sheet ts x rest short l h y =
-    let n = bytes-length begin ts x in
+pub whole_sheet : (ts : List Turn) → AllKept begin ts → (rest : List ℕ) → length rest < record_size
+    → (l : Last) → longest ≤ length l.room → Ends (left_by begin ts) rest l
+    → lines_of ts ++ last_line l ≡ sheet_text (bytes_of ts ++ rest)
+unfolding sheet_text
+whole_sheet ts x rest short l h y =
+    let n = bytes_length begin ts x in
     let s = length-append (bytes_of ts) rest in
     let w : whole (bytes_of ts ++ rest) ≡ counts begin ts = omega arith in
     let v : whole (bytes_of ts) ≡ counts begin ts = omega arith in
-    let f : recordsIn (counts begin ts) (bytes_of ts ++ rest) ≡ records (bytes_of ts) =
-    records-front (counts begin ts) (bytes_of ts) rest (omega arith) ∙ ap (λ (k : ℕ). recordsIn k (bytes_of ts)) (sym v) in
-    let d : drop (counts begin ts * recordSize) (bytes_of ts ++ rest) ≡ rest = drop_at (bytes_of ts) rest _ n in
-    rw (w, f, d, turns-write begin ts x, last_line (leftBy begin ts) rest l h y, turns-leave begin ts x)
+    let f : records_in (counts begin ts) (bytes_of ts ++ rest) ≡ records (bytes_of ts) =
+    records_front (counts begin ts) (bytes_of ts) rest (omega arith) ∙ ap (λ (k : ℕ). records_in k (bytes_of ts)) (sym v) in
+    let d : drop (counts begin ts * record_size) (bytes_of ts ++ rest) ≡ rest = drop_at (bytes_of ts) rest _ n in
+    rw (w, f, d, turns_write begin ts x, last_line_lem (left_by begin ts) rest l h y, turns_leave begin ts x)

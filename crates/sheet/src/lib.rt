@@ -1,11 +1,13 @@
 // A sheet, record by record (docs/REFERENCE.md, 11): records of 48 bytes in, a line for each operation out. The crate sheet_records has what
 // comes of a record, sheet_perform performs an operation, and sheet_lines prints it; here records follow one another. What stands between two
 // records is a small value, `sheet_perform::State`; the pieces of an aggregate that is being read stand in a lent buffer.
+#![tactic(auto)]
+
 ghost use Rattle.std.specs.Prelude.{◌≡◌, ◌+◌, ◌≤◌, ◌&&◌, leb, length};
-ghost use Rattle.sheet_records.specs.Records.{recordSize};
+ghost use Rattle.sheet_records.specs.Records.{record_size};
 ghost use Rattle.text.specs.Text.{Put};
 ghost use Rattle.sheet_lines.specs.Printing.{longest};
-ghost use Rattle.sheet.specs.Sheet.{stopText, CarriedOut, Stepped, Taken, Finished};
+ghost use Rattle.sheet.specs.Sheet.{stop_text, CarriedOut, Stepped, Taken, Finished};
 
 use sheet_lines::has_room;
 use sheet_perform::State;
@@ -133,14 +135,14 @@ fn carry_out(
 
 fn put_stop(out: &mut [u8], at: usize) -> usize
     requires { at + longest ≤ length out.old }
-    ensures { Put out.old at stopText result out.new }
+    ensures { Put out.old at stop_text result out.new }
 {
     text::append(out, at, b"stop\n")
 }
 
 // Whether a whole record is left and the longest line has room.
 fn goes_on(left: usize, length: usize, at: usize) -> bool
-    ensures { result ≡ leb recordSize left && leb (at + longest) length }
+    ensures { result ≡ leb record_size left && leb (at + longest) length }
 {
     (RECORD <= left) & has_room(length, at)
 }

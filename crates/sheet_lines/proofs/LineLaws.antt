@@ -8,54 +8,54 @@ use borrow.Author.Tests.{le-leb, leb-true, not-true, not-false}
 use lib.Dec.{leb}
 use lib.ListN.{length}
 use Rattle.shape.proofs.Bools.{both_true}
-use Rattle.slots.specs.Words.{slotSize, mostSlots}
+use Rattle.slots.specs.Words.{slot_size, most_slots}
 use Rattle.classify.specs.declared.Answer.{Answer}
 use Rattle.sheet_records.specs.declared.known.Act.{Act}
 use Rattle.text.specs.Text.{Put}
-use Rattle.sheet_lines.specs.Printing.{longest, line, lineEnd, lineOut, Lined}
-use Rattle.sheet_lines.proofs.BoundLaws.{line-bound}
+use Rattle.sheet_lines.specs.Printing.{longest, line, line_end, line_out, Lined}
+use Rattle.sheet_lines.proofs.BoundLaws.{line_bound}
 
 -- what the tests told
-pub room-there : (n at : ℕ) (b : Bool) → b ≡ leb (at + longest) n → not b ≡ false → at + longest ≤ n
-room-there n at b eb t = leb-true _ _ (sym eb ∙ not-false b t)
+pub room_there : (n at : ℕ) (b : Bool) → b ≡ leb (at + longest) n → not b ≡ false → at + longest ≤ n
+room_there n at b eb t = leb-true _ _ (sym eb ∙ not-false b t)
 
-module _ (k n : ℕ) (g : Bool) (eg : g ≡ leb k mostSlots && leb k (n / slotSize)) (t : not g ≡ false) where
-  tests : (leb k mostSlots ≡ true) × (leb k (n / slotSize) ≡ true)
+module _ (k n : ℕ) (g : Bool) (eg : g ≡ leb k most_slots && leb k (n / slot_size)) (t : not g ≡ false) where
+  tests : (leb k most_slots ≡ true) × (leb k (n / slot_size) ≡ true)
   tests = both_true _ _ (sym eg ∙ not-false g t)
 
-  pub few-enough : k ≤ mostSlots
-  few-enough = leb-true _ _ tests.0
+  pub few_enough : k ≤ most_slots
+  few_enough = leb-true _ _ tests.0
 
-  pub words-there : k * slotSize ≤ n
-  words-there = let h : k ≤ n / slotSize = leb-true _ _ tests.1 in omega arith
+  pub words_there : k * slot_size ≤ n
+  words_there = let h : k ≤ n / slot_size = leb-true _ _ tests.1 in omega arith
 
 module _ (act : Act) (before : ℕ) (a : Answer) (slots out : List ℕ) (at : ℕ) (b : Bool) (eb : b ≡ leb (at + longest) (length out)) where
-  pub line-roomless : not b ≡ true → Lined act before a slots out at at out
-  unfolding lineEnd lineOut
-  line-roomless t = let f : leb (at + longest) (length out) ≡ false = sym eb ∙ not-true b t in record { ends = rw f; text-left = rw f }
+  pub line_roomless : not b ≡ true → Lined act before a slots out at at out
+  unfolding line_end line_out
+  line_roomless t = let f : leb (at + longest) (length out) ≡ false = sym eb ∙ not-true b t in record { ends = rw f; text_left = rw f }
 
-  module _ (t : not b ≡ false) (g : Bool) (eg : g ≡ leb a.outcome.slots mostSlots && leb a.outcome.slots (length slots / slotSize)) where
+  module _ (t : not b ≡ false) (g : Bool) (eg : g ≡ leb a.outcome.slots most_slots && leb a.outcome.slots (length slots / slot_size)) where
     roomy : leb (at + longest) (length out) ≡ true
     roomy = sym eb ∙ not-false b t
 
-    pub line-slotless : not g ≡ true → Lined act before a slots out at at out
-    unfolding lineEnd lineOut
-    line-slotless u = record { ends = rw (roomy, ← eg, not-true g u); text-left = rw (roomy, ← eg, not-true g u) }
+    pub line_slotless : not g ≡ true → Lined act before a slots out at at out
+    unfolding line_end line_out
+    line_slotless u = record { ends = rw (roomy, ← eg, not-true g u); text_left = rw (roomy, ← eg, not-true g u) }
 
     module _ (u : not g ≡ false) where
-      pub line-printed : (r : ℕ) (out' : List ℕ) → Put out at (line act before a slots) r out'
+      pub line_printed : (r : ℕ) (out' : List ℕ) → Put out at (line act before a slots) r out'
           → Lined act before a slots out at r out'
-      unfolding lineEnd lineOut
-      line-printed r out' x =
-          record { ends = rw (roomy, ← eg, not-false g u) x.ends; text-left = rw (roomy, ← eg, not-false g u) x.put }
+      unfolding line_end line_out
+      line_printed r out' x =
+          record { ends = rw (roomy, ← eg, not-false g u) x.ends; text_left = rw (roomy, ← eg, not-false g u) x.put }
 
 -- a line that is printable stands there
-pub line-there : (act : Act) (before : ℕ) (a : Answer) (slots out : List ℕ) (at to : ℕ) (out' : List ℕ) → Lined act before a slots out at to out'
-    → at + longest ≤ length out → a.outcome.slots ≤ mostSlots → a.outcome.slots ≤ length slots / slotSize → Put out at (line act before a slots) to out'
-unfolding lineEnd lineOut
-line-there act before a slots out at to out' x room few inside =
+pub line_there : (act : Act) (before : ℕ) (a : Answer) (slots out : List ℕ) (at to : ℕ) (out' : List ℕ) → Lined act before a slots out at to out'
+    → at + longest ≤ length out → a.outcome.slots ≤ most_slots → a.outcome.slots ≤ length slots / slot_size → Put out at (line act before a slots) to out'
+unfolding line_end line_out
+line_there act before a slots out at to out' x room few inside =
     let f = le-leb (at + longest) (length out) room in
-    let g = le-leb a.outcome.slots mostSlots few in
-    let h = le-leb a.outcome.slots (length slots / slotSize) inside in
-    let k = line-bound act before a slots few in
-    record { ends = rw (f, g, h) at x.ends; put = rw (f, g, h) at x.text-left; fits = omega arith }
+    let g = le-leb a.outcome.slots most_slots few in
+    let h = le-leb a.outcome.slots (length slots / slot_size) inside in
+    let k = line_bound act before a slots few in
+    record { ends = rw (f, g, h) at x.ends; put = rw (f, g, h) at x.text_left; fits = omega arith }

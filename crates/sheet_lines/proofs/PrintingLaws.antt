@@ -7,95 +7,95 @@ use native.Mathlib.Numerals.{add-one}
 use borrow.Author.Tests.{eq-eqb, ne_eqb}
 use lib.ListN.{length, take, drop, get_or}
 use lib.Seq.{drop-cons, drop-length, get_or-take, length-take-le}
-use Rattle.slots.specs.Words.{slotSize}
+use Rattle.slots.specs.Words.{slot_size}
 use Rattle.text.specs.Text.{bytes}
 use Rattle.spend.specs.declared.Way as ways
-use Rattle.spend.specs.Ways.{wayFrom}
+use Rattle.spend.specs.Ways.{way_from}
 use Rattle.classify.specs.declared.Outcome.{Outcome}
 use Rattle.classify.specs.declared.Answer.{Answer}
 use Rattle.sheet_records.specs.declared.known.Act as acts
 use Rattle.text.specs.Text.{Put}
-use Rattle.text.specs.Numbers.{part, mostPart}
-use Rattle.sheet_lines.specs.Printing.{space, newline, wayText, actText, refusedText, nameText, pair, countsText, markAt, slotsText, restText, offsetBefore, offsetsText, endText, line}
-use Rattle.text.proofs.Putting.{put_then, put-nothing}
+use Rattle.text.specs.Numbers.{part, most_part}
+use Rattle.sheet_lines.specs.Printing.{space, newline, way_text, act_text, refused_text, name_text, pair, counts_text, mark_at, slots_text, rest_text, offset_before, offsets_text, end_text, line}
+use Rattle.text.proofs.Putting.{put_then, put_nothing}
 
 module _ (o : List ℕ) (at r : ℕ) (p : List ℕ) where
   module _ (way : ways.Way) where
-    pub way-ignore : way ≡ ways.TheVariants.Ignore → Put o at (bytes "ignore") r p → Put o at (wayText way) r p
-    unfolding wayText
-    way-ignore e x = rw e x
+    pub way_ignore : way ≡ ways.TheVariants.Ignore → Put o at (bytes "ignore") r p → Put o at (way_text way) r p
+    unfolding way_text
+    way_ignore e x = rw e x
 
-    pub way-direct : way ≡ ways.TheVariants.Direct → Put o at (bytes "direct") r p → Put o at (wayText way) r p
-    unfolding wayText
-    way-direct e x = rw e x
+    pub way_direct : way ≡ ways.TheVariants.Direct → Put o at (bytes "direct") r p → Put o at (way_text way) r p
+    unfolding way_text
+    way_direct e x = rw e x
 
-    pub way-pieces : way ≡ ways.TheVariants.Pieces → Put o at (bytes "pieces") r p → Put o at (wayText way) r p
-    unfolding wayText
-    way-pieces e x = rw e x
+    pub way_pieces : way ≡ ways.TheVariants.Pieces → Put o at (bytes "pieces") r p → Put o at (way_text way) r p
+    unfolding way_text
+    way_pieces e x = rw e x
 
-    pub way-reference : way ≡ ways.TheVariants.Reference → Put o at (bytes "reference") r p → Put o at (wayText way) r p
-    unfolding wayText
-    way-reference e x = rw e x
+    pub way_reference : way ≡ ways.TheVariants.Reference → Put o at (bytes "reference") r p → Put o at (way_text way) r p
+    unfolding way_text
+    way_reference e x = rw e x
 
-    pub way-memory : way ≡ ways.TheVariants.Memory → Put o at (bytes "memory") r p → Put o at (wayText way) r p
-    unfolding wayText
-    way-memory e x = rw e x
+    pub way_memory : way ≡ ways.TheVariants.Memory → Put o at (bytes "memory") r p → Put o at (way_text way) r p
+    unfolding way_text
+    way_memory e x = rw e x
 
   module _ (act : acts.Act) (out : Outcome) where
-    pub name-refused : (out.refusal ≡ 0 → ⊥) → Put o at refusedText r p → Put o at (nameText act out) r p
-    unfolding nameText
-    name-refused h x = rw (ne_eqb _ _ h) x
+    pub name_refused : (out.refusal ≡ 0 → ⊥) → Put o at refused_text r p → Put o at (name_text act out) r p
+    unfolding name_text
+    name_refused h x = rw (ne_eqb _ _ h) x
 
     module _ (h : out.refusal ≡ 0) where
-      named : Put o at (actText act (wayFrom out.way)) r p → Put o at (nameText act out) r p
-      unfolding nameText
+      named : Put o at (act_text act (way_from out.way)) r p → Put o at (name_text act out) r p
+      unfolding name_text
       named x = rw (eq-eqb _ _ h) x
 
-      pub name-fresh : act ≡ acts.TheVariants.Fresh → Put o at (bytes "fresh") r p → Put o at (nameText act out) r p
-      unfolding actText
-      name-fresh e x = named (rw e x)
+      pub name_fresh : act ≡ acts.TheVariants.Fresh → Put o at (bytes "fresh") r p → Put o at (name_text act out) r p
+      unfolding act_text
+      name_fresh e x = named (rw e x)
 
-      pub name-marked : act ≡ acts.TheVariants.Mark → Put o at (bytes "marked") r p → Put o at (nameText act out) r p
-      unfolding actText
-      name-marked e x = named (rw e x)
+      pub name_marked : act ≡ acts.TheVariants.Mark → Put o at (bytes "marked") r p → Put o at (name_text act out) r p
+      unfolding act_text
+      name_marked e x = named (rw e x)
 
-      pub name-value : act ≡ acts.TheVariants.Value → (way : ways.Way) → way ≡ wayFrom out.way → Put o at (wayText way) r p → Put o at (nameText act out) r p
-      unfolding actText
-      name-value e way ew x = named (rw (e, ← ew) x)
+      pub name_value : act ≡ acts.TheVariants.Value → (way : ways.Way) → way ≡ way_from out.way → Put o at (way_text way) r p → Put o at (name_text act out) r p
+      unfolding act_text
+      name_value e way ew x = named (rw (e, ← ew) x)
 
   module _ (out : Outcome) (slots : List ℕ) where
-    pub rest-refused : (out.refusal ≡ 0 → ⊥) → Put o at (part space out.refusal) r p → Put o at (restText out slots) r p
-    unfolding restText
-    rest-refused h x = rw (ne_eqb _ _ h) x
+    pub rest_refused : (out.refusal ≡ 0 → ⊥) → Put o at (part space out.refusal) r p → Put o at (rest_text out slots) r p
+    unfolding rest_text
+    rest_refused h x = rw (ne_eqb _ _ h) x
 
-    pub rest-slots : out.refusal ≡ 0 → Put o at (slotsText 0 (take (out.slots * slotSize) slots)) r p → Put o at (restText out slots) r p
-    unfolding restText
-    rest-slots h x = rw (eq-eqb _ _ h) x
+    pub rest_slots : out.refusal ≡ 0 → Put o at (slots_text 0 (take (out.slots * slot_size) slots)) r p → Put o at (rest_text out slots) r p
+    unfolding rest_text
+    rest_slots h x = rw (eq-eqb _ _ h) x
 
 pub pair_put : (o : List ℕ) (at m n r : ℕ) (p : List ℕ) (t : ℕ) (q : List ℕ)
     → Put o at (part space m) r p → Put p r (part space n) t q → Put o at (pair m n) t q
 pair_put o at m n r p t q x y = put_then x y
 
-pub counts-put : (answer : Answer) (o : List ℕ) (at a : ℕ) (p : List ℕ) (b : ℕ) (q : List ℕ) (c : ℕ) (s : List ℕ)
+pub counts_put : (answer : Answer) (o : List ℕ) (at a : ℕ) (p : List ℕ) (b : ℕ) (q : List ℕ) (c : ℕ) (s : List ℕ)
     → Put o at (pair answer.next.left.integer answer.next.left.float) a p
     → Put p a (pair answer.outcome.spent.integers_passed answer.outcome.spent.integers_given) b q
     → Put q b (pair answer.outcome.spent.floats_passed answer.outcome.spent.floats_given) c s
-    → Put o at (countsText answer) c s
-unfolding countsText
-counts-put answer o at a p b q c s x1 x2 x3 = put_then x1 (put_then x2 x3)
+    → Put o at (counts_text answer) c s
+unfolding counts_text
+counts_put answer o at a p b q c s x1 x2 x3 = put_then x1 (put_then x2 x3)
 
 module _ (act : acts.Act) (before : ℕ) where
-  pub end-put : (answer : Answer) (first : ℕ) → first ≡ offsetBefore act before answer.next.stack
+  pub end_put : (answer : Answer) (first : ℕ) → first ≡ offset_before act before answer.next.stack
       → (o : List ℕ) (at a : ℕ) (p : List ℕ) (b : ℕ) (q : List ℕ)
-      → Put o at (pair first answer.next.stack) a p → Put p a (newline ∷ []) b q → Put o at (endText act before answer) b q
-  unfolding offsetsText
-  end-put answer first e o at a p b q x1 x2 = put_then (rw e at x1) x2
+      → Put o at (pair first answer.next.stack) a p → Put p a (newline ∷ []) b q → Put o at (end_text act before answer) b q
+  unfolding offsets_text
+  end_put answer first e o at a p b q x1 x2 = put_then (rw e at x1) x2
 
-  pub line-put : (answer : Answer) (slots o : List ℕ) (at a : ℕ) (p : List ℕ) (b : ℕ) (q : List ℕ) (c : ℕ) (s : List ℕ) (d : ℕ) (t : List ℕ)
-      → Put o at (nameText act answer.outcome) a p → Put p a (countsText answer) b q → Put q b (restText answer.outcome slots) c s
-      → Put s c (endText act before answer) d t → Put o at (line act before answer slots) d t
+  pub line_put : (answer : Answer) (slots o : List ℕ) (at a : ℕ) (p : List ℕ) (b : ℕ) (q : List ℕ) (c : ℕ) (s : List ℕ) (d : ℕ) (t : List ℕ)
+      → Put o at (name_text act answer.outcome) a p → Put p a (counts_text answer) b q → Put q b (rest_text answer.outcome slots) c s
+      → Put s c (end_text act before answer) d t → Put o at (line act before answer slots) d t
   unfolding line
-  line-put answer slots o at a p b q c s d t x1 x2 x3 x4 = put_then x1 (put_then x2 (put_then x3 x4))
+  line_put answer slots o at a p b q c s d t x1 x2 x3 x4 = put_then x1 (put_then x2 (put_then x3 x4))
 
 -- ---- the loop of `put_slots`
 
@@ -107,26 +107,26 @@ pub goes_first : (o : List ℕ) (at : ℕ) (whole : List ℕ) → Goes o at whol
 goes_first o at whole = record { on = λ r q x. x }
 
 -- the text of the words from an index on
-abbrev pub slotsFrom : ℕ → List ℕ → ℕ → List ℕ
-slotsFrom n slots i = slotsText i (drop i (take n slots))
+abbrev pub slots_from : ℕ → List ℕ → ℕ → List ℕ
+slots_from n slots i = slots_text i (drop i (take n slots))
 
 module _ (n : ℕ) (slots : List ℕ) (all : n ≤ length slots) (i : ℕ) where
-  slot_next : i < n → slotsFrom n slots i ≡ part (markAt i) (get_or slots i 0) ++ slotsFrom n slots (i + 1)
-  unfolding slotsText
+  slot_next : i < n → slots_from n slots i ≡ part (mark_at i) (get_or slots i 0) ++ slots_from n slots (i + 1)
+  unfolding slots_text
   slot_next h =
       let l : length (take n slots) ≡ n = length-take-le n slots all in
       let k : i < length (take n slots) = omega arith in
       rw (add-one, drop-cons (take n slots) i 0 k, get_or-take n slots i 0, add-one)
 
-  module _ (o : List ℕ) (at : ℕ) (whole p : List ℕ) (to : ℕ) (g : Goes o at whole p to (slotsFrom n slots i)) where
-    pub goes-next : i < n → (m t : ℕ) (q : List ℕ) → m ≡ markAt i → Put p to (part m (get_or slots i 0)) t q
-        → Goes o at whole q t (slotsFrom n slots (i + 1))
-    goes-next h m t q em x = record { on = λ r u y. g.on r u (rw (slot_next h) (put_then (rw em at x) y)) }
+  module _ (o : List ℕ) (at : ℕ) (whole p : List ℕ) (to : ℕ) (g : Goes o at whole p to (slots_from n slots i)) where
+    pub goes_next : i < n → (m t : ℕ) (q : List ℕ) → m ≡ mark_at i → Put p to (part m (get_or slots i 0)) t q
+        → Goes o at whole q t (slots_from n slots (i + 1))
+    goes_next h m t q em x = record { on = λ r u y. g.on r u (rw (slot_next h) (put_then (rw em at x) y)) }
 
-    pub goes_last : n ≤ i → i ≤ n → at + n * mostPart ≤ length o → length p ≡ length o → to ≤ at + i * mostPart → Put o at whole to p
-    unfolding slotsText
+    pub goes_last : n ≤ i → i ≤ n → at + n * most_part ≤ length o → length p ≡ length o → to ≤ at + i * most_part → Put o at whole to p
+    unfolding slots_text
     goes_last h k fits same bound =
         let l : length (take n slots) ≡ n = length-take-le n slots all in
         let e : i ≡ length (take n slots) = omega arith in
         let z : drop i (take n slots) ≡ [] = ap (λ (j : ℕ). drop j (take n slots)) e ∙ drop-length (take n slots) in
-        g.on to p (rw z (put-nothing p to (omega arith)))
+        g.on to p (rw z (put_nothing p to (omega arith)))

@@ -1,11 +1,13 @@
 // The line of an operation (docs/REFERENCE.md, 11): what it is or how the value travels, the counts left, passed over and given, then the
 // slots or the refusal, and last the stack offsets before and after. A line is written whole, or not at all.
+#![tactic(auto)]
+
 mod writing;
 
 ghost use Rattle.std.specs.Prelude.{◌≡◌, ◌&&◌, ◌+◌, ◌*◌, ◌/◌, ◌≤◌, leb, length, take};
-ghost use Rattle.slots.specs.Words.{slotSize, mostSlots};
+ghost use Rattle.slots.specs.Words.{slot_size, most_slots};
 ghost use Rattle.text.specs.Text.{Put};
-ghost use Rattle.text.specs.Numbers.{mostPart};
+ghost use Rattle.text.specs.Numbers.{most_part};
 ghost use Rattle.sheet_lines.specs.Printing as spec;
 
 use classify::{Answer, Outcome};
@@ -61,13 +63,13 @@ pub fn has_room(length: usize, at: usize) -> bool
 
 // Whether so many slots are few enough for a line and stand among so many words.
 fn are_there(n: u64, words: usize) -> bool
-    ensures { result ≡ leb n mostSlots && leb n (words / slotSize) }
+    ensures { result ≡ leb n most_slots && leb n (words / slot_size) }
 {
     (n <= slots::MOST_SLOTS as u64) & (n <= slots::room(words) as u64)
 }
 
 fn print(act: Act, before: u64, answer: Answer, slots: &[u64], out: &mut [u8], at: usize) -> usize
-    requires { (at + spec.longest ≤ length out.old) × (answer.outcome.slots ≤ mostSlots) × (answer.outcome.slots * slotSize ≤ length slots.now) }
+    requires { (at + spec.longest ≤ length out.old) × (answer.outcome.slots ≤ most_slots) × (answer.outcome.slots * slot_size ≤ length slots.now) }
     ensures { Put out.old at (spec.line act before answer slots.now) result out.new }
 {
     let outcome = answer.outcome;
@@ -78,8 +80,8 @@ fn print(act: Act, before: u64, answer: Answer, slots: &[u64], out: &mut [u8], a
 }
 
 fn put_name(act: Act, outcome: Outcome, out: &mut [u8], at: usize) -> usize
-    requires { at + spec.mostName ≤ length out.old }
-    ensures { Put out.old at (spec.nameText act outcome) result out.new × (result ≤ at + spec.mostName) }
+    requires { at + spec.most_name ≤ length out.old }
+    ensures { Put out.old at (spec.name_text act outcome) result out.new × (result ≤ at + spec.most_name) }
 {
     if outcome.refusal != shape::ACCEPTED {
         return put_text(out, at, b"refused");
@@ -92,8 +94,8 @@ fn put_name(act: Act, outcome: Outcome, out: &mut [u8], at: usize) -> usize
 }
 
 fn put_way(way: Way, out: &mut [u8], at: usize) -> usize
-    requires { at + spec.mostName ≤ length out.old }
-    ensures { Put out.old at (spec.wayText way) result out.new × (result ≤ at + spec.mostName) }
+    requires { at + spec.most_name ≤ length out.old }
+    ensures { Put out.old at (spec.way_text way) result out.new × (result ≤ at + spec.most_name) }
 {
     match way {
         Way::Ignore => put_text(out, at, b"ignore"),
@@ -105,8 +107,8 @@ fn put_way(way: Way, out: &mut [u8], at: usize) -> usize
 }
 
 fn put_counts(answer: Answer, out: &mut [u8], at: usize) -> usize
-    requires { at + spec.mostCounts ≤ length out.old }
-    ensures { Put out.old at (spec.countsText answer) result out.new × (result ≤ at + spec.mostCounts) }
+    requires { at + spec.most_counts ≤ length out.old }
+    ensures { Put out.old at (spec.counts_text answer) result out.new × (result ≤ at + spec.most_counts) }
 {
     let call = answer.next;
     let outcome = answer.outcome;
@@ -118,8 +120,8 @@ fn put_counts(answer: Answer, out: &mut [u8], at: usize) -> usize
 }
 
 fn put_rest(outcome: Outcome, slots: &[u64], out: &mut [u8], at: usize) -> usize
-    requires { (at + spec.mostRest ≤ length out.old) × (outcome.slots ≤ mostSlots) × (outcome.slots * slotSize ≤ length slots.now) }
-    ensures { Put out.old at (spec.restText outcome slots.now) result out.new × (result ≤ at + spec.mostRest) }
+    requires { (at + spec.most_rest ≤ length out.old) × (outcome.slots ≤ most_slots) × (outcome.slots * slot_size ≤ length slots.now) }
+    ensures { Put out.old at (spec.rest_text outcome slots.now) result out.new × (result ≤ at + spec.most_rest) }
 {
     if outcome.refusal != shape::ACCEPTED {
         return put_part(out, at, b' ', outcome.refusal);
@@ -129,8 +131,8 @@ fn put_rest(outcome: Outcome, slots: &[u64], out: &mut [u8], at: usize) -> usize
 
 // The words of slots: a space before each slot, and a colon between its words.
 fn put_slots(slots: &[u64], n: usize, out: &mut [u8], at: usize) -> usize
-    requires { (at + n * mostPart ≤ length out.old) × (n ≤ length slots.now) }
-    ensures { Put out.old at (spec.slotsText 0 (take n slots.now)) result out.new × (result ≤ at + n * mostPart) }
+    requires { (at + n * most_part ≤ length out.old) × (n ≤ length slots.now) }
+    ensures { Put out.old at (spec.slots_text 0 (take n slots.now)) result out.new × (result ≤ at + n * most_part) }
 {
     let mut to = at;
     let mut i = 0;
@@ -142,15 +144,15 @@ fn put_slots(slots: &[u64], n: usize, out: &mut [u8], at: usize) -> usize
 }
 
 fn mark(i: usize) -> u8
-    ensures { result ≡ spec.markAt i }
+    ensures { result ≡ spec.mark_at i }
 {
     if i % slots::SLOT == 0 { b' ' } else { b':' }
 }
 
 // The stack offset before the operation and the one after it, and the newline.
 fn put_end(act: Act, before: u64, answer: Answer, out: &mut [u8], at: usize) -> usize
-    requires { at + spec.mostEnd ≤ length out.old }
-    ensures { Put out.old at (spec.endText act before answer) result out.new }
+    requires { at + spec.most_end ≤ length out.old }
+    ensures { Put out.old at (spec.end_text act before answer) result out.new }
 {
     let call = answer.next;
     let after = call.stack;
@@ -160,7 +162,7 @@ fn put_end(act: Act, before: u64, answer: Answer, out: &mut [u8], at: usize) -> 
 
 // A fresh call is performed on none, and has its own offset twice.
 fn offset_before(act: Act, before: u64, after: u64) -> u64
-    ensures { result ≡ spec.offsetBefore act before after }
+    ensures { result ≡ spec.offset_before act before after }
 {
     match act {
         Act::Fresh => after,
@@ -171,8 +173,8 @@ fn offset_before(act: Act, before: u64, after: u64) -> u64
 
 // Two numbers, each behind a space.
 fn put_pair(out: &mut [u8], at: usize, m: u64, n: u64) -> usize
-    requires { at + spec.mostPair ≤ length out.old }
-    ensures { Put out.old at (spec.pair m n) result out.new × (result ≤ at + spec.mostPair) }
+    requires { at + spec.most_pair ≤ length out.old }
+    ensures { Put out.old at (spec.pair m n) result out.new × (result ≤ at + spec.most_pair) }
 {
     let to = put_part(out, at, b' ', m);
     put_part(out, to, b' ', n)

@@ -7,78 +7,78 @@ use lib.Seq.{take_all}
 use Rattle.shape.specs.declared.Arg.{Arg}
 use Rattle.classify.specs.declared.Call.{Call}
 use Rattle.classify.specs.declared.Answer.{Answer}
-use Rattle.classify.specs.Answers.{freshAnswer, variadicAnswer, returnsAnswer, returnsWritten, argumentAnswer, argumentWritten, variadicArgumentAnswer, variadicArgumentWritten}
+use Rattle.classify.specs.Answers.{fresh_answer, variadic_answer, returns_answer, returns_written, argument_answer, argument_written, variadic_argument_answer, variadic_argument_written}
 use Rattle.sheet_records.specs.declared.known.Reader.{Reader}
 use Rattle.sheet_records.specs.declared.known.Operation as operations
-use Rattle.sheet_records.specs.Known.{readerAfter}
+use Rattle.sheet_records.specs.Known.{reader_after}
 use Rattle.sheet_perform.specs.declared.State.{State}
 use Rattle.sheet_perform.specs.declared.Performed.{Performed}
-use Rattle.sheet_perform.specs.Performing.{wordsRead, answer_of, slotsAfter, performed, performedSlots}
+use Rattle.sheet_perform.specs.Performing.{words_read, answer_of, slots_after, performed, performed_slots}
 
 -- ---- the answer
 
 module _ (c : Call) (operation : operations.Operation) (ws slots : List ℕ) where
   module _ (a : Answer) where
-    pub fresh-answers : (abi : ℕ) → operation ≡ operations.TheVariants.Fresh abi → a ≡ freshAnswer abi → a ≡ answer_of c operation ws slots
+    pub fresh_answers : (abi : ℕ) → operation ≡ operations.TheVariants.Fresh abi → a ≡ fresh_answer abi → a ≡ answer_of c operation ws slots
     unfolding answer_of
-    fresh-answers abi e ea = rw (ea, e)
+    fresh_answers abi e ea = rw (ea, e)
 
-    pub mark-answers : operation ≡ operations.TheVariants.Mark → a ≡ variadicAnswer c → a ≡ answer_of c operation ws slots
+    pub mark_answers : operation ≡ operations.TheVariants.Mark → a ≡ variadic_answer c → a ≡ answer_of c operation ws slots
     unfolding answer_of
-    mark-answers e ea = rw (ea, e)
+    mark_answers e ea = rw (ea, e)
 
     module _ (arg : Arg) where
-      pub return-answers : operation ≡ operations.TheVariants.Return arg → a ≡ returnsAnswer c arg ws slots → a ≡ answer_of c operation ws slots
+      pub return_answers : operation ≡ operations.TheVariants.Return arg → a ≡ returns_answer c arg ws slots → a ≡ answer_of c operation ws slots
       unfolding answer_of
-      return-answers e ea = rw (ea, e)
+      return_answers e ea = rw (ea, e)
 
-      pub argument-answers : operation ≡ operations.TheVariants.Argument arg → a ≡ argumentAnswer c arg ws slots
+      pub argument_answers : operation ≡ operations.TheVariants.Argument arg → a ≡ argument_answer c arg ws slots
           → a ≡ answer_of c operation ws slots
       unfolding answer_of
-      argument-answers e ea = rw (ea, e)
+      argument_answers e ea = rw (ea, e)
 
-      pub variadic-argument-answers : operation ≡ operations.TheVariants.VariadicArgument arg → a ≡ variadicArgumentAnswer c arg ws slots → a ≡ answer_of c operation ws slots
+      pub variadic_argument_answers : operation ≡ operations.TheVariants.VariadicArgument arg → a ≡ variadic_argument_answer c arg ws slots → a ≡ answer_of c operation ws slots
       unfolding answer_of
-      variadic-argument-answers e ea = rw (ea, e)
+      variadic_argument_answers e ea = rw (ea, e)
 
-  pub fresh-slots : (abi : ℕ) → operation ≡ operations.TheVariants.Fresh abi → slots ≡ slotsAfter c operation ws slots
-  unfolding slotsAfter
-  fresh-slots abi e = rw e
+  pub fresh_slots : (abi : ℕ) → operation ≡ operations.TheVariants.Fresh abi → slots ≡ slots_after c operation ws slots
+  unfolding slots_after
+  fresh_slots abi e = rw e
 
-  pub mark-slots : operation ≡ operations.TheVariants.Mark → slots ≡ slotsAfter c operation ws slots
-  unfolding slotsAfter
-  mark-slots e = rw e
+  pub mark_slots : operation ≡ operations.TheVariants.Mark → slots ≡ slots_after c operation ws slots
+  unfolding slots_after
+  mark_slots e = rw e
 
   module _ (arg : Arg) (qs : List ℕ) where
-    pub return-slots : operation ≡ operations.TheVariants.Return arg → qs ≡ returnsWritten c arg ws slots → qs ≡ slotsAfter c operation ws slots
-    unfolding slotsAfter
-    return-slots e eq = rw (eq, e)
+    pub return_slots : operation ≡ operations.TheVariants.Return arg → qs ≡ returns_written c arg ws slots → qs ≡ slots_after c operation ws slots
+    unfolding slots_after
+    return_slots e eq = rw (eq, e)
 
-    pub argument-slots : operation ≡ operations.TheVariants.Argument arg → qs ≡ argumentWritten c arg ws slots
-        → qs ≡ slotsAfter c operation ws slots
-    unfolding slotsAfter
-    argument-slots e eq = rw (eq, e)
+    pub argument_slots : operation ≡ operations.TheVariants.Argument arg → qs ≡ argument_written c arg ws slots
+        → qs ≡ slots_after c operation ws slots
+    unfolding slots_after
+    argument_slots e eq = rw (eq, e)
 
-    pub variadic-argument-slots : operation ≡ operations.TheVariants.VariadicArgument arg → qs ≡ variadicArgumentWritten c arg ws slots → qs ≡ slotsAfter c operation ws slots
-    unfolding slotsAfter
-    variadic-argument-slots e eq = rw (eq, e)
+    pub variadic_argument_slots : operation ≡ operations.TheVariants.VariadicArgument arg → qs ≡ variadic_argument_written c arg ws slots → qs ≡ slots_after c operation ws slots
+    unfolding slots_after
+    variadic_argument_slots e eq = rw (eq, e)
 
 -- ---- all that is known afterwards
 
 abbrev made : Answer → Reader → Performed
 made a r = record { next = record { call = a.next; reader = r }; answer = a }
 
-module _ (s : State) (operation : operations.Operation) (ps slots ws : List ℕ) (ew : ws ≡ wordsRead s.reader ps) where
-  pub performed-made : (a : Answer) → a ≡ answer_of s.call operation ws slots
-      → (r : Reader) → r ≡ readerAfter s.reader operation a.outcome.refusal
+module _ (s : State) (operation : operations.Operation) (ps slots ws : List ℕ) (ew : ws ≡ words_read s.reader ps) where
+  pub performed_made : (a : Answer) → a ≡ answer_of s.call operation ws slots
+      → (r : Reader) → r ≡ reader_after s.reader operation a.outcome.refusal
       → made a r ≡ performed s operation ps slots
   unfolding performed
-  performed-made a ea r er = rw (er, ea, ew)
+  performed_made a ea r er = rw (er, ea, ew)
 
-  pub slots-made : (qs : List ℕ) → qs ≡ slotsAfter s.call operation ws slots → qs ≡ performedSlots s operation ps slots
-  unfolding performedSlots
-  slots-made qs eq = rw (eq, ew)
+  pub slots_made : (qs : List ℕ) → qs ≡ slots_after s.call operation ws slots → qs ≡ performed_slots s operation ps slots
+  unfolding performed_slots
+  slots_made qs eq = rw (eq, ew)
 
 -- the words that are lent where all of them were read
-pub words-all : (n : ℕ) (ps : List ℕ) → length ps ≤ n → ps ≡ take n ps
-words-all n ps h = sym (take_all n ps h)
+pub words_all : (n : ℕ) (ps : List ℕ) → length ps ≤ n → ps ≡ take n ps
+words_all n ps h = sym (take_all n ps h)

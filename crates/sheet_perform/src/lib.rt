@@ -1,7 +1,9 @@
 // An operation of a sheet, performed on the open call (docs/REFERENCE.md, 11), for whoever reads a sheet: nothing is printed here. What is known
 // between two records is a small value; the words of the pieces that were read stand in a lent buffer.
+#![tactic(auto)]
+
 ghost use Rattle.std.specs.Prelude.{◌≡◌, take};
-ghost use Rattle.sheet_perform.specs.Performing.{started, performed, performedSlots, answer_of, slotsAfter};
+ghost use Rattle.sheet_perform.specs.Performing.{started, performed, performed_slots, answer_of, slots_after};
 
 use classify::{Answer, Call};
 use sheet_records::{Operation, Reader};
@@ -42,7 +44,7 @@ impl State {
 
     // Performs an operation that is ready. Its pieces are the words that its reader counts.
     pub fn perform(self, operation: Operation, pieces: &[u64], slots: &mut [u64]) -> Performed
-        ensures { (result ≡ performed self operation pieces.now slots.old) × (slots.new ≡ performedSlots self operation pieces.now slots.old) }
+        ensures { (result ≡ performed self operation pieces.now slots.old) × (slots.new ≡ performed_slots self operation pieces.now slots.old) }
     {
         let call = self.call;
         let reader = self.reader;
@@ -61,7 +63,7 @@ impl State {
 }
 
 fn answer_to(call: Call, operation: Operation, words: &[u64], slots: &mut [u64]) -> Answer
-    ensures { (result ≡ answer_of call operation words.now slots.old) × (slots.new ≡ slotsAfter call operation words.now slots.old) }
+    ensures { (result ≡ answer_of call operation words.now slots.old) × (slots.new ≡ slots_after call operation words.now slots.old) }
 {
     match operation {
         Operation::Fresh(abi) => Call::fresh(abi),

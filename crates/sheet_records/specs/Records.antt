@@ -4,11 +4,11 @@ use Rattle.words.specs.Packed.{word_at}
 use Rattle.sheet_records.specs.declared.records.Record.{Record}
 
 -- bytes of a record
-abbrev pub recordSize : ℕ
-recordSize = 48
+abbrev pub record_size : ℕ
+record_size = 48
 
-unfoldable pub recordOf : List ℕ → Record
-recordOf bs =
+unfoldable pub record_of : List ℕ → Record
+record_of bs =
     record {
       first = word_at bs 0;
       second = word_at bs 8;

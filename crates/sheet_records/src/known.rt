@@ -42,7 +42,7 @@ pub enum Act {
 impl Reader {
     // Before the first record: no call is open and no piece is due.
     pub fn start() -> Reader
-        ensures { result ≡ spec.startedReader }
+        ensures { result ≡ spec.started_reader }
     {
         Reader {
             opened: false,
@@ -54,7 +54,7 @@ impl Reader {
     // What is known once an operation was performed. A fresh call takes the place of the open one, and a refused one closes it. Any other
     // operation leaves the call open, refused or not.
     pub fn after(self, operation: Operation, refusal: u64) -> Reader
-        ensures { result ≡ spec.readerAfter self operation refusal }
+        ensures { result ≡ spec.reader_after self operation refusal }
     {
         let due = self.due;
         Reader {
@@ -66,7 +66,7 @@ impl Reader {
 
     // Nothing is read any more.
     pub fn stop(self) -> Reader
-        ensures { result ≡ spec.stoppedReader self }
+        ensures { result ≡ spec.stopped_reader self }
     {
         let due = self.due;
         Reader {
@@ -79,7 +79,7 @@ impl Reader {
 
 // No piece is due.
 pub fn nothing_due() -> Due
-    ensures { result ≡ spec.nothingDue }
+    ensures { result ≡ spec.nothing_due }
 {
     Due {
         first: 0,
@@ -95,7 +95,7 @@ pub fn nothing_due() -> Due
 }
 
 pub fn act_of(operation: Operation) -> Act
-    ensures { result ≡ spec.actOf operation }
+    ensures { result ≡ spec.act_of operation }
 {
     match operation {
         Operation::Fresh(_) => Act::Fresh,
@@ -107,7 +107,7 @@ pub fn act_of(operation: Operation) -> Act
 }
 
 fn open_after(opened: bool, act: Act, refusal: u64) -> bool
-    ensures { result ≡ spec.openAfter opened act refusal }
+    ensures { result ≡ spec.open_after opened act refusal }
 {
     match act {
         Act::Fresh => refusal == shape::ACCEPTED,

@@ -1,10 +1,12 @@
 // What comes of a record of a sheet (docs/REFERENCE.md, 11): an operation that is ready, a part of one, or a stop. What the reader knows
 // between two records is a small value, `Reader`; the pieces of an aggregate that is being read stand in a lent buffer.
+#![tactic(auto)]
+
 mod known;
 mod records;
 
 ghost use Rattle.std.specs.Prelude.{◌≡◌, ◌-◌, ◌<◌, length};
-ghost use Rattle.sheet_records.specs.Known.{dueOf};
+ghost use Rattle.sheet_records.specs.Known.{due_of};
 ghost use Rattle.sheet_records.specs.Reading as spec;
 
 pub use known::{Act, Due, Operation, Reader, act_of, nothing_due};
@@ -45,7 +47,7 @@ pub struct Reading {
 // Takes the bytes of one record; fewer are a short one. Nothing is read behind a stop. The pieces of an operation that is ready are the
 // words that its reader counts.
 pub fn read(reader: Reader, bytes: &[u8], pieces: &mut [u64]) -> Reading
-    ensures { (result ≡ spec.readAnswer reader bytes.now (length pieces.old)) × (pieces.new ≡ spec.readPieces reader bytes.now pieces.old) }
+    ensures { (result ≡ spec.read_answer reader bytes.now (length pieces.old)) × (pieces.new ≡ spec.read_pieces reader bytes.now pieces.old) }
 {
     if reader.stopped {
         return came(reader, Event::More);
@@ -64,7 +66,7 @@ pub fn read(reader: Reader, bytes: &[u8], pieces: &mut [u64]) -> Reading
 // The record of a piece that is due; any other record there is a missing piece.
 fn read_piece(reader: Reader, record: Record, pieces: &mut [u64]) -> Reading
     requires { 0 < reader.due.pieces }
-    ensures { (result ≡ spec.pieceAnswer reader «record» (length pieces.old)) × (pieces.new ≡ spec.piecePut reader «record» pieces.old) }
+    ensures { (result ≡ spec.piece_answer reader «record» (length pieces.old)) × (pieces.new ≡ spec.piece_put reader «record» pieces.old) }
 {
     let due = reader.due;
     let at = due.words;
@@ -86,7 +88,7 @@ fn read_piece(reader: Reader, record: Record, pieces: &mut [u64]) -> Reading
 // One piece fewer is due. With the last one the operation is ready.
 fn piece_read(reader: Reader, words: usize) -> Reading
     requires { 0 < reader.due.pieces }
-    ensures { result ≡ spec.pieceRead reader (dueOf reader.due.first reader.due.shape (reader.due.pieces - 1) words) }
+    ensures { result ≡ spec.piece_read reader (due_of reader.due.first reader.due.shape (reader.due.pieces - 1) words) }
 {
     let due = reader.due;
     let shape = due.shape;
@@ -111,7 +113,7 @@ fn piece_read(reader: Reader, words: usize) -> Reading
 
 // A record where no piece is due. A piece is a stray one there.
 fn read_head(reader: Reader, record: Record) -> Reading
-    ensures { result ≡ spec.headAnswer reader «record» }
+    ensures { result ≡ spec.head_answer reader «record» }
 {
     if record.first == FIRST_FRESH {
         return ready(reader, Operation::Fresh(record.second));
@@ -126,7 +128,7 @@ fn read_head(reader: Reader, record: Record) -> Reading
 }
 
 fn read_value(reader: Reader, record: Record) -> Reading
-    ensures { result ≡ spec.valueAnswer reader «record» }
+    ensures { result ≡ spec.value_answer reader «record» }
 {
     if record.second == shape::FORM_VOID {
         return ready(reader, operation_of(record.first, Arg::Void));
@@ -155,7 +157,7 @@ fn read_value(reader: Reader, record: Record) -> Reading
 
 // An aggregate of no pieces is ready at once.
 fn read_aggregate(reader: Reader, record: Record) -> Reading
-    ensures { result ≡ spec.aggregateAnswer reader «record» }
+    ensures { result ≡ spec.aggregate_answer reader «record» }
 {
     let shape = Shape {
         size: record.third,
@@ -181,7 +183,7 @@ fn read_aggregate(reader: Reader, record: Record) -> Reading
 }
 
 fn operation_of(first: u64, arg: Arg) -> Operation
-    ensures { result ≡ spec.operationOf first arg }
+    ensures { result ≡ spec.operation_of first arg }
 {
     if first == FIRST_RETURN {
         return Operation::Return(arg);

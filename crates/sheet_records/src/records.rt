@@ -1,6 +1,6 @@
 // A record: 48 bytes, six little-endian words.
 ghost use Rattle.std.specs.Prelude.{◌≡◌};
-ghost use Rattle.sheet_records.specs.Records.{recordOf};
+ghost use Rattle.sheet_records.specs.Records.{record_of};
 
 use words::word_at;
 
@@ -18,7 +18,7 @@ pub struct Record {
 }
 
 pub(crate) fn record_of(bytes: &[u8]) -> Record
-    ensures { result ≡ recordOf bytes.now }
+    ensures { result ≡ record_of bytes.now }
 {
     Record {
         first: word_at(bytes, 0),

@@ -3,18 +3,18 @@ use mathlib.Core.Path.{sym, ◌∙◌}
 use contract.Lifetimes.{Lfts}
 use Rattle.shape.proofs.OneAnswer.{OneExit}
 use Rattle.slot_writing.proofs.write.Reads as write
-use Rattle.slot_writing.proofs.write_scalar.Reads as write-scalar
-use Rattle.slot_writing.proofs.pieces.put_pieces.Reads as put-pieces
-use Rattle.slot_writing.proofs.classes.put_eightbytes.Reads as put-eightbytes
+use Rattle.slot_writing.proofs.write_scalar.Reads as write_scalar
+use Rattle.slot_writing.proofs.pieces.put_pieces.Reads as put_pieces
+use Rattle.slot_writing.proofs.classes.put_eightbytes.Reads as put_eightbytes
 
-write-words : (κs : Lfts 2) → OneExit (write.Post κs) (λ s. s.1.1.1.0.now)
-write-words κs a r q s t p p' = p ∙ sym p'
+write_words : (κs : Lfts 2) → OneExit (write.Post κs) (λ s. s.1.1.1.0.now)
+write_words κs a r q s t p p' = p ∙ sym p'
 
-write-scalar-words : (κs : Lfts 1) → OneExit (write-scalar.Post κs) (λ s. s.1.0.now)
-write-scalar-words κs a r q s t p p' = p ∙ sym p'
+write_scalar_words : (κs : Lfts 1) → OneExit (write_scalar.Post κs) (λ s. s.1.0.now)
+write_scalar_words κs a r q s t p p' = p ∙ sym p'
 
-put-pieces-words : (κs : Lfts 2) → OneExit (put-pieces.Post κs) (λ s. s.1.0.now)
-put-pieces-words κs a r q s t p p' = p ∙ sym p'
+put_pieces_words : (κs : Lfts 2) → OneExit (put_pieces.Post κs) (λ s. s.1.0.now)
+put_pieces_words κs a r q s t p p' = p ∙ sym p'
 
-put-eightbytes-words : (κs : Lfts 1) → OneExit (put-eightbytes.Post κs) (λ s. s.1.1.0.now)
-put-eightbytes-words κs a r q s t p p' = p ∙ sym p'
+put_eightbytes_words : (κs : Lfts 1) → OneExit (put_eightbytes.Post κs) (λ s. s.1.1.0.now)
+put_eightbytes_words κs a r q s t p p' = p ∙ sym p'

@@ -2,15 +2,15 @@
 ghost use Rattle.std.specs.Prelude.{◌≡◌, map, ◌+◌, ◌≤◌, min, leb, length, take, drop};
 ghost use Rattle.slots.specs.Words.{words_of, written};
 ghost use Rattle.shape.specs.Words.{put_at};
-ghost use Rattle.eightbytes.specs.Class.{classOf};
-ghost use Rattle.eightbytes.specs.Eightbytes.{eightbytesIn, upFirst, ownSlot, classSlot, format_of, slotCount, codedSlots};
+ghost use Rattle.eightbytes.specs.Class.{class_of};
+ghost use Rattle.eightbytes.specs.Eightbytes.{eightbytes_in, up_first, own_slot, class_slot, format_of, slot_count, coded_slots};
 
 use eightbytes::{EIGHTBYTE, PAIR, SSE, SSE_UP};
 use slots::Slot;
 
 // Writes the slots that classes stand for in a shape of this size, at the front where they all fit.
 pub fn put_eightbytes(classes: [u8; 8], size: u64, out: &mut [u64])
-    ensures { out.new ≡ written (codedSlots size classes) out.old }
+    ensures { out.new ≡ written (coded_slots size classes) out.old }
 {
     if size <= PAIR {
         put_pair(classes, size, out);
@@ -34,7 +34,7 @@ pub fn put_eightbytes(classes: [u8; 8], size: u64, out: &mut [u64])
 // The same for at most two eightbytes, without a loop.
 fn put_pair(classes: [u8; 8], size: u64, out: &mut [u64])
     requires { size ≤ 16 }
-    ensures { out.new ≡ written (codedSlots size classes) out.old }
+    ensures { out.new ≡ written (coded_slots size classes) out.old }
 {
     if size == 0 {
         return;
@@ -53,7 +53,7 @@ fn put_pair(classes: [u8; 8], size: u64, out: &mut [u64])
 
 // How many of the eight classes a shape of this size has.
 fn eightbytes_in(size: u64) -> usize
-    ensures { result ≡ min (eightbytesIn size) 8 }
+    ensures { result ≡ min (eightbytes_in size) 8 }
 {
     shape::least(slots::parts(size, EIGHTBYTE), 8) as usize
 }
@@ -61,7 +61,7 @@ fn eightbytes_in(size: u64) -> usize
 // Whether the slots of the first n classes are at most so many. They are at most n, so they are counted only where that is too many.
 fn has_room(classes: [u8; 8], n: usize, room: usize) -> bool
     requires { n ≤ 8 }
-    ensures { result ≡ leb (slotCount (take n (map classOf classes))) room }
+    ensures { result ≡ leb (slot_count (take n (map class_of classes))) room }
 {
     if n <= room {
         return true;
@@ -72,7 +72,7 @@ fn has_room(classes: [u8; 8], n: usize, room: usize) -> bool
 // How many slots the first n classes stand for.
 fn count_slots(classes: [u8; 8], n: usize) -> usize
     requires { n ≤ 8 }
-    ensures { result ≡ slotCount (take n (map classOf classes)) }
+    ensures { result ≡ slot_count (take n (map class_of classes)) }
 {
     let mut count = 0;
     let mut i = 0;
@@ -86,7 +86,7 @@ fn count_slots(classes: [u8; 8], n: usize) -> usize
 // Whether the eightbyte at an index is one of the first n, and an upper half.
 fn up_at(classes: [u8; 8], n: usize, i: usize) -> bool
     requires { n ≤ 8 }
-    ensures { result ≡ upFirst (drop i (take n (map classOf classes))) }
+    ensures { result ≡ up_first (drop i (take n (map class_of classes))) }
 {
     if i >= n {
         return false;
@@ -97,7 +97,7 @@ fn up_at(classes: [u8; 8], n: usize, i: usize) -> bool
 // Writes the slot of one eightbyte, if it has one of its own, and says where the next one goes.
 fn put_eightbyte(out: &mut [u64], at: usize, class: u8, up: bool, offset: u64, left: u64) -> usize
     requires { at ≤ length out.old }
-    ensures { (result ≡ at + length (words_of (classSlot (classOf class) up offset left))) × (out.new ≡ put_at out.old at (words_of (classSlot (classOf class) up offset left))) }
+    ensures { (result ≡ at + length (words_of (class_slot (class_of class) up offset left))) × (out.new ≡ put_at out.old at (words_of (class_slot (class_of class) up offset left))) }
 {
     if class == SSE_UP {
         return at;
@@ -107,7 +107,7 @@ fn put_eightbyte(out: &mut [u64], at: usize, class: u8, up: bool, offset: u64, l
 }
 
 fn slot_of(class: u8, up: bool, offset: u64, left: u64) -> Slot
-    ensures { result ≡ ownSlot (classOf class) up offset left }
+    ensures { result ≡ own_slot (class_of class) up offset left }
 {
     if class != SSE {
         return Slot {

@@ -1,11 +1,13 @@
 // Slots at the front of the lent buffer, from where they stand (docs/REFERENCE.md, 1.3). Nothing is written where there isn't room for all.
+#![tactic(auto)]
+
 mod classes;
 mod pieces;
 
 ghost use Rattle.std.specs.Prelude.{◌≡◌};
 ghost use Rattle.shape.specs.Words.{pieces_of};
 ghost use Rattle.slots.specs.Words.{written};
-ghost use Rattle.slot_writing.specs.Sources.{sourceSlots, scalarSlots};
+ghost use Rattle.slot_writing.specs.Sources.{source_slots, scalar_slots};
 
 pub use classes::put_eightbytes;
 pub use pieces::put_pieces;
@@ -13,7 +15,7 @@ use slots::{Slot, Source};
 
 // The slots of a decision, from where they stand: the pieces, the classes of eightbytes, a size to be cut, or one slot.
 pub fn write(source: Source, classes: [u8; 8], words: &[u64], out: &mut [u64])
-    ensures { out.new ≡ written (sourceSlots source classes (pieces_of words.now)) out.old }
+    ensures { out.new ≡ written (source_slots source classes (pieces_of words.now)) out.old }
 {
     match source {
         Source::Empty => {}
@@ -34,7 +36,7 @@ pub fn write(source: Source, classes: [u8; 8], words: &[u64], out: &mut [u64])
 
 // The slots of a scalar: it has no pieces and no eightbytes.
 pub fn write_scalar(source: Source, out: &mut [u64])
-    ensures { out.new ≡ written (scalarSlots source) out.old }
+    ensures { out.new ≡ written (scalar_slots source) out.old }
 {
     match source {
         Source::Empty => {}

@@ -2,14 +2,14 @@
 ghost use Rattle.std.specs.Prelude.{◌≡◌};
 ghost use Rattle.shape.specs.Words.{pieces_of};
 ghost use Rattle.slots.specs.Words.{written};
-ghost use Rattle.find.specs.Find.{pieceSlot, eachPiece};
+ghost use Rattle.find.specs.Find.{piece_slot, each_piece};
 
 use shape::Piece;
 use slots::Slot;
 
 // A slot for each piece at the front of the buffer, where they all fit.
 pub fn put_pieces(words: &[u64], out: &mut [u64])
-    ensures { out.new ≡ written (eachPiece (pieces_of words.now)) out.old }
+    ensures { out.new ≡ written (each_piece (pieces_of words.now)) out.old }
 {
     if words.len() / shape::PIECE > slots::room(out.len()) {
         return;
@@ -25,7 +25,7 @@ pub fn put_pieces(words: &[u64], out: &mut [u64])
 
 // A piece's own slot.
 fn slot_of(p: Piece) -> Slot
-    ensures { result ≡ pieceSlot p }
+    ensures { result ≡ piece_slot p }
 {
     if p.kind == shape::INTEGER {
         return Slot {

@@ -1,6 +1,6 @@
 -- A search inside a shape (REFERENCE 7): the slots that it finds, or nothing.
 use Rattle.std.specs.Prelude.{ℕ, ◌+◌, List, [], ◌∷◌, length}
-use Rattle.shape.specs.Numbers.{oneIf}
+use Rattle.shape.specs.Numbers.{one_if}
 use Rattle.shape.specs.Questions.{is_float}
 use Rattle.slots.specs.declared.Slot.{Slot}
 use Rattle.slots.specs.declared.Found.{Found}
@@ -11,11 +11,11 @@ pub data Search : Type 0 where
   nothing : Search
 
 -- how many of some slots are floats
-unfoldable pub floatsIn : List Slot → ℕ
-floatsIn [] = 0
-floatsIn (s ∷ ss) = oneIf (is_float s.kind) + floatsIn ss
+unfoldable pub floats_in : List Slot → ℕ
+floats_in [] = 0
+floats_in (s ∷ ss) = one_if (is_float s.kind) + floats_in ss
 
 -- what the code answers for a search: its counts
-unfoldable pub foundOf : Search → Found
-foundOf (found ss) = Slots (length ss) (floatsIn ss)
-foundOf nothing = Nothing
+unfoldable pub found_of : Search → Found
+found_of (found ss) = Slots (length ss) (floats_in ss)
+found_of nothing = Nothing

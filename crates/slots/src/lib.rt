@@ -1,9 +1,11 @@
 // Slots go out as words, three to a slot: kind, offset, size (0 for a float). Only this crate knows how many words a slot has.
 // The rules are those of docs/REFERENCE.md, 1.3 and 4.4.
+#![tactic(auto)]
+
 ghost use Rattle.std.specs.Prelude.{◌≡◌, ◌/◌, length};
 ghost use Rattle.shape.specs.Questions.{is_float};
 ghost use Rattle.shape.specs.Words.{put_at};
-ghost use Rattle.slots.specs.Words.{slotSize, slotWords, written};
+ghost use Rattle.slots.specs.Words.{slot_size, slot_words, written};
 ghost use Rattle.slots.specs.Cut.{cut};
 
 // Words of a slot.
@@ -53,7 +55,7 @@ pub enum Source {
 
 // How many slots fit in a buffer of this many words.
 pub fn room(words: usize) -> usize
-    ensures { result ≡ words / slotSize }
+    ensures { result ≡ words / slot_size }
 {
     words / SLOT
 }
@@ -99,7 +101,7 @@ pub fn parts(size: u64, width: u64) -> u64
 
 // Writes a slot from a place of the buffer on, where it fits.
 pub fn put_slot(out: &mut [u64], at: usize, s: Slot)
-    ensures { out.new ≡ put_at out.old at (slotWords s) }
+    ensures { out.new ≡ put_at out.old at (slot_words s) }
 {
     let n = out.len();
     if n < SLOT {

@@ -3,7 +3,7 @@
 -- This says nothing of the counts left afterwards: those are the Rust's, in classify/specs/Classify.antt, and a theorem has the two agree.
 use Rattle.std.specs.Prelude.{ℕ, ◌-◌, min, max, Bool, ◌&&◌, cond, eqb, leb, ltb}
 use Rattle.shape.specs.Numbers.{integer}
-use Rattle.slots.specs.Cut.{ceilDiv}
+use Rattle.slots.specs.Cut.{ceil_div}
 use Rattle.describe.specs.declared.Banks.{Banks}
 use Rattle.describe.specs.declared.Rule.{Rule}
 use Rattle.describe.specs.declared.Travel.{Travel}
@@ -17,15 +17,15 @@ use Rattle.spend.specs.declared.Way as ways
 use Rattle.spend.specs.declared.Wanted.{Wanted}
 use Rattle.spend.specs.declared.Decision.{Decision}
 use Rattle.spend.specs.declared.Tried as tries
-use Rattle.spend.specs.Ways.{spends, nothing, plain, in_pieces, cutSlots, oneSlot}
+use Rattle.spend.specs.Ways.{spends, nothing, plain, in_pieces, cut_slots, one_slot}
 
 -- "takes n": n, or all that is left, whichever is less
 abbrev pub takes : ℕ → ℕ → ℕ
 takes n left = min n left
 
 -- registers of a width that a size wants: size over the width, rounded up, at least 1
-unfoldable pub wantOf : ℕ → ℕ → ℕ
-wantOf size width = max (ceilDiv size (max width 1)) 1
+unfoldable pub want_of : ℕ → ℕ → ℕ
+want_of size width = max (ceil_div size (max width 1)) 1
 
 abbrev pub direct : ℕ → ℕ → ℕ → ℕ → Decision
 direct ip ig fp fg = plain ways.TheVariants.Direct (spends ip ig fp fg)
@@ -40,72 +40,72 @@ memory ip ig fp fg = plain ways.TheVariants.Memory (spends ip ig fp fg)
 
 -- Reference: given takes 1 of I unless the pointer is Dedicated. The address is a hidden first argument, so it costs what an argument costs;
 -- a register of its own, AAPCS64's x8, is none of the arguments'
-abbrev pub byPointer : ReturnPointer → ℕ → Decision
-byPointer Dedicated I = reference 0
-byPointer FirstArgument I = reference (takes 1 I)
-byPointer FirstArgumentPopped I = reference (takes 1 I)
+abbrev pub by_pointer : ReturnPointer → ℕ → Decision
+by_pointer Dedicated I = reference 0
+by_pointer FirstArgument I = reference (takes 1 I)
+by_pointer FirstArgumentPopped I = reference (takes 1 I)
 
 -- ---- an aggregate that a rule's test matched
 
 -- the cost is slots by bank; with shared banks all come from I, which counts positions there: each has a register of either kind
-abbrev pub integerCost : Bool → ℕ → ℕ → ℕ
-integerCost shared count floats = cond shared count (count - floats)
+abbrev pub integer_cost : Bool → ℕ → ℕ → ℕ
+integer_cost shared count floats = cond shared count (count - floats)
 
-abbrev pub floatCost : Bool → ℕ → ℕ
-floatCost shared floats = cond shared 0 floats
+abbrev pub float_cost : Bool → ℕ → ℕ
+float_cost shared floats = cond shared 0 floats
 
 -- a short bank is passed over whole, so that no later argument gets a register out of turn; one that isn't short is left as it is, since
 -- AAPCS64 closes one bank at a time (C.3 the floats', C.13 the integers')
-abbrev pub drainOf : ℕ → ℕ → ℕ
-drainOf cost left = cond (ltb left cost) left 0
+abbrev pub drain_of : ℕ → ℕ → ℕ
+drain_of cost left = cond (ltb left cost) left 0
 
 -- Pieces, given what is left up to the cost
-abbrev pub asFarAs : Left → Wanted → ℕ → ℕ → Decision
-asFarAs left found integer float = in_pieces found (spends 0 (takes integer left.integer) 0 (takes float left.float))
+abbrev pub as_far_as : Left → Wanted → ℕ → ℕ → Decision
+as_far_as left found integer float = in_pieces found (spends 0 (takes integer left.integer) 0 (takes float left.float))
 
 -- the same, where an integer register is left; with none, Memory, and nothing is spent
-abbrev pub splitOf : Left → Wanted → ℕ → ℕ → Decision
-splitOf left found integer float = cond (eqb left.integer 0) (memory 0 0 0 0) (asFarAs left found integer float)
+abbrev pub split_of : Left → Wanted → ℕ → ℕ → Decision
+split_of left found integer float = cond (eqb left.integer 0) (memory 0 0 0 0) (as_far_as left found integer float)
 
 -- short of registers: Unchanged gives what is left up to the cost; Memory spends nothing; MemoryAndDrain passes over each short bank whole;
 -- TryNextRule goes on; Split gives what is left, where that is something. Who has which, and why, is said at `Short` (describe/src/lib.rt)
-unfoldable pub whenShort : Short → Left → Wanted → ℕ → ℕ → tries.Tried
-whenShort Unchanged left found integer float = tries.TheVariants.Decided (asFarAs left found integer float)
-whenShort Memory left found integer float = tries.TheVariants.Decided (memory 0 0 0 0)
-whenShort MemoryAndDrain left found integer float =
-    tries.TheVariants.Decided (memory (drainOf integer left.integer) 0 (drainOf float left.float) 0)
-whenShort TryNextRule left found integer float = tries.TheVariants.TryNextRule
-whenShort Split left found integer float = tries.TheVariants.Decided (splitOf left found integer float)
+unfoldable pub when_short : Short → Left → Wanted → ℕ → ℕ → tries.Tried
+when_short Unchanged left found integer float = tries.TheVariants.Decided (as_far_as left found integer float)
+when_short Memory left found integer float = tries.TheVariants.Decided (memory 0 0 0 0)
+when_short MemoryAndDrain left found integer float =
+    tries.TheVariants.Decided (memory (drain_of integer left.integer) 0 (drain_of float left.float) 0)
+when_short TryNextRule left found integer float = tries.TheVariants.TryNextRule
+when_short Split left found integer float = tries.TheVariants.Decided (split_of left found integer float)
 
 -- a slot rule: on a return it spends nothing, for the registers of a result aren't counted with the arguments'; on an argument, where it fits,
 -- the cost is given
-unfoldable pub inSlots : Bool → Bool → Left → Short → Wanted → tries.Tried
-inSlots shared returning left short found =
-    let integer : ℕ = integerCost shared found.count found.floats in
-    let float : ℕ = floatCost shared found.floats in
+unfoldable pub in_slots : Bool → Bool → Left → Short → Wanted → tries.Tried
+in_slots shared returning left short found =
+    let integer : ℕ = integer_cost shared found.count found.floats in
+    let float : ℕ = float_cost shared found.floats in
     cond returning (tries.TheVariants.Decided (in_pieces found nothing))
     (cond (leb integer left.integer && leb float left.float) (tries.TheVariants.Decided (in_pieces found (spends 0 integer 0 float)))
-    (whenShort short left found integer float))
+    (when_short short left found integer float))
 
 -- ByReference: given takes 1 of I for an argument, or for a return unless the pointer is Dedicated. The address of a copy is an argument like
 -- any other
-abbrev pub byReference : ReturnPointer → Bool → ℕ → Decision
-byReference pointer returning I = cond returning (byPointer pointer I) (reference (takes 1 I))
+abbrev pub by_reference : ReturnPointer → Bool → ℕ → Decision
+by_reference pointer returning I = cond returning (by_pointer pointer I) (reference (takes 1 I))
 
 -- InMemoryAndSpend on an argument: passes over takes want of I. fastcall's records, which gcc counts against ecx and edx though they are on the
 -- stack: these registers carry nothing, so they aren't given
-abbrev pub inMemoryAndSpend : Bool → ℕ → ℕ → Decision
-inMemoryAndSpend returning I want = cond returning (memory 0 0 0 0) (memory (takes want I) 0 0 0)
+abbrev pub in_memory_and_spend : Bool → ℕ → ℕ → Decision
+in_memory_and_spend returning I want = cond returning (memory 0 0 0 0) (memory (takes want I) 0 0 0)
 
-abbrev pub travelBy : Travel → Banks → ReturnPointer → Bool → Left → Short → ℕ → Wanted → tries.Tried
-travelBy Ignore B pointer returning left short size found = tries.TheVariants.Decided (plain ways.TheVariants.Ignore nothing)
-travelBy AsFound B pointer returning left short size found = inSlots B.shared returning left short found
-travelBy AsIntegers B pointer returning left short size found = inSlots B.shared returning left short (cutSlots size B.integer_width)
-travelBy AsOneInteger B pointer returning left short size found = inSlots B.shared returning left short (oneSlot integer size 0)
-travelBy ByReference B pointer returning left short size found = tries.TheVariants.Decided (byReference pointer returning left.integer)
-travelBy InMemory B pointer returning left short size found = tries.TheVariants.Decided (memory 0 0 0 0)
-travelBy InMemoryAndSpend B pointer returning left short size found =
-    tries.TheVariants.Decided (inMemoryAndSpend returning left.integer (wantOf size B.integer_width))
+abbrev pub travel_by : Travel → Banks → ReturnPointer → Bool → Left → Short → ℕ → Wanted → tries.Tried
+travel_by Ignore B pointer returning left short size found = tries.TheVariants.Decided (plain ways.TheVariants.Ignore nothing)
+travel_by AsFound B pointer returning left short size found = in_slots B.shared returning left short found
+travel_by AsIntegers B pointer returning left short size found = in_slots B.shared returning left short (cut_slots size B.integer_width)
+travel_by AsOneInteger B pointer returning left short size found = in_slots B.shared returning left short (one_slot integer size 0)
+travel_by ByReference B pointer returning left short size found = tries.TheVariants.Decided (by_reference pointer returning left.integer)
+travel_by InMemory B pointer returning left short size found = tries.TheVariants.Decided (memory 0 0 0 0)
+travel_by InMemoryAndSpend B pointer returning left short size found =
+    tries.TheVariants.Decided (in_memory_and_spend returning left.integer (want_of size B.integer_width))
 
-unfoldable pub travelOf : Banks → ReturnPointer → Bool → Left → Rule → ℕ → Wanted → tries.Tried
-travelOf B pointer returning left rule size found = travelBy rule.then B pointer returning left rule.short size found
+unfoldable pub travel_of : Banks → ReturnPointer → Bool → Left → Rule → ℕ → Wanted → tries.Tried
+travel_of B pointer returning left rule size found = travel_by rule.then B pointer returning left rule.short size found

@@ -11,29 +11,29 @@ use Rattle.spend.specs.declared.Spent.{Spent}
 use Rattle.spend.specs.declared.Decision.{Decision}
 
 -- a way's number
-abbrev pub wayNumber : Way → ℕ
-wayNumber Ignore = 0
-wayNumber Direct = 1
-wayNumber Pieces = 2
-wayNumber Reference = 3
-wayNumber Memory = 4
+abbrev pub way_number : Way → ℕ
+way_number Ignore = 0
+way_number Direct = 1
+way_number Pieces = 2
+way_number Reference = 3
+way_number Memory = 4
 
 -- the way that a number stands for
-abbrev pub wayFrom : ℕ → Way
-wayFrom n = get_or (Ignore ∷ Direct ∷ Pieces ∷ Reference ∷ []) n Memory
+abbrev pub way_from : ℕ → Way
+way_from n = get_or (Ignore ∷ Direct ∷ Pieces ∷ Reference ∷ []) n Memory
 
 -- the mark is set where it isn't 0: floats go in integer registers alone
-abbrev pub no-mark : ℕ
-no-mark = 0
+abbrev pub no_mark : ℕ
+no_mark = 0
 
-abbrev pub a-mark : ℕ
-a-mark = 1
+abbrev pub a_mark : ℕ
+a_mark = 1
 
 abbrev pub marked : Left → Bool
-marked left = not (eqb left.integers_only no-mark)
+marked left = not (eqb left.integers_only no_mark)
 
-abbrev pub withMark : Left → Left
-withMark left = record { integer = left.integer; float = left.float; integers_only = a-mark }
+abbrev pub with_mark : Left → Left
+with_mark left = record { integer = left.integer; float = left.float; integers_only = a_mark }
 
 -- integers passed over and given, floats passed over and given
 abbrev pub spends : ℕ → ℕ → ℕ → ℕ → Spent
@@ -49,7 +49,7 @@ NoneGiven spent = (spent.integers_given ≡ 0) × (spent.floats_given ≡ 0)
 -- what travels as Memory is given nothing: a given register carries the value or its address, and this value's bytes are in the argument area. It
 -- is said of a way's number, as answers have it, and of what is spent
 abbrev pub MemoryIsGivenNothing : ℕ → Spent → Type 0
-MemoryIsGivenNothing way spent = way ≡ wayNumber Memory → NoneGiven spent
+MemoryIsGivenNothing way spent = way ≡ way_number Memory → NoneGiven spent
 
 -- a way without slots
 abbrev pub plain : Way → Spent → Decision
@@ -60,21 +60,21 @@ abbrev pub in_pieces : Wanted → Spent → Decision
 in_pieces found spent = record { way = Pieces; source = found.source; count = found.count; spent = spent }
 
 -- a size cut into integers of a width
-abbrev pub cutSlots : ℕ → ℕ → Wanted
-cutSlots size width = record { count = length (cut size width); floats = 0; source = Cut size width }
+abbrev pub cut_slots : ℕ → ℕ → Wanted
+cut_slots size width = record { count = length (cut size width); floats = 0; source = Cut size width }
 
 -- one slot at the start: its kind, its size, and 1 where it is a float
-abbrev pub oneSlot : ℕ → ℕ → ℕ → Wanted
-oneSlot kind size floats = record { count = 1; floats = floats; source = One kind 0 size }
+abbrev pub one_slot : ℕ → ℕ → ℕ → Wanted
+one_slot kind size floats = record { count = 1; floats = floats; source = One kind 0 size }
 
 -- what is left of a bank: what was, less what is passed over and given
-abbrev pub bankAfter : ℕ → ℕ → ℕ → ℕ
-bankAfter left passed given = left - passed - given
+abbrev pub bank_after : ℕ → ℕ → ℕ → ℕ
+bank_after left passed given = left - passed - given
 
-abbrev pub leftAfter : Left → Spent → Left
-leftAfter left spent =
+abbrev pub left_after : Left → Spent → Left
+left_after left spent =
     record {
-      integer = bankAfter left.integer spent.integers_passed spent.integers_given;
-      float = bankAfter left.float spent.floats_passed spent.floats_given;
+      integer = bank_after left.integer spent.integers_passed spent.integers_given;
+      float = bank_after left.float spent.floats_passed spent.floats_given;
       integers_only = left.integers_only;
     }

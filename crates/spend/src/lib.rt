@@ -1,9 +1,11 @@
 // What one value spends of the registers that a call has left, and how it travels: the types of a decision, what decisions are made of, and an
 // aggregate that a rule matched. Passed over and given are counted here; the rules are those of docs/REFERENCE.md, 9.3. A scalar's rules, 9.2
 // and 9.4, are in the crate spend_scalar, which makes its decisions with the functions here.
+#![tactic(auto)]
+
 ghost use Rattle.std.specs.Prelude.{◌≡◌, min};
-ghost use Rattle.spend.specs.Ways.{wayNumber, wayFrom, withMark, spends, nothing, plain, in_pieces, cutSlots, oneSlot, leftAfter};
-ghost use Rattle.spend.specs.Spending.{wantOf, byPointer, travelOf, byReference, inMemoryAndSpend, inSlots, whenShort, asFarAs, splitOf, integerCost, floatCost, drainOf};
+ghost use Rattle.spend.specs.Ways.{way_number, way_from, with_mark, spends, nothing, plain, in_pieces, cut_slots, one_slot, left_after};
+ghost use Rattle.spend.specs.Spending.{want_of, by_pointer, travel_of, by_reference, in_memory_and_spend, in_slots, when_short, as_far_as, split_of, integer_cost, float_cost, drain_of};
 
 use describe::{Banks, ReturnPointer, Rule, Short, Travel};
 use shape::minus;
@@ -69,7 +71,7 @@ pub struct Wanted {
 
 // A way's number, as answers in numbers have it (REFERENCE 9).
 pub fn way_number(way: Way) -> u64
-    ensures { result ≡ wayNumber way }
+    ensures { result ≡ way_number way }
 {
     match way {
         Way::Ignore => 0,
@@ -82,7 +84,7 @@ pub fn way_number(way: Way) -> u64
 
 // The way that a number stands for.
 pub fn way_from(number: u64) -> Way
-    ensures { result ≡ wayFrom number }
+    ensures { result ≡ way_from number }
 {
     match number {
         0 => Way::Ignore,
@@ -103,7 +105,7 @@ pub fn travel(
     size: u64,
     found: Wanted,
 ) -> Tried
-    ensures { result ≡ travelOf banks pointer returning left rule size found }
+    ensures { result ≡ travel_of banks pointer returning left rule size found }
 {
     let then = rule.then;
     let short = rule.short;
@@ -136,7 +138,7 @@ pub fn travel(
 }
 
 fn by_reference(pointer: ReturnPointer, returning: bool, left: u64) -> Decision
-    ensures { result ≡ byReference pointer returning left }
+    ensures { result ≡ by_reference pointer returning left }
 {
     if returning {
         return by_pointer(pointer, left);
@@ -146,7 +148,7 @@ fn by_reference(pointer: ReturnPointer, returning: bool, left: u64) -> Decision
 
 // What comes back through an address: it takes an argument register unless it has one of its own.
 pub fn by_pointer(pointer: ReturnPointer, left: u64) -> Decision
-    ensures { result ≡ byPointer pointer left }
+    ensures { result ≡ by_pointer pointer left }
 {
     match pointer {
         ReturnPointer::Dedicated => integers(Way::Reference, 0, 0),
@@ -157,7 +159,7 @@ pub fn by_pointer(pointer: ReturnPointer, left: u64) -> Decision
 
 // In memory, and on an argument its words are counted against the registers, which carry nothing: they are passed over.
 fn in_memory_and_spend(returning: bool, left: u64, want: u64) -> Decision
-    ensures { result ≡ inMemoryAndSpend returning left want }
+    ensures { result ≡ in_memory_and_spend returning left want }
 {
     if returning {
         return integers(Way::Memory, 0, 0);
@@ -167,7 +169,7 @@ fn in_memory_and_spend(returning: bool, left: u64, want: u64) -> Decision
 
 // Slots on a return spend nothing; on an argument they cost registers.
 fn in_slots(shared: bool, returning: bool, left: Left, short: Short, found: Wanted) -> Tried
-    ensures { result ≡ inSlots shared returning left short found }
+    ensures { result ≡ in_slots shared returning left short found }
 {
     if returning {
         return Tried::Decided(pieces(found, 0, 0));
@@ -182,7 +184,7 @@ fn in_slots(shared: bool, returning: bool, left: Left, short: Short, found: Want
 
 // Slots that cost more than is left: what happens is the rule's.
 fn when_short(short: Short, left: Left, found: Wanted, integer: u64, float: u64) -> Tried
-    ensures { result ≡ whenShort short left found integer float }
+    ensures { result ≡ when_short short left found integer float }
 {
     match short {
         Short::Unchanged => Tried::Decided(as_far_as(left, found, integer, float)),
@@ -198,7 +200,7 @@ fn when_short(short: Short, left: Left, found: Wanted, integer: u64, float: u64)
 
 // Slots that are given the registers that are left, up to their cost.
 fn as_far_as(left: Left, found: Wanted, integer: u64, float: u64) -> Decision
-    ensures { result ≡ asFarAs left found integer float }
+    ensures { result ≡ as_far_as left found integer float }
 {
     pieces(
         found,
@@ -209,7 +211,7 @@ fn as_far_as(left: Left, found: Wanted, integer: u64, float: u64) -> Decision
 
 // Between the registers that are left and the stack; with no integer register left, there is nothing to split.
 fn split(left: Left, found: Wanted, integer: u64, float: u64) -> Decision
-    ensures { result ≡ splitOf left found integer float }
+    ensures { result ≡ split_of left found integer float }
 {
     if left.integer > 0 {
         return as_far_as(left, found, integer, float);
@@ -219,27 +221,27 @@ fn split(left: Left, found: Wanted, integer: u64, float: u64) -> Decision
 
 // Slots by bank: with shared banks every slot costs one of the integer bank.
 fn integer_cost(shared: bool, count: u64, floats: u64) -> u64
-    ensures { result ≡ integerCost shared count floats }
+    ensures { result ≡ integer_cost shared count floats }
 {
     if shared { count } else { minus(count, floats) }
 }
 
 fn float_cost(shared: bool, floats: u64) -> u64
-    ensures { result ≡ floatCost shared floats }
+    ensures { result ≡ float_cost shared floats }
 {
     if shared { 0 } else { floats }
 }
 
 // A bank that is short is passed over whole; the other is left as it is.
 fn drain(cost: u64, left: u64) -> u64
-    ensures { result ≡ drainOf cost left }
+    ensures { result ≡ drain_of cost left }
 {
     if cost > left { left } else { 0 }
 }
 
 // Registers of a width that a size wants: rounded up, at least one.
 pub fn registers(size: u64, width: u64) -> u64
-    ensures { result ≡ wantOf size width }
+    ensures { result ≡ want_of size width }
 {
     shape::most(slots::parts(size, width), 1)
 }
@@ -304,7 +306,7 @@ pub fn pieces(found: Wanted, integer: u64, float: u64) -> Decision
 
 // A size cut into integers of a width.
 pub fn cut_slots(size: u64, width: u64) -> Wanted
-    ensures { result ≡ cutSlots size width }
+    ensures { result ≡ cut_slots size width }
 {
     Wanted {
         count: slots::parts(size, width),
@@ -315,7 +317,7 @@ pub fn cut_slots(size: u64, width: u64) -> Wanted
 
 // One slot at the start: its kind, its size, and 1 where it is a float.
 pub fn one_slot(kind: u64, size: u64, floats: u64) -> Wanted
-    ensures { result ≡ oneSlot kind size floats }
+    ensures { result ≡ one_slot kind size floats }
 {
     Wanted {
         count: 1,
@@ -330,7 +332,7 @@ pub fn one_slot(kind: u64, size: u64, floats: u64) -> Wanted
 
 // The same registers, with the mark.
 pub fn with_mark(left: Left) -> Left
-    ensures { result ≡ withMark left }
+    ensures { result ≡ with_mark left }
 {
     Left {
         integer: left.integer,
@@ -352,7 +354,7 @@ pub fn nothing_spent() -> Spent
 
 // What a call has left after an operation: what was left before, less what is passed over and given.
 pub fn left_after(left: Left, spent: Spent) -> Left
-    ensures { result ≡ leftAfter left spent }
+    ensures { result ≡ left_after left spent }
 {
     Left {
         integer: minus(

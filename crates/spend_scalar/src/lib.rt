@@ -1,11 +1,13 @@
 // What a scalar spends of the registers that a call has left, and how it travels: an argument, and one that comes back. The rules are those of
 // docs/REFERENCE.md, 9.2 and 9.4.
+#![tactic(auto)]
+
 ghost use Rattle.std.specs.Prelude.{◌≡◌, false, min};
 ghost use Rattle.shape.specs.Numbers.{integer};
-ghost use Rattle.describe.specs.Questions.{isByReference};
+ghost use Rattle.describe.specs.Questions.{is_by_reference};
 ghost use Rattle.spend.specs.Ways.{spends, plain};
-ghost use Rattle.spend.specs.Spending.{wantOf};
-ghost use Rattle.spend_scalar.specs.Spending.{scalarArgument, narrowFloat, integerArgument, skipOf, scalarReturn};
+ghost use Rattle.spend.specs.Spending.{want_of};
+ghost use Rattle.spend_scalar.specs.Spending.{scalar_argument, narrow_float, integer_argument, skip_of, scalar_return};
 
 use describe::{Banks, ReturnPointer, Scalars};
 use shape::{Scalar, minus};
@@ -15,7 +17,7 @@ use spend::{Decision, Left, Spent, Way};
 // A scalar argument: the first of the ten lines of REFERENCE 9.2 that applies. The kind is asked once: an integer has the lines 3, 5 and 8 to
 // 10, a float the lines 2 and 4 to 7.
 pub fn scalar_argument(banks: Banks, scalars: Scalars, left: Left, s: Scalar) -> Decision
-    ensures { result ≡ scalarArgument banks scalars left s }
+    ensures { result ≡ scalar_argument banks scalars left s }
 {
     // 1: wide goes by reference, and the size isn't that of a register
     if describe::scalar_is_by_reference(scalars, s.size) {
@@ -38,8 +40,8 @@ pub fn scalar_argument(banks: Banks, scalars: Scalars, left: Left, s: Scalar) ->
 
 // A float that doesn't go by reference: the lines 2 and 4 to 7.
 fn float_argument(banks: Banks, scalars: Scalars, left: Left, s: Scalar) -> Decision
-    requires { (isByReference scalars s.size ≡ false) × (s.kind ≡ integer → ⊥) }
-    ensures { result ≡ scalarArgument banks scalars left s }
+    requires { (is_by_reference scalars s.size ≡ false) × (s.kind ≡ integer → ⊥) }
+    ensures { result ≡ scalar_argument banks scalars left s }
 {
     // 2: the description's memory format
     if s.kind == scalars.in_memory {
@@ -64,7 +66,7 @@ fn float_argument(banks: Banks, scalars: Scalars, left: Left, s: Scalar) -> Deci
 
 // A float that a float register holds takes one. With none left it may fall to the integer registers, of this width; the flag is looked at only then.
 fn narrow_float(scalars: Scalars, left: Left, size: u64, width: u64) -> Decision
-    ensures { result ≡ narrowFloat scalars left (wantOf size width) }
+    ensures { result ≡ narrow_float scalars left (want_of size width) }
 {
     if left.float > 0 {
         return floats(1);
@@ -77,7 +79,7 @@ fn narrow_float(scalars: Scalars, left: Left, size: u64, width: u64) -> Decision
 
 // The lines 8 to 10: an integer that wants so many registers.
 fn integer_argument(start: u64, scalars: Scalars, left: u64, want: u64) -> Decision
-    ensures { result ≡ integerArgument start scalars left want }
+    ensures { result ≡ integer_argument start scalars left want }
 {
     // 8: all or nothing
     if scalars.wide_integer_is_all_or_nothing {
@@ -103,7 +105,7 @@ fn integer_argument(start: u64, scalars: Scalars, left: u64, want: u64) -> Decis
 
 // Passed over for an even start: one, where an odd number is used and one is left.
 pub fn skip(even: bool, used: u64, left: u64) -> u64
-    ensures { result ≡ skipOf even used left }
+    ensures { result ≡ skip_of even used left }
 {
     if even & (used % 2 == 1) {
         return shape::least(1, left);
@@ -113,7 +115,7 @@ pub fn skip(even: bool, used: u64, left: u64) -> u64
 
 // A scalar that comes back (REFERENCE 9.4).
 pub fn scalar_return(scalars: Scalars, pointer: ReturnPointer, left: Left, s: Scalar) -> Decision
-    ensures { result ≡ scalarReturn scalars pointer left s }
+    ensures { result ≡ scalar_return scalars pointer left s }
 {
     if !describe::scalar_returns_by_reference(scalars, s.size) {
         return direct(0, 0);

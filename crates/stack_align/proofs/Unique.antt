@@ -4,5 +4,5 @@ use contract.Lifetimes.{Lfts}
 use Rattle.shape.proofs.OneAnswer.{OneAnswer}
 use Rattle.stack_align.proofs.in_memory.Reads as in_memory
 
-in-memory-decides : (κs : Lfts 1) → OneAnswer (in_memory.Post κs)
-in-memory-decides κs a r q s t p p' = p ∙ sym p'
+in_memory_decides : (κs : Lfts 1) → OneAnswer (in_memory.Post κs)
+in_memory_decides κs a r q s t p p' = p ∙ sym p'

@@ -5,14 +5,14 @@ use Rattle.std.proofs.Math.Option.Option.{none, some}
 use Rattle.describe.specs.declared.Rule.{Rule}
 use Rattle.describe.specs.declared.Test.{Test}
 use Rattle.stack_align.specs.declared.Limit as limits
-use Rattle.stack_align.specs.InMemory.{orLimit, homogeneousLimit}
+use Rattle.stack_align.specs.InMemory.{or_limit, homogeneous_limit}
 
-abbrev pub limitOption : Option ℕ → limits.Limit
-limitOption none = limits.TheVariants.Nothing
-limitOption (some n) = limits.TheVariants.Of n
+abbrev pub limit_option : Option ℕ → limits.Limit
+limit_option none = limits.TheVariants.Nothing
+limit_option (some n) = limits.TheVariants.Of n
 
-abbrev pub limitBy : Test → limits.Limit
-limitBy test = limitOption (orLimit test none)
+abbrev pub limit_by : Test → limits.Limit
+limit_by test = limit_option (or_limit test none)
 
-unfoldable pub listLimit : List Rule → limits.Limit
-listLimit rules = limitOption (homogeneousLimit rules)
+unfoldable pub list_limit : List Rule → limits.Limit
+list_limit rules = limit_option (homogeneous_limit rules)

@@ -1,9 +1,11 @@
 // The alignment of an aggregate in the argument area (docs/REFERENCE.md, 9.7).
+#![tactic(auto)]
+
 ghost use Rattle.std.specs.Prelude.{◌≡◌};
 ghost use Rattle.shape.specs.Words.{pieces_of};
 ghost use Rattle.rows.specs.Row.{listed};
-ghost use Rattle.stack_align.specs.InMemory.{packedAlign, inMemoryBy};
-ghost use Rattle.stack_align.specs.Limits.{limitBy, listLimit};
+ghost use Rattle.stack_align.specs.InMemory.{packed_align, in_memory_by};
+ghost use Rattle.stack_align.specs.Limits.{limit_by, list_limit};
 
 use describe::{Banks, StackArgs, Terms, Test};
 use rows::Rules;
@@ -12,7 +14,7 @@ use slots::Found;
 
 // What a fixed argument that travels as Memory is aligned to in the argument area.
 pub fn in_memory(terms: Terms, arguments: Rules, shape: Shape, words: &[u64]) -> u64
-    ensures { result ≡ inMemoryBy terms (listed arguments) shape (pieces_of words.now) }
+    ensures { result ≡ in_memory_by terms (listed arguments) shape (pieces_of words.now) }
 {
     let stack = terms.stack_args;
     match stack {
@@ -23,7 +25,7 @@ pub fn in_memory(terms: Terms, arguments: Rules, shape: Shape, words: &[u64]) ->
 
 // In a packed area a homogeneous aggregate keeps its alignment, and any other is on a word boundary at least.
 fn packed_align(banks: Banks, arguments: Rules, shape: Shape, words: &[u64]) -> u64
-    ensures { result ≡ packedAlign banks (listed arguments) shape (pieces_of words.now) }
+    ensures { result ≡ packed_align banks (listed arguments) shape (pieces_of words.now) }
 {
     let limit = homogeneous_limit(arguments);
     let Limit::Of(most) = limit else {
@@ -47,7 +49,7 @@ enum Limit {
 
 // The limit of the first rule for homogeneous aggregates in a list.
 fn homogeneous_limit(list: Rules) -> Limit
-    ensures { result ≡ listLimit (listed list) }
+    ensures { result ≡ list_limit (listed list) }
 {
     let mut rules = list;
     while rules.tests != 0 {
@@ -64,7 +66,7 @@ fn homogeneous_limit(list: Rules) -> Limit
 }
 
 fn limit_of(test: Test) -> Limit
-    ensures { result ≡ limitBy test }
+    ensures { result ≡ limit_by test }
 {
     match test {
         Test::Anything => Limit::Nothing,

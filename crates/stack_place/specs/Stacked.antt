@@ -4,7 +4,7 @@
 use Rattle.std.specs.Prelude.{ℕ, ◌+◌, ◌*◌, ◌-◌, max, Bool, true, false, ◌&&◌, not, cond, eqb, ltb}
 use Rattle.shape.specs.declared.Scalar.{Scalar}
 use Rattle.shape.specs.Numbers.{accepted, no_room}
-use Rattle.shape.specs.Arithmetic.{roundUp}
+use Rattle.shape.specs.Arithmetic.{round_up}
 use Rattle.describe.specs.declared.ReturnPointer.{ReturnPointer}
 use Rattle.describe.specs.declared.ReturnPointer.TheVariants.{FirstArgument, FirstArgumentPopped, Dedicated}
 use Rattle.describe.specs.declared.StackArgs.{StackArgs}
@@ -17,96 +17,96 @@ use Rattle.stack_place.specs.declared.Stacked.{Stacked}
 use Rattle.stack_place.specs.declared.Placed.{Placed}
 
 -- the most bytes that a call's arguments take on the stack: 2^40
-abbrev pub most-stack : ℕ
-most-stack = 1099511627776
+abbrev pub most_stack : ℕ
+most_stack = 1099511627776
 
 -- ---- how many bytes
 
 -- a pointer's word, where it was given no register
-abbrev pub pointerBytes : Spent → ℕ → ℕ
-pointerBytes spent w = cond (eqb spent.integers_given 0) w 0
+abbrev pub pointer_bytes : Spent → ℕ → ℕ
+pointer_bytes spent w = cond (eqb spent.integers_given 0) w 0
 
 -- the address of what comes back, unless it has a register of its own
-abbrev pub addressBytes : ReturnPointer → Spent → ℕ → ℕ
-addressBytes Dedicated spent w = 0
-addressBytes FirstArgument spent w = pointerBytes spent w
-addressBytes FirstArgumentPopped spent w = pointerBytes spent w
+abbrev pub address_bytes : ReturnPointer → Spent → ℕ → ℕ
+address_bytes Dedicated spent w = 0
+address_bytes FirstArgument spent w = pointer_bytes spent w
+address_bytes FirstArgumentPopped spent w = pointer_bytes spent w
 
 -- a value that comes back: nothing but such an address
-abbrev pub returnBytes : Way → ReturnPointer → Spent → ℕ → ℕ
-returnBytes Ignore pointer spent w = 0
-returnBytes Direct pointer spent w = 0
-returnBytes Pieces pointer spent w = 0
-returnBytes Reference pointer spent w = addressBytes pointer spent w
-returnBytes Memory pointer spent w = 0
+abbrev pub return_bytes : Way → ReturnPointer → Spent → ℕ → ℕ
+return_bytes Ignore pointer spent w = 0
+return_bytes Direct pointer spent w = 0
+return_bytes Pieces pointer spent w = 0
+return_bytes Reference pointer spent w = address_bytes pointer spent w
+return_bytes Memory pointer spent w = 0
 
 -- what of a scalar is in no register: nothing where it was given a float register, else what its integer registers leave
-abbrev pub scalarRest : Spent → ℕ → ℕ → ℕ
-scalarRest spent size w = cond (ltb 0 spent.floats_given) 0 (size - w * spent.integers_given)
+abbrev pub scalar_rest : Spent → ℕ → ℕ → ℕ
+scalar_rest spent size w = cond (ltb 0 spent.floats_given) 0 (size - w * spent.integers_given)
 
 -- a scalar argument. None travels as Memory; one that did would stand there whole
-abbrev pub scalarBytes : Way → Spent → ℕ → ℕ → ℕ
-scalarBytes Ignore spent size w = 0
-scalarBytes Direct spent size w = scalarRest spent size w
-scalarBytes Pieces spent size w = scalarRest spent size w
-scalarBytes Reference spent size w = pointerBytes spent w
-scalarBytes Memory spent size w = size
+abbrev pub scalar_bytes : Way → Spent → ℕ → ℕ → ℕ
+scalar_bytes Ignore spent size w = 0
+scalar_bytes Direct spent size w = scalar_rest spent size w
+scalar_bytes Pieces spent size w = scalar_rest spent size w
+scalar_bytes Reference spent size w = pointer_bytes spent w
+scalar_bytes Memory spent size w = size
 
 -- of slots, each a word, those beyond the registers given in both banks
-abbrev pub slotsBeyond : Spent → ℕ → ℕ
-slotsBeyond spent slots = slots - spent.integers_given - spent.floats_given
+abbrev pub slots_beyond : Spent → ℕ → ℕ
+slots_beyond spent slots = slots - spent.integers_given - spent.floats_given
 
-abbrev pub slotsBytes : Spent → ℕ → ℕ → ℕ
-slotsBytes spent slots w = w * slotsBeyond spent slots
+abbrev pub slots_bytes : Spent → ℕ → ℕ → ℕ
+slots_bytes spent slots w = w * slots_beyond spent slots
 
 -- an aggregate argument: in Memory whole, whatever was passed over. None travels as Direct; one that did would stand there whole
-abbrev pub aggregateBytes : Way → Spent → ℕ → ℕ → ℕ → ℕ
-aggregateBytes Ignore spent slots size w = 0
-aggregateBytes Direct spent slots size w = size
-aggregateBytes Pieces spent slots size w = slotsBytes spent slots w
-aggregateBytes Reference spent slots size w = pointerBytes spent w
-aggregateBytes Memory spent slots size w = size
+abbrev pub aggregate_bytes : Way → Spent → ℕ → ℕ → ℕ → ℕ
+aggregate_bytes Ignore spent slots size w = 0
+aggregate_bytes Direct spent slots size w = size
+aggregate_bytes Pieces spent slots size w = slots_bytes spent slots w
+aggregate_bytes Reference spent slots size w = pointer_bytes spent w
+aggregate_bytes Memory spent slots size w = size
 
 -- whether its registers hold all of it, or its address: then none of it is there
 abbrev pub is_held : Way → Spent → ℕ → Bool
 is_held Ignore spent slots = true
 is_held Direct spent slots = false
-is_held Pieces spent slots = eqb (slotsBeyond spent slots) 0
+is_held Pieces spent slots = eqb (slots_beyond spent slots) 0
 is_held Reference spent slots = not (eqb spent.integers_given 0)
 is_held Memory spent slots = false
 
 -- ---- what the offset is rounded to
 
 -- a pointer's to its width; a value's own otherwise
-abbrev pub valueRounding : Way → ℕ → ℕ → ℕ
-valueRounding Ignore w own = own
-valueRounding Direct w own = own
-valueRounding Pieces w own = own
-valueRounding Reference w own = w
-valueRounding Memory w own = own
+abbrev pub value_rounding : Way → ℕ → ℕ → ℕ
+value_rounding Ignore w own = own
+value_rounding Direct w own = own
+value_rounding Pieces w own = own
+value_rounding Reference w own = w
+value_rounding Memory w own = own
 
 -- a scalar's: 16 where its alignment is 16; else its size in a packed area, and a word in any other
-abbrev pub scalarStep : StackArgs → ℕ → ℕ → ℕ
-scalarStep RegisterSized w size = w
-scalarStep Packed w size = size
+abbrev pub scalar_step : StackArgs → ℕ → ℕ → ℕ
+scalar_step RegisterSized w size = w
+scalar_step Packed w size = size
 
-abbrev pub wideOr : ℕ → ℕ → ℕ
-wideOr align step = cond (eqb align 16) 16 step
+abbrev pub wide_or : ℕ → ℕ → ℕ
+wide_or align step = cond (eqb align 16) 16 step
 
-abbrev pub scalarRounding : Way → Area → Scalar → ℕ
-scalarRounding way area s = valueRounding way area.width (wideOr s.align (scalarStep area.arguments area.width s.size))
+abbrev pub scalar_rounding : Way → Area → Scalar → ℕ
+scalar_rounding way area s = value_rounding way area.width (wide_or s.align (scalar_step area.arguments area.width s.size))
 
 -- an aggregate's: what `in_memory` answers, and in an area that isn't packed a word at least
-abbrev pub aggregateStep : StackArgs → ℕ → ℕ → ℕ
-aggregateStep RegisterSized w align = max align w
-aggregateStep Packed w align = align
+abbrev pub aggregate_step : StackArgs → ℕ → ℕ → ℕ
+aggregate_step RegisterSized w align = max align w
+aggregate_step Packed w align = align
 
-abbrev pub aggregateRounding : Way → Area → ℕ → ℕ
-aggregateRounding way area align = valueRounding way area.width (aggregateStep area.arguments area.width align)
+abbrev pub aggregate_rounding : Way → Area → ℕ → ℕ
+aggregate_rounding way area align = value_rounding way area.width (aggregate_step area.arguments area.width align)
 
 -- after the dots, where such an argument always is in memory, it is 8 at least; and rounding to 0 counts as to 1
-abbrev pub roundingOf : Area → ℕ → ℕ
-roundingOf area rounding = max (cond area.dots (max rounding 8) rounding) 1
+abbrev pub rounding_of : Area → ℕ → ℕ
+rounding_of area rounding = max (cond area.dots (max rounding 8) rounding) 1
 
 -- ---- how long it is there: the bytes as they are in a packed area, but for what is after such dots; else rounded up to words
 
@@ -115,7 +115,7 @@ is_packed RegisterSized = false
 is_packed Packed = true
 
 abbrev pub in_words : ℕ → ℕ → ℕ
-in_words bytes w = roundUp bytes (max w 1)
+in_words bytes w = round_up bytes (max w 1)
 
 abbrev pub length_of : Area → ℕ → ℕ
 length_of area bytes = cond (is_packed area.arguments && not area.dots) bytes (in_words bytes area.width)
@@ -130,8 +130,8 @@ abbrev pub nowhere : ℕ → Placed
 nowhere stack = record { refusal = accepted; stacked = stands 0 0; next = stack }
 
 -- the next offset would pass the limit: a refusal, with the offset as it was
-abbrev pub noRoom : ℕ → Placed
-noRoom stack = record { refusal = no_room; stacked = stands 0 0; next = stack }
+abbrev pub without_room : ℕ → Placed
+without_room stack = record { refusal = no_room; stacked = stands 0 0; next = stack }
 
 abbrev pub from : ℕ → ℕ → Placed
 from at bytes = record { refusal = accepted; stacked = stands at bytes; next = at + bytes }
@@ -140,15 +140,15 @@ from at bytes = record { refusal = accepted; stacked = stands at bytes; next = a
 unfoldable pub behind : ℕ → ℕ → ℕ → Placed
 behind stack bytes rounding =
     cond (eqb bytes 0) (nowhere stack)
-    (cond (ltb most-stack (roundUp stack rounding + bytes)) (noRoom stack) (from (roundUp stack rounding) bytes))
+    (cond (ltb most_stack (round_up stack rounding + bytes)) (without_room stack) (from (round_up stack rounding) bytes))
 
 abbrev pub placed_of : Area → ℕ → ℕ → ℕ → Placed
-placed_of area stack bytes rounding = behind stack (length_of area bytes) (roundingOf area rounding)
+placed_of area stack bytes rounding = behind stack (length_of area bytes) (rounding_of area rounding)
 
 -- ---- what comes back, and a scalar argument. (An aggregate's bytes are asked first, and then its alignment in memory)
 
-unfoldable pub returnPlaced : Area → ℕ → Way → ReturnPointer → Spent → Placed
-returnPlaced area stack way pointer spent = placed_of area stack (returnBytes way pointer spent area.width) area.width
+unfoldable pub return_placed : Area → ℕ → Way → ReturnPointer → Spent → Placed
+return_placed area stack way pointer spent = placed_of area stack (return_bytes way pointer spent area.width) area.width
 
-unfoldable pub scalarPlaced : Area → ℕ → Way → Spent → Scalar → Placed
-scalarPlaced area stack way spent s = placed_of area stack (scalarBytes way spent s.size area.width) (scalarRounding way area s)
+unfoldable pub scalar_placed : Area → ℕ → Way → Spent → Scalar → Placed
+scalar_placed area stack way spent s = placed_of area stack (scalar_bytes way spent s.size area.width) (scalar_rounding way area s)

@@ -1,8 +1,10 @@
 // Where what isn't in registers stands (docs/REFERENCE.md, 9.9): how many bytes of a value go to the stack, what their offset is rounded to, and
 // their place behind those of the operations before. An offset counts bytes from the first stack argument. Nothing here reads what a call has
 // left: the offset moves by what was decided, and decides nothing.
+#![tactic(auto)]
+
 ghost use Rattle.std.specs.Prelude.{◌≡◌, cond, min, max};
-ghost use Rattle.shape.specs.Numbers.{most-word};
+ghost use Rattle.shape.specs.Numbers.{most_word};
 ghost use Rattle.stack_place.specs.Stacked as specs;
 
 use describe::{ReturnPointer, StackArgs};
@@ -51,7 +53,7 @@ pub fn place_return(
     pointer: ReturnPointer,
     spent: Spent,
 ) -> Placed
-    ensures { result ≡ specs.returnPlaced area stack way pointer spent }
+    ensures { result ≡ specs.return_placed area stack way pointer spent }
 {
     let bytes = return_bytes(way, pointer, spent, area.width);
     if bytes == 0 {
@@ -62,7 +64,7 @@ pub fn place_return(
 
 // A scalar argument.
 pub fn place_scalar(area: Area, stack: u64, way: Way, spent: Spent, s: Scalar) -> Placed
-    ensures { result ≡ specs.scalarPlaced area stack way spent s }
+    ensures { result ≡ specs.scalar_placed area stack way spent s }
 {
     let bytes = scalar_bytes(way, spent, s.size, area.width);
     if bytes == 0 {
@@ -73,7 +75,7 @@ pub fn place_scalar(area: Area, stack: u64, way: Way, spent: Spent, s: Scalar) -
 
 // An aggregate argument, which has so many bytes for the stack (`aggregate_bytes`) and this alignment in memory.
 pub fn place_aggregate(area: Area, stack: u64, way: Way, bytes: u64, align: u64) -> Placed
-    ensures { result ≡ specs.placed_of area stack bytes (specs.aggregateRounding way area align) }
+    ensures { result ≡ specs.placed_of area stack bytes (specs.aggregate_rounding way area align) }
 {
     place(area, stack, bytes, aggregate_rounding(way, area, align))
 }
@@ -95,7 +97,7 @@ pub fn is_held(way: Way, spent: Spent, slots: u64) -> bool
 // ---- how many bytes
 
 fn return_bytes(way: Way, pointer: ReturnPointer, spent: Spent, width: u64) -> u64
-    ensures { result ≡ specs.returnBytes way pointer spent width }
+    ensures { result ≡ specs.return_bytes way pointer spent width }
 {
     match way {
         Way::Ignore => 0,
@@ -107,7 +109,7 @@ fn return_bytes(way: Way, pointer: ReturnPointer, spent: Spent, width: u64) -> u
 }
 
 fn address_bytes(pointer: ReturnPointer, spent: Spent, width: u64) -> u64
-    ensures { result ≡ specs.addressBytes pointer spent width }
+    ensures { result ≡ specs.address_bytes pointer spent width }
 {
     match pointer {
         ReturnPointer::Dedicated => 0,
@@ -117,7 +119,7 @@ fn address_bytes(pointer: ReturnPointer, spent: Spent, width: u64) -> u64
 }
 
 fn scalar_bytes(way: Way, spent: Spent, size: u64, width: u64) -> u64
-    ensures { result ≡ specs.scalarBytes way spent size width }
+    ensures { result ≡ specs.scalar_bytes way spent size width }
 {
     match way {
         Way::Ignore => 0,
@@ -130,7 +132,7 @@ fn scalar_bytes(way: Way, spent: Spent, size: u64, width: u64) -> u64
 
 // Of an aggregate of this size, in so many slots where it travels in slots; the largest number where that passes 64 bits.
 pub fn aggregate_bytes(way: Way, spent: Spent, slots: u64, size: u64, width: u64) -> u64
-    ensures { result ≡ min (specs.aggregateBytes way spent slots size width) most-word }
+    ensures { result ≡ min (specs.aggregate_bytes way spent slots size width) most_word }
 {
     match way {
         Way::Ignore => 0,
@@ -143,13 +145,13 @@ pub fn aggregate_bytes(way: Way, spent: Spent, slots: u64, size: u64, width: u64
 
 // The slots that have no register.
 fn beyond(spent: Spent, slots: u64) -> u64
-    ensures { result ≡ specs.slotsBeyond spent slots }
+    ensures { result ≡ specs.slots_beyond spent slots }
 {
     minus(minus(slots, spent.integers_given), spent.floats_given)
 }
 
 fn pointer_bytes(spent: Spent, width: u64) -> u64
-    ensures { result ≡ specs.pointerBytes spent width }
+    ensures { result ≡ specs.pointer_bytes spent width }
 {
     if spent.integers_given == 0 {
         return width;
@@ -160,7 +162,7 @@ fn pointer_bytes(spent: Spent, width: u64) -> u64
 // Where one register holds it whole, nothing is multiplied; and each way on which nothing is left is one of its own, which the compiler takes on to
 // the end of the operation.
 fn scalar_rest(spent: Spent, size: u64, width: u64) -> u64
-    ensures { result ≡ specs.scalarRest spent size width }
+    ensures { result ≡ specs.scalar_rest spent size width }
 {
     if spent.floats_given > 0 {
         return 0;
@@ -181,7 +183,7 @@ fn scalar_rest(spent: Spent, size: u64, width: u64) -> u64
 // ---- what the offset is rounded to
 
 fn scalar_rounding(way: Way, area: Area, s: Scalar) -> u64
-    ensures { result ≡ specs.scalarRounding way area s }
+    ensures { result ≡ specs.scalar_rounding way area s }
 {
     let arguments = area.arguments;
     match arguments {
@@ -193,7 +195,7 @@ fn scalar_rounding(way: Way, area: Area, s: Scalar) -> u64
 // 16 where the alignment is 16, or else this. It is asked for each kind of area by itself: of one that isn't packed the compiler knows then that it
 // isn't 0.
 fn wide_or(align: u64, step: u64) -> u64
-    ensures { result ≡ specs.wideOr align step }
+    ensures { result ≡ specs.wide_or align step }
 {
     if align == WIDE_ALIGN {
         WIDE_ALIGN
@@ -203,7 +205,7 @@ fn wide_or(align: u64, step: u64) -> u64
 }
 
 fn aggregate_rounding(way: Way, area: Area, align: u64) -> u64
-    ensures { result ≡ specs.aggregateRounding way area align }
+    ensures { result ≡ specs.aggregate_rounding way area align }
 {
     let arguments = area.arguments;
     match arguments {
@@ -214,7 +216,7 @@ fn aggregate_rounding(way: Way, area: Area, align: u64) -> u64
 
 // That of a pointer, or the value's own.
 fn value_rounding(way: Way, width: u64, own: u64) -> u64
-    ensures { result ≡ specs.valueRounding way width own }
+    ensures { result ≡ specs.value_rounding way width own }
 {
     match way {
         Way::Ignore => own,
@@ -226,7 +228,7 @@ fn value_rounding(way: Way, width: u64, own: u64) -> u64
 }
 
 fn rounding_in(area: Area, rounding: u64) -> u64
-    ensures { result ≡ specs.roundingOf area rounding }
+    ensures { result ≡ specs.rounding_of area rounding }
 {
     if area.dots {
         return most(most(rounding, LEAST_AFTER_DOTS), 1);
@@ -244,7 +246,7 @@ fn place(area: Area, stack: u64, bytes: u64, rounding: u64) -> Placed
 
 // In words, but for a packed area; the largest number where that passes 64 bits.
 fn length_in(area: Area, bytes: u64) -> u64
-    ensures { result ≡ min (specs.length_of area bytes) most-word }
+    ensures { result ≡ min (specs.length_of area bytes) most_word }
 {
     let arguments = area.arguments;
     match arguments {
@@ -254,7 +256,7 @@ fn length_in(area: Area, bytes: u64) -> u64
 }
 
 fn packed_length(dots: bool, bytes: u64, width: u64) -> u64
-    ensures { result ≡ min (cond dots (specs.in_words bytes width) bytes) most-word }
+    ensures { result ≡ min (cond dots (specs.in_words bytes width) bytes) most_word }
 {
     if dots {
         return shape::round_up(bytes, width);

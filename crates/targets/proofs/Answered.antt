@@ -6,9 +6,9 @@ use mathlib.Core.Bool.{Bool, true, false, cond, ◌&&◌}
 use mathlib.Core.Option.{Option, none, some}
 use lib.Dec.{lit<}
 use lib.ListN.{get_or}
-use Rattle.targets.specs.Codes.{isTarget, isConvention, architectureOf, systemOf, conventionOf, noneNumber, isWindows, isDarwin, isX86, isX86-64}
-use Rattle.targets.specs.Followed.{forTarget, forConvention, byRuntime, regparmRows}
-use Rattle.targets.specs.Answers.{number_of, targetAnswer, conventionAnswer}
+use Rattle.targets.specs.Codes.{is_target, is_convention, architecture_of, system_of, convention_of, none_number, is_windows, is_darwin, is_x86, is_x86_64}
+use Rattle.targets.specs.Followed.{for_target, for_convention, by_runtime, regparm_rows}
+use Rattle.targets.specs.Answers.{number_of, target_answer, convention_answer}
 use Rattle.targets.specs.declared.codes.Architecture.{Architecture}
 use Rattle.targets.specs.declared.codes.Architecture.TheVariants.{X86, X86_64, Aarch64, Riscv64, Other}
 use Rattle.targets.specs.declared.codes.System.{System}
@@ -27,47 +27,47 @@ either_number : (b : Bool) {m n : ℕ} → m < 30 → n < 30 → cond b m n < 30
 either_number true h k = h
 either_number false h k = k
 
-runtime-row : (system : System) (msvc : Bool) {sysv mingw ms : ℕ} → sysv < 30 → mingw < 30 → ms < 30 → byRuntime system msvc sysv mingw ms < 30
-runtime-row system msvc s g m = either_number (isWindows system) (either_number msvc m g) s
+runtime_row : (system : System) (msvc : Bool) {sysv mingw ms : ℕ} → sysv < 30 → mingw < 30 → ms < 30 → by_runtime system msvc sysv mingw ms < 30
+runtime_row system msvc s g m = either_number (is_windows system) (either_number msvc m g) s
 
-target_row : (architecture : Architecture) (system : System) (msvc : Bool) → Row (forTarget architecture system msvc)
-target_row X86 system msvc = row (runtime-row system msvc (lit< tt) (lit< tt) (lit< tt))
-target_row X86_64 system msvc = row (either_number (isWindows system) (lit< tt) (lit< tt))
-target_row Aarch64 system msvc = row (either_number (isDarwin system) (lit< tt) (either_number (isWindows system) (lit< tt) (lit< tt)))
+target_row : (architecture : Architecture) (system : System) (msvc : Bool) → Row (for_target architecture system msvc)
+target_row X86 system msvc = row (runtime_row system msvc (lit< tt) (lit< tt) (lit< tt))
+target_row X86_64 system msvc = row (either_number (is_windows system) (lit< tt) (lit< tt))
+target_row Aarch64 system msvc = row (either_number (is_darwin system) (lit< tt) (either_number (is_windows system) (lit< tt) (lit< tt)))
 target_row Riscv64 system msvc = row (lit< tt)
 target_row Other system msvc = nothing
 
-regparm-row : (n : ℕ) → Row (get_or regparmRows n none)
-regparm-row zero = row (lit< tt)
-regparm-row (suc zero) = row (lit< tt)
-regparm-row (suc (suc zero)) = row (lit< tt)
-regparm-row (suc (suc (suc zero))) = row (lit< tt)
-regparm-row (suc (suc (suc (suc n)))) = nothing
+regparm_row : (n : ℕ) → Row (get_or regparm_rows n none)
+regparm_row zero = row (lit< tt)
+regparm_row (suc zero) = row (lit< tt)
+regparm_row (suc (suc zero)) = row (lit< tt)
+regparm_row (suc (suc (suc zero))) = row (lit< tt)
+regparm_row (suc (suc (suc (suc n)))) = nothing
 
-convention-row : (convention : Convention) (architecture : Architecture) (system : System) (msvc : Bool) → Row (forConvention convention architecture system msvc)
-convention-row Target a s m = target_row a s m
-convention-row Ms a s m = either (isX86-64 a) (row (lit< tt)) nothing
-convention-row Sysv a s m = either (isX86-64 a) (row (lit< tt)) nothing
-convention-row NoCalleeSaved a s m = either (isX86-64 a) (row (lit< tt)) nothing
-convention-row PreserveNone a s m = either (isX86-64 a) (row (lit< tt)) nothing
-convention-row Stdcall a s m = either (isX86 a) (row (runtime-row s m (lit< tt) (lit< tt) (lit< tt))) nothing
-convention-row Fastcall a s m = either (isX86 a) (row (runtime-row s m (lit< tt) (lit< tt) (lit< tt))) nothing
-convention-row (Regparm n) a s m = either (isX86 a) (either (isWindows s) nothing (regparm-row n)) nothing
+convention_row : (convention : Convention) (architecture : Architecture) (system : System) (msvc : Bool) → Row (for_convention convention architecture system msvc)
+convention_row Target a s m = target_row a s m
+convention_row Ms a s m = either (is_x86_64 a) (row (lit< tt)) nothing
+convention_row Sysv a s m = either (is_x86_64 a) (row (lit< tt)) nothing
+convention_row NoCalleeSaved a s m = either (is_x86_64 a) (row (lit< tt)) nothing
+convention_row PreserveNone a s m = either (is_x86_64 a) (row (lit< tt)) nothing
+convention_row Stdcall a s m = either (is_x86 a) (row (runtime_row s m (lit< tt) (lit< tt) (lit< tt))) nothing
+convention_row Fastcall a s m = either (is_x86 a) (row (runtime_row s m (lit< tt) (lit< tt) (lit< tt))) nothing
+convention_row (Regparm n) a s m = either (is_x86 a) (either (is_windows s) nothing (regparm_row n)) nothing
 
-answered : (o : Option ℕ) → Row o → (number_of o < 30) ⊎ (number_of o ≡ noneNumber)
+answered : (o : Option ℕ) → Row o → (number_of o < 30) ⊎ (number_of o ≡ none_number)
 answered none nothing = inr refl
 answered (some n) (row h) = inl h
 
-pub target-answered : (architecture system : ℕ) (msvc : Bool)
-    → (targetAnswer architecture system msvc < 30) ⊎ (targetAnswer architecture system msvc ≡ noneNumber)
-unfolding targetAnswer
-target-answered architecture system msvc =
-    answered _ (either (isTarget architecture system) (target_row (architectureOf architecture) (systemOf system) msvc) nothing)
+pub target_answered : (architecture system : ℕ) (msvc : Bool)
+    → (target_answer architecture system msvc < 30) ⊎ (target_answer architecture system msvc ≡ none_number)
+unfolding target_answer
+target_answered architecture system msvc =
+    answered _ (either (is_target architecture system) (target_row (architecture_of architecture) (system_of system) msvc) nothing)
 
-pub convention-answered : (architecture system : ℕ) (msvc : Bool) (convention : ℕ)
-    → (conventionAnswer architecture system msvc convention < 30) ⊎ (conventionAnswer architecture system msvc convention ≡ noneNumber)
-unfolding conventionAnswer
-convention-answered architecture system msvc convention =
+pub convention_answered : (architecture system : ℕ) (msvc : Bool) (convention : ℕ)
+    → (convention_answer architecture system msvc convention < 30) ⊎ (convention_answer architecture system msvc convention ≡ none_number)
+unfolding convention_answer
+convention_answered architecture system msvc convention =
     answered _
-    (either (isTarget architecture system && isConvention convention)
-    (convention-row (conventionOf convention) (architectureOf architecture) (systemOf system) msvc) nothing)
+    (either (is_target architecture system && is_convention convention)
+    (convention_row (convention_of convention) (architecture_of architecture) (system_of system) msvc) nothing)

@@ -6,7 +6,7 @@ use native.Mathlib.Omega.{arith}
 use borrow.Author.Tests.{leb-true, lt-leb, not-false, not-true}
 use lib.ListN.{get_or-eq_default}
 use Rattle.shape.proofs.Bools.{both_true}
-use Rattle.targets.specs.Codes.{isConvention, architectures, systems, conventions, architectureOf, systemOf, conventionOf, conventionCode}
+use Rattle.targets.specs.Codes.{is_convention, architectures, systems, conventions, architecture_of, system_of, convention_of, convention_code}
 use Rattle.targets.specs.declared.codes.Architecture.TheVariants.{Other as OtherArchitecture}
 use Rattle.targets.specs.declared.codes.System.TheVariants.{Other as OtherSystem}
 use Rattle.targets.specs.declared.codes.Convention.{Convention}
@@ -19,46 +19,46 @@ known e t = sym e ∙ not-false _ t
 pub unknown : {b r : Bool} → r ≡ b → not r ≡ true → b ≡ false
 unknown e t = sym e ∙ not-true _ t
 
-pub other-architecture : (code : ℕ) → 4 ≤ code → OtherArchitecture ≡ architectureOf code
-unfolding architectureOf
-other-architecture code h = sym (get_or-eq_default architectures OtherArchitecture h)
+pub other_architecture : (code : ℕ) → 4 ≤ code → OtherArchitecture ≡ architecture_of code
+unfolding architecture_of
+other_architecture code h = sym (get_or-eq_default architectures OtherArchitecture h)
 
-pub other-system : (code : ℕ) → 3 ≤ code → OtherSystem ≡ systemOf code
-unfolding systemOf
-other-system code h = sym (get_or-eq_default systems OtherSystem h)
+pub other_system : (code : ℕ) → 3 ≤ code → OtherSystem ≡ system_of code
+unfolding system_of
+other_system code h = sym (get_or-eq_default systems OtherSystem h)
 
 -- above the named conventions there is regparm alone
 module _ (code : ℕ) (above : 7 ≤ code) where
-  pub regparm-convention : Regparm (code - 256) ≡ conventionOf code
-  unfolding conventionOf
-  regparm-convention = sym (get_or-eq_default conventions (Regparm (code - 256)) above)
+  pub regparm_convention : Regparm (code - 256) ≡ convention_of code
+  unfolding convention_of
+  regparm_convention = sym (get_or-eq_default conventions (Regparm (code - 256)) above)
 
-  pub regparm-code : isConvention code ≡ true → 256 ≤ code
-  regparm-code h = leb-true 256 code (both_true _ _ (rw (lt-leb code 6 above) at h)).0
+  pub regparm_code : is_convention code ≡ true → 256 ≤ code
+  regparm_code h = leb-true 256 code (both_true _ _ (rw (lt-leb code 6 above) at h)).0
 
 -- a convention's code tells which it is
-pub code-tells : (convention : Convention) → conventionOf (conventionCode convention) ≡ convention
-unfolding conventionOf conventionCode
-code-tells Target = refl
-code-tells Ms = refl
-code-tells Sysv = refl
-code-tells Stdcall = refl
-code-tells Fastcall = refl
-code-tells NoCalleeSaved = refl
-code-tells PreserveNone = refl
-code-tells (Regparm n) =
+pub code_tells : (convention : Convention) → convention_of (convention_code convention) ≡ convention
+unfolding convention_of convention_code
+code_tells Target = refl
+code_tells Ms = refl
+code_tells Sysv = refl
+code_tells Stdcall = refl
+code_tells Fastcall = refl
+code_tells NoCalleeSaved = refl
+code_tells PreserveNone = refl
+code_tells (Regparm n) =
     let e : 256 + n - 256 ≡ n = omega arith in
-    sym (regparm-convention (256 + n) (omega arith)) ∙ ap Regparm e
+    sym (regparm_convention (256 + n) (omega arith)) ∙ ap Regparm e
 
 -- and of a known code, what it stands for has that code
-pub known-code : (code : ℕ) → isConvention code ≡ true → conventionCode (conventionOf code) ≡ code
-unfolding conventionOf conventionCode
-known-code zero h = refl
-known-code (suc zero) h = refl
-known-code (suc (suc zero)) h = refl
-known-code (suc (suc (suc zero))) h = refl
-known-code (suc (suc (suc (suc zero)))) h = refl
-known-code (suc (suc (suc (suc (suc zero))))) h = refl
-known-code (suc (suc (suc (suc (suc (suc zero)))))) h = refl
-known-code (suc (suc (suc (suc (suc (suc (suc n))))))) h =
-    let low : 256 ≤ suc (suc (suc (suc (suc (suc (suc n)))))) = regparm-code _ (omega arith) h in omega arith
+pub known_code : (code : ℕ) → is_convention code ≡ true → convention_code (convention_of code) ≡ code
+unfolding convention_of convention_code
+known_code zero h = refl
+known_code (suc zero) h = refl
+known_code (suc (suc zero)) h = refl
+known_code (suc (suc (suc zero))) h = refl
+known_code (suc (suc (suc (suc zero)))) h = refl
+known_code (suc (suc (suc (suc (suc zero))))) h = refl
+known_code (suc (suc (suc (suc (suc (suc zero)))))) h = refl
+known_code (suc (suc (suc (suc (suc (suc (suc n))))))) h =
+    let low : 256 ≤ suc (suc (suc (suc (suc (suc (suc n)))))) = regparm_code _ (omega arith) h in omega arith

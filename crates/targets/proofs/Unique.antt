@@ -2,43 +2,43 @@
 use mathlib.Core.Path.{sym, ◌∙◌}
 use contract.Lifetimes.{Lfts}
 use Rattle.shape.proofs.OneAnswer.{OneAnswer}
-use Rattle.targets.proofs.for_target.Reads as for-target
-use Rattle.targets.proofs.for_convention.Reads as for-convention
-use Rattle.targets.proofs.callee_pops.Reads as callee-pops
-use Rattle.targets.proofs.codes.is_target.Reads as is-target
-use Rattle.targets.proofs.codes.is_convention.Reads as is-convention
-use Rattle.targets.proofs.codes.architecture_of.Reads as architecture-of
-use Rattle.targets.proofs.codes.system_of.Reads as system-of
-use Rattle.targets.proofs.codes.convention_of.Reads as convention-of
-use Rattle.targets.proofs.codes.is_windows.Reads as is-windows
-use Rattle.targets.proofs.codes.is_elf.Reads as is-elf
+use Rattle.targets.proofs.for_target.Reads as for_target
+use Rattle.targets.proofs.for_convention.Reads as for_convention
+use Rattle.targets.proofs.callee_pops.Reads as callee_pops
+use Rattle.targets.proofs.codes.is_target.Reads as is_target
+use Rattle.targets.proofs.codes.is_convention.Reads as is_convention
+use Rattle.targets.proofs.codes.architecture_of.Reads as architecture_of
+use Rattle.targets.proofs.codes.system_of.Reads as system_of
+use Rattle.targets.proofs.codes.convention_of.Reads as convention_of
+use Rattle.targets.proofs.codes.is_windows.Reads as is_windows
+use Rattle.targets.proofs.codes.is_elf.Reads as is_elf
 
-for-target-decides : (κs : Lfts 0) → OneAnswer (for-target.Post κs)
-for-target-decides κs a r q s t p p' = p ∙ sym p'
+for_target_decides : (κs : Lfts 0) → OneAnswer (for_target.Post κs)
+for_target_decides κs a r q s t p p' = p ∙ sym p'
 
-for-convention-decides : (κs : Lfts 0) → OneAnswer (for-convention.Post κs)
-for-convention-decides κs a r q s t p p' = p ∙ sym p'
+for_convention_decides : (κs : Lfts 0) → OneAnswer (for_convention.Post κs)
+for_convention_decides κs a r q s t p p' = p ∙ sym p'
 
-callee-pops-decides : (κs : Lfts 0) → OneAnswer (callee-pops.Post κs)
-callee-pops-decides κs a r q s t p p' = p ∙ sym p'
+callee_pops_decides : (κs : Lfts 0) → OneAnswer (callee_pops.Post κs)
+callee_pops_decides κs a r q s t p p' = p ∙ sym p'
 
-is-target-decides : (κs : Lfts 0) → OneAnswer (is-target.Post κs)
-is-target-decides κs a r q s t p p' = p ∙ sym p'
+is_target_decides : (κs : Lfts 0) → OneAnswer (is_target.Post κs)
+is_target_decides κs a r q s t p p' = p ∙ sym p'
 
-is-convention-decides : (κs : Lfts 0) → OneAnswer (is-convention.Post κs)
-is-convention-decides κs a r q s t p p' = p ∙ sym p'
+is_convention_decides : (κs : Lfts 0) → OneAnswer (is_convention.Post κs)
+is_convention_decides κs a r q s t p p' = p ∙ sym p'
 
-architecture-of-decides : (κs : Lfts 0) → OneAnswer (architecture-of.Post κs)
-architecture-of-decides κs a r q s t p p' = p ∙ sym p'
+architecture_of_decides : (κs : Lfts 0) → OneAnswer (architecture_of.Post κs)
+architecture_of_decides κs a r q s t p p' = p ∙ sym p'
 
-system-of-decides : (κs : Lfts 0) → OneAnswer (system-of.Post κs)
-system-of-decides κs a r q s t p p' = p ∙ sym p'
+system_of_decides : (κs : Lfts 0) → OneAnswer (system_of.Post κs)
+system_of_decides κs a r q s t p p' = p ∙ sym p'
 
-convention-of-decides : (κs : Lfts 0) → OneAnswer (convention-of.Post κs)
-convention-of-decides κs a r q s t p p' = p ∙ sym p'
+convention_of_decides : (κs : Lfts 0) → OneAnswer (convention_of.Post κs)
+convention_of_decides κs a r q s t p p' = p ∙ sym p'
 
-is-windows-decides : (κs : Lfts 0) → OneAnswer (is-windows.Post κs)
-is-windows-decides κs a r q s t p p' = p ∙ sym p'
+is_windows_decides : (κs : Lfts 0) → OneAnswer (is_windows.Post κs)
+is_windows_decides κs a r q s t p p' = p ∙ sym p'
 
-is-elf-decides : (κs : Lfts 0) → OneAnswer (is-elf.Post κs)
-is-elf-decides κs a r q s t p p' = p ∙ sym p'
+is_elf_decides : (κs : Lfts 0) → OneAnswer (is_elf.Post κs)
+is_elf_decides κs a r q s t p p' = p ∙ sym p'

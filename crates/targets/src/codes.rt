@@ -1,6 +1,6 @@
 // The codes of architectures, systems and conventions, and what each stands for (REFERENCE 6.1).
 ghost use Rattle.std.specs.Prelude.{◌≡◌};
-ghost use Rattle.targets.specs.Codes.{isTarget, isConvention, architectureOf, systemOf, conventionOf, isWindows, isElf};
+ghost use Rattle.targets.specs.Codes.{is_target, is_convention, architecture_of, system_of, convention_of, is_windows, is_elf};
 
 // The answer where there is nothing to answer: no description, no convention, no attribute (REFERENCE 1.5).
 pub const NONE: u64 = 18446744073709551615;
@@ -72,19 +72,19 @@ const REGPARM: u64 = 256;
 const LAST_REGPARM: u64 = 511;
 
 pub fn is_target(architecture: u64, system: u64) -> bool
-    ensures { result ≡ isTarget architecture system }
+    ensures { result ≡ is_target architecture system }
 {
     (architecture <= OTHER_ARCHITECTURE) & (system <= OTHER_SYSTEM)
 }
 
 pub fn is_convention(code: u64) -> bool
-    ensures { result ≡ isConvention code }
+    ensures { result ≡ is_convention code }
 {
     (code <= PRESERVE_NONE) | ((REGPARM <= code) & (code <= LAST_REGPARM))
 }
 
 pub fn architecture_of(code: u64) -> Architecture
-    ensures { result ≡ architectureOf code }
+    ensures { result ≡ architecture_of code }
 {
     match code {
         X86 => Architecture::X86,
@@ -96,7 +96,7 @@ pub fn architecture_of(code: u64) -> Architecture
 }
 
 pub fn system_of(code: u64) -> System
-    ensures { result ≡ systemOf code }
+    ensures { result ≡ system_of code }
 {
     match code {
         WINDOWS => System::Windows,
@@ -107,7 +107,7 @@ pub fn system_of(code: u64) -> System
 }
 
 pub fn convention_of(code: u64) -> Convention
-    ensures { result ≡ conventionOf code }
+    ensures { result ≡ convention_of code }
 {
     match code {
         TARGET => Convention::Target,
@@ -122,7 +122,7 @@ pub fn convention_of(code: u64) -> Convention
 }
 
 pub fn is_windows(system: System) -> bool
-    ensures { result ≡ isWindows system }
+    ensures { result ≡ is_windows system }
 {
     match system {
         System::Windows => true,
@@ -134,7 +134,7 @@ pub fn is_windows(system: System) -> bool
 
 // Neither Windows nor macOS.
 pub fn is_elf(system: System) -> bool
-    ensures { result ≡ isElf system }
+    ensures { result ≡ is_elf system }
 {
     match system {
         System::Windows => false,

@@ -1,9 +1,9 @@
 // Which description a target and a convention follow, by its number.
 ghost use Rattle.std.specs.Prelude.{◌≡◌, cond, get_or};
 ghost use Rattle.std.proofs.Math.Option.{none};
-ghost use Rattle.targets.specs.Codes.{isWindows, isX86, isX86-64, noneNumber};
+ghost use Rattle.targets.specs.Codes.{is_windows, is_x86, is_x86_64, none_number};
 ghost use Rattle.targets.specs.Answers.{number_of};
-ghost use Rattle.targets.specs.Followed.{forTarget, forConvention, byRuntime, regparmRows};
+ghost use Rattle.targets.specs.Followed.{for_target, for_convention, by_runtime, regparm_rows};
 
 use crate::codes::{Architecture, Convention, NONE, System, is_windows};
 use abis::numbers::*;
@@ -12,7 +12,7 @@ use abis::numbers::*;
 const MOST_REGISTERS: u64 = 3;
 
 pub fn target_row(architecture: Architecture, system: System, msvc: bool) -> u64
-    ensures { result ≡ number_of (forTarget architecture system msvc) }
+    ensures { result ≡ number_of (for_target architecture system msvc) }
 {
     match architecture {
         Architecture::X86_64 => {
@@ -40,7 +40,7 @@ pub fn convention_row(
     system: System,
     msvc: bool,
 ) -> u64
-    ensures { result ≡ number_of (forConvention convention architecture system msvc) }
+    ensures { result ≡ number_of (for_convention convention architecture system msvc) }
 {
     match convention {
         Convention::Target => target_row(architecture, system, msvc),
@@ -73,7 +73,7 @@ pub fn convention_row(
 }
 
 fn on_x86(architecture: Architecture, row: u64) -> u64
-    ensures { result ≡ cond (isX86 architecture) row noneNumber }
+    ensures { result ≡ cond (is_x86 architecture) row none_number }
 {
     match architecture {
         Architecture::X86 => row,
@@ -85,7 +85,7 @@ fn on_x86(architecture: Architecture, row: u64) -> u64
 }
 
 fn on_x86_64(architecture: Architecture, row: u64) -> u64
-    ensures { result ≡ cond (isX86-64 architecture) row noneNumber }
+    ensures { result ≡ cond (is_x86_64 architecture) row none_number }
 {
     match architecture {
         Architecture::X86_64 => row,
@@ -98,7 +98,7 @@ fn on_x86_64(architecture: Architecture, row: u64) -> u64
 
 // The row for the runtime of 32-bit x86: System V's, or on Windows mingw's or MSVC's.
 fn by_runtime(system: System, msvc: bool, sysv: u64, mingw: u64, ms: u64) -> u64
-    ensures { result ≡ byRuntime system msvc sysv mingw ms }
+    ensures { result ≡ by_runtime system msvc sysv mingw ms }
 {
     if is_windows(system) {
         if msvc { ms } else { mingw }
@@ -108,7 +108,7 @@ fn by_runtime(system: System, msvc: bool, sysv: u64, mingw: u64, ms: u64) -> u64
 }
 
 fn regparm(system: System, n: u64) -> u64
-    ensures { result ≡ number_of (cond (isWindows system) none (get_or regparmRows n none)) }
+    ensures { result ≡ number_of (cond (is_windows system) none (get_or regparm_rows n none)) }
 {
     if is_windows(system) {
         return NONE;

@@ -1,5 +1,7 @@
 // Prints every lookup over the whole of its small domain, a line each: first for the known codes, then, behind the word `unknown`, wherever
 // a code isn't known. `none` stands where there is no answer, and `-` for the empty name.
+#![tactic(auto)]
+
 use libc::STDOUT_FILENO;
 use text::append;
 

@@ -9,32 +9,32 @@ use lib.ListN.{length, set, get_or}
 use lib.Seq.{take-length, paste, paste-suc}
 use Rattle.shape.specs.Numbers.{accepted, no_room}
 use Rattle.shape.specs.Words.{put_at}
-use Rattle.shape.proofs.Put.{put-fits, put-short}
-use Rattle.text.specs.Text.{wrote, putAnswer, putWritten, appendEnd}
+use Rattle.shape.proofs.Put.{put_fits, put_short}
+use Rattle.text.specs.Text.{wrote, put_answer, put_written, append_end}
 
 module _ (out₀ : List ℕ) (at : ℕ) (bs : List ℕ) where
-  pub left_out : length out₀ < at + length bs → (at ≡ appendEnd (length out₀) at bs) × (out₀ ≡ put_at out₀ at bs)
-  unfolding appendEnd
-  left_out h = (rw (lt-leb _ _ h), put-short out₀ at bs h)
+  pub left_out : length out₀ < at + length bs → (at ≡ append_end (length out₀) at bs) × (out₀ ≡ put_at out₀ at bs)
+  unfolding append_end
+  left_out h = (rw (lt-leb _ _ h), put_short out₀ at bs h)
 
   module _ (p : at ≤ length out₀) (room : length bs ≤ length out₀ - at) where
-    pub copy-next : (i : ℕ) (out : List ℕ) → i < length bs → out ≡ paste out₀ at bs i → set out (at + i) (get_or bs i 0) ≡ paste out₀ at bs (i + 1)
-    copy-next i out h e = rw (e, add-one) (paste-suc out₀ at bs i 0 (omega arith) (omega arith))
+    pub copy_next : (i : ℕ) (out : List ℕ) → i < length bs → out ≡ paste out₀ at bs i → set out (at + i) (get_or bs i 0) ≡ paste out₀ at bs (i + 1)
+    copy_next i out h e = rw (e, add-one) (paste-suc out₀ at bs i 0 (omega arith) (omega arith))
 
-    pub copy-end : at + length bs ≡ appendEnd (length out₀) at bs
-    unfolding appendEnd
-    copy-end = rw (le-leb (at + length bs) (length out₀) (omega arith))
+    pub copy_end : at + length bs ≡ append_end (length out₀) at bs
+    unfolding append_end
+    copy_end = rw (le-leb (at + length bs) (length out₀) (omega arith))
 
     pub copy_done : (i : ℕ) (out : List ℕ) → length bs ≤ i → i ≤ length bs → out ≡ paste out₀ at bs i → out ≡ put_at out₀ at bs
     copy_done i out q r e =
         let n : i ≡ length bs = omega arith in
-        e ∙ rw (n, take-length) (sym (put-fits out₀ at bs (omega arith)))
+        e ∙ rw (n, take-length) (sym (put_fits out₀ at bs (omega arith)))
 
 module _ (name out₀ : List ℕ) where
-  pub refused : length out₀ < length name → (wrote no_room 0 ≡ putAnswer name (length out₀)) × (out₀ ≡ putWritten name out₀)
-  unfolding putAnswer
-  refused h = (rw (lt-leb _ _ h), put-short out₀ 0 name (omega arith))
+  pub refused : length out₀ < length name → (wrote no_room 0 ≡ put_answer name (length out₀)) × (out₀ ≡ put_written name out₀)
+  unfolding put_answer
+  refused h = (rw (lt-leb _ _ h), put_short out₀ 0 name (omega arith))
 
-  pub put-answer : length name ≤ length out₀ → wrote accepted (length name) ≡ putAnswer name (length out₀)
-  unfolding putAnswer
-  put-answer room = rw (le-leb _ _ room)
+  pub put_answer_lem : length name ≤ length out₀ → wrote accepted (length name) ≡ put_answer name (length out₀)
+  unfolding put_answer
+  put_answer_lem room = rw (le-leb _ _ room)

@@ -4,33 +4,33 @@ use contract.Lifetimes.{Lfts}
 use Rattle.shape.proofs.OneAnswer.{OneAnswer, OneExit}
 use Rattle.text.proofs.put.Reads as put
 use Rattle.text.proofs.append.Reads as append
-use Rattle.text.proofs.append_up_to_dot.Reads as append-up-to-dot
+use Rattle.text.proofs.append_up_to_dot.Reads as append_up_to_dot
 use Rattle.text.proofs.end_of.Reads as end_of_lem
-use Rattle.text.proofs.append_number.Reads as append-number
+use Rattle.text.proofs.append_number.Reads as append_number
 
-put-decides : (κs : Lfts 2) → OneAnswer (put.Post κs)
-put-decides κs a r q s t p p' = p.0 ∙ sym p'.0
+put_decides : (κs : Lfts 2) → OneAnswer (put.Post κs)
+put_decides κs a r q s t p p' = p.0 ∙ sym p'.0
 
-put-bytes : (κs : Lfts 2) → OneExit (put.Post κs) (λ s. s.1.0.now)
-put-bytes κs a r q s t p p' = p.1 ∙ sym p'.1
+put_bytes : (κs : Lfts 2) → OneExit (put.Post κs) (λ s. s.1.0.now)
+put_bytes κs a r q s t p p' = p.1 ∙ sym p'.1
 
-append-decides : (κs : Lfts 2) → OneAnswer (append.Post κs)
-append-decides κs a r q s t p p' = p.0 ∙ sym p'.0
+append_decides : (κs : Lfts 2) → OneAnswer (append.Post κs)
+append_decides κs a r q s t p p' = p.0 ∙ sym p'.0
 
-append-bytes : (κs : Lfts 2) → OneExit (append.Post κs) (λ s. s.0.now)
-append-bytes κs a r q s t p p' = p.1 ∙ sym p'.1
+append_bytes : (κs : Lfts 2) → OneExit (append.Post κs) (λ s. s.0.now)
+append_bytes κs a r q s t p p' = p.1 ∙ sym p'.1
 
-append-up-to-dot-decides : (κs : Lfts 2) → OneAnswer (append-up-to-dot.Post κs)
-append-up-to-dot-decides κs a r q s t p p' = p.0 ∙ sym p'.0
+append_up_to_dot_decides : (κs : Lfts 2) → OneAnswer (append_up_to_dot.Post κs)
+append_up_to_dot_decides κs a r q s t p p' = p.0 ∙ sym p'.0
 
-append-up-to-dot-bytes : (κs : Lfts 2) → OneExit (append-up-to-dot.Post κs) (λ s. s.0.now)
-append-up-to-dot-bytes κs a r q s t p p' = p.1 ∙ sym p'.1
+append_up_to_dot_bytes : (κs : Lfts 2) → OneExit (append_up_to_dot.Post κs) (λ s. s.0.now)
+append_up_to_dot_bytes κs a r q s t p p' = p.1 ∙ sym p'.1
 
-end-of-decides : (κs : Lfts 1) → OneAnswer (end_of_lem.Post κs)
-end-of-decides κs a r q s t p p' = p ∙ sym p'
+end_of_decides : (κs : Lfts 1) → OneAnswer (end_of_lem.Post κs)
+end_of_decides κs a r q s t p p' = p ∙ sym p'
 
-append-number-decides : (κs : Lfts 1) → OneAnswer (append-number.Post κs)
-append-number-decides κs a r q s t p p' = p.0 ∙ sym p'.0
+append_number_decides : (κs : Lfts 1) → OneAnswer (append_number.Post κs)
+append_number_decides κs a r q s t p p' = p.0 ∙ sym p'.0
 
-append-number-bytes : (κs : Lfts 1) → OneExit (append-number.Post κs) (λ s. s.0.now)
-append-number-bytes κs a r q s t p p' = p.1 ∙ sym p'.1
+append_number_bytes : (κs : Lfts 1) → OneExit (append_number.Post κs) (λ s. s.0.now)
+append_number_bytes κs a r q s t p p' = p.1 ∙ sym p'.1

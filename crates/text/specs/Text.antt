@@ -15,16 +15,16 @@ abbrev pub wrote : ℕ → ℕ → Written
 wrote refusal count = record { refusal = refusal; length = count }
 
 -- the number of bytes, or NO_ROOM where they don't all fit
-unfoldable pub putAnswer : List ℕ → ℕ → Written
-putAnswer name room = cond (leb (length name) room) (wrote accepted (length name)) (wrote no_room 0)
+unfoldable pub put_answer : List ℕ → ℕ → Written
+put_answer name room = cond (leb (length name) room) (wrote accepted (length name)) (wrote no_room 0)
 
 -- the bytes at the front, where they fit; every byte behind them keeps its value
-abbrev pub putWritten : List ℕ → List ℕ → List ℕ
-putWritten name out = put_at out 0 name
+abbrev pub put_written : List ℕ → List ℕ → List ℕ
+put_written name out = put_at out 0 name
 
 -- the place behind some bytes that were put at a place, or the same place where they didn't fit, by the length of the buffer
-unfoldable pub appendEnd : ℕ → ℕ → List ℕ → ℕ
-appendEnd room at bs = cond (leb (at + length bs) room) (at + length bs) at
+unfoldable pub append_end : ℕ → ℕ → List ℕ → ℕ
+append_end room at bs = cond (leb (at + length bs) room) (at + length bs) at
 
 -- `text` stands from `at` on, where it fits, and ends at `to`; all other bytes are as they were
 pub record Put (before : List ℕ) (at : ℕ) (text : List ℕ) (to : ℕ) (after : List ℕ) : Type 0 where
@@ -36,10 +36,10 @@ abbrev pub dot : ℕ
 dot = 46
 
 -- the bytes up to the first dot, all where there is none
-unfoldable pub upToDot : List ℕ → List ℕ
-upToDot [] = []
-upToDot (b ∷ bs) = cond (eqb b dot) [] (b ∷ upToDot bs)
+unfoldable pub up_to_dot : List ℕ → List ℕ
+up_to_dot [] = []
+up_to_dot (b ∷ bs) = cond (eqb b dot) [] (b ∷ up_to_dot bs)
 
 -- where the text that starts at a place ends
-unfoldable pub endFrom : List ℕ → ℕ → ℕ
-endFrom bs start = start + length (upToDot (drop start bs))
+unfoldable pub end_from : List ℕ → ℕ → ℕ
+end_from bs start = start + length (up_to_dot (drop start bs))

@@ -1,7 +1,9 @@
 // Bytes of text, written into a lent buffer: the one way that names leave (REFERENCE 5.5, 6.4), and that programs make their lines.
+#![tactic(auto)]
+
 ghost use Rattle.std.specs.Prelude.{◌≡◌, [], ◌∷◌, ◌+◌, ◌<◌, ◌≤◌, length, drop};
-ghost use Rattle.text.specs.Text.{putAnswer, putWritten, appendEnd, upToDot, endFrom, Put};
-ghost use Rattle.text.specs.Numbers.{decimal, decimalIn, digitOf, mostDigits, numberEnd, numberWritten};
+ghost use Rattle.text.specs.Text.{put_answer, put_written, append_end, up_to_dot, end_from, Put};
+ghost use Rattle.text.specs.Numbers.{decimal, decimal_in, digit_of, most_digits, number_end, number_written};
 ghost use Rattle.shape.specs.Words.{put_at};
 
 // The digits of the largest 64-bit number.
@@ -19,7 +21,7 @@ pub struct Written {
 
 // The bytes go to the front of `out`, where they all fit. A refusal writes nothing.
 pub fn put(bytes: &[u8], out: &mut [u8]) -> Written
-    ensures { (result ≡ putAnswer bytes.now (length out.old)) × (out.new ≡ putWritten bytes.now out.old) }
+    ensures { (result ≡ put_answer bytes.now (length out.old)) × (out.new ≡ put_written bytes.now out.old) }
 {
     if bytes.len() > out.len() {
         return Written {
@@ -36,7 +38,7 @@ pub fn put(bytes: &[u8], out: &mut [u8]) -> Written
 
 // The bytes go to a place of `out`, where they all fit behind it; the place behind them. What doesn't fit is left out whole.
 pub fn append(out: &mut [u8], at: usize, bytes: &[u8]) -> usize
-    ensures { (result ≡ appendEnd (length out.old) at bytes.now) × (out.new ≡ put_at out.old at bytes.now) }
+    ensures { (result ≡ append_end (length out.old) at bytes.now) × (out.new ≡ put_at out.old at bytes.now) }
 {
     if at > out.len() {
         return at;
@@ -55,7 +57,7 @@ pub fn append(out: &mut [u8], at: usize, bytes: &[u8]) -> usize
 // Texts of unlike lengths can stand in one, each filled up with dots: the one that starts at a place goes to a place of `out`, up to its first
 // dot.
 pub fn append_up_to_dot(out: &mut [u8], at: usize, texts: &[u8], start: usize) -> usize
-    ensures { (result ≡ appendEnd (length out.old) at (upToDot (drop start texts.now))) × (out.new ≡ put_at out.old at (upToDot (drop start texts.now))) }
+    ensures { (result ≡ append_end (length out.old) at (up_to_dot (drop start texts.now))) × (out.new ≡ put_at out.old at (up_to_dot (drop start texts.now))) }
 {
     if start > texts.len() {
         return at;
@@ -66,7 +68,7 @@ pub fn append_up_to_dot(out: &mut [u8], at: usize, texts: &[u8], start: usize) -
 
 // Where the text that starts at a place ends: at the next dot.
 pub fn end_of(texts: &[u8], start: usize) -> usize
-    ensures { result ≡ endFrom texts.now start }
+    ensures { result ≡ end_from texts.now start }
 {
     let mut end = start;
     while end < texts.len() {
@@ -81,7 +83,7 @@ pub fn end_of(texts: &[u8], start: usize) -> usize
 // A number goes to a place of `out`, in decimal digits behind a mark; the place behind them. It is left out where the longest number wouldn't fit,
 // so that no digit is counted before it is written.
 pub fn append_number(out: &mut [u8], at: usize, mark: u8, n: u64) -> usize
-    ensures { (result ≡ numberEnd (length out.old) at mark n) × (out.new ≡ numberWritten out.old at mark n) }
+    ensures { (result ≡ number_end (length out.old) at mark n) × (out.new ≡ number_written out.old at mark n) }
 {
     if out.len() < MOST_PART {
         return at;
@@ -95,7 +97,7 @@ pub fn append_number(out: &mut [u8], at: usize, mark: u8, n: u64) -> usize
 
 // Most numbers have one digit: these are spared the call.
 fn put_decimal(out: &mut [u8], at: usize, n: u64) -> usize
-    requires { at + mostDigits ≤ length out.old }
+    requires { at + most_digits ≤ length out.old }
     ensures { Put out.old at (decimal n) result out.new }
 {
     if n < 10 {
@@ -107,7 +109,7 @@ fn put_decimal(out: &mut [u8], at: usize, n: u64) -> usize
 // The digits of a number, the last so many where it has more.
 fn put_digits(out: &mut [u8], at: usize, n: u64, digits: u64) -> usize
     requires { at + digits ≤ length out.old }
-    ensures { Put out.old at (decimalIn digits n) result out.new × (result ≤ at + digits) }
+    ensures { Put out.old at (decimal_in digits n) result out.new × (result ≤ at + digits) }
 {
     if digits == 0 {
         return at;
@@ -121,7 +123,7 @@ fn put_digits(out: &mut [u8], at: usize, n: u64, digits: u64) -> usize
 
 fn digit(n: u64) -> u8
     requires { n < 10 }
-    ensures { result ≡ digitOf n }
+    ensures { result ≡ digit_of n }
 {
     b'0' + n as u8
 }

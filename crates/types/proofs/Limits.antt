@@ -7,106 +7,106 @@ use native.Mathlib.Omega.{arith}
 use borrow.Author.Tests.{ltb-true, ltb-false, eq-eqb, eqb-true}
 use lib.Dec.{ltb, eqb}
 use Rattle.shape.specs.Lists.{every}
-use Rattle.shape.specs.Numbers.{accepted, most-offset, most-align}
+use Rattle.shape.specs.Numbers.{accepted, most_offset, most_align}
 use Rattle.shape.proofs.Bools.{both_true}
-use Rattle.shape.proofs.Rounding.{round-bound}
-use Rattle.checks.specs.Check.{scalarRefusal}
-use Rattle.checks.proofs.Accepted.{refuse-none, else-none, fits}
-use Rattle.types.specs.Entries.{most-elements, most-levels, Meaning, one, several, repeated, meaningAt, referred, refersBack}
-use Rattle.types.specs.Tree.{Tree, Forest, leaf, group, array, empty, child, align_of, largestIn, size_of, takesOf, levelsOf}
-use Rattle.types.specs.Trees.{offsetFrom, laidOut, tree_of, type_at, entries, wanted, sizeRefusal, treeRefusal, listsRefusal, referencesRefusal, treesRefusal, typesRefusal}
-use Rattle.types.proofs.Types.{own-type}
+use Rattle.shape.proofs.Rounding.{round_bound}
+use Rattle.checks.specs.Check.{scalar_refusal}
+use Rattle.checks.proofs.Accepted.{refuse_none, else_none, fits}
+use Rattle.types.specs.Entries.{most_elements, most_levels, Meaning, one, several, repeated, meaning_at, referred, refers_back}
+use Rattle.types.specs.Tree.{Tree, Forest, leaf, group, array, empty, child, align_of, largest_in, size_of, takes_of, levels_of}
+use Rattle.types.specs.Trees.{offset_from, laid_out, tree_of, type_at, entries, wanted, size_refusal, tree_refusal, lists_refusal, references_refusal, trees_refusal, types_refusal}
+use Rattle.types.proofs.Types.{own_type}
 use Rattle.types.proofs.Answering.{whole, sound}
 
 -- ---- each type
 
-pub each_within : (ts ms : List ℕ) (n e : ℕ) → treesRefusal ts ms e n ≡ accepted → (i : ℕ) → i < n → treeRefusal (type_at ts ms (e + i)) ≡ accepted
-unfolding treesRefusal
+pub each_within : (ts ms : List ℕ) (n e : ℕ) → trees_refusal ts ms e n ≡ accepted → (i : ℕ) → i < n → tree_refusal (type_at ts ms (e + i)) ≡ accepted
+unfolding trees_refusal
 each_within ts ms zero e h i lt = absurd (omega arith)
 each_within ts ms (suc n) e h zero lt =
     let z : e + 0 ≡ e = omega arith in
-    rw z (else-none (treeRefusal (type_at ts ms e)) _ h).0
+    rw z (else_none (tree_refusal (type_at ts ms e)) _ h).0
 each_within ts ms (suc n) e h (suc i) lt =
     let z : e + suc i ≡ e + 1 + i = omega arith in
-    rw z (each_within ts ms n (e + 1) (else-none (treeRefusal (type_at ts ms e)) _ h).1 i (omega arith))
+    rw z (each_within ts ms n (e + 1) (else_none (tree_refusal (type_at ts ms e)) _ h).1 i (omega arith))
 
-size-limit : (size : ℕ) → sizeRefusal size ≡ accepted → size ≤ most-offset
-size-limit size h = ltb-false most-offset size (refuse-none (ltb most-offset size) 4 accepted h).0
+size_limit : (size : ℕ) → size_refusal size ≡ accepted → size ≤ most_offset
+size_limit size h = ltb-false most_offset size (refuse_none (ltb most_offset size) 4 accepted h).0
 
-pub size-within : (t : Tree) → treeRefusal t ≡ accepted → size_of t ≤ most-offset
-unfolding treeRefusal size_of
-size-within (leaf s) h =
+pub size_within : (t : Tree) → tree_refusal t ≡ accepted → size_of t ≤ most_offset
+unfolding tree_refusal size_of
+size_within (leaf s) h =
     let k = fits s h in
-    omega (arith, k.size≤, k.align≤, round-bound (max s.size 1) (max s.align 1) (omega arith))
-size-within (group f) h = size-limit (size_of (group f)) h
-size-within (array t n) h = size-limit (size_of (array t n)) (refuse-none (ltb most-elements n) 4 _ h).1
+    omega (arith, k.size≤, k.align≤, round_bound (max s.size 1) (max s.align 1) (omega arith))
+size_within (group f) h = size_limit (size_of (group f)) h
+size_within (array t n) h = size_limit (size_of (array t n)) (refuse_none (ltb most_elements n) 4 _ h).1
 
 -- ---- the scalars in it
 
 unfoldable mutual
-  pub scalarsFit : Tree → Bool
-  scalarsFit (leaf s) = eqb (scalarRefusal s) accepted
-  scalarsFit (group f) = forestFits f
-  scalarsFit (array t n) = scalarsFit t
+  pub scalars_fit : Tree → Bool
+  scalars_fit (leaf s) = eqb (scalar_refusal s) accepted
+  scalars_fit (group f) = forest_fits f
+  scalars_fit (array t n) = scalars_fit t
 
-  pub forestFits : Forest → Bool
-  forestFits empty = true
-  forestFits (child o t f) = scalarsFit t && forestFits f
+  pub forest_fits : Forest → Bool
+  forest_fits empty = true
+  forest_fits (child o t f) = scalars_fit t && forest_fits f
 
-module _ (T : ℕ → Tree) (e : ℕ) (fit : (m : ℕ) → m < e → scalarsFit (T m) ≡ true) where
-  laid-fit : (overlaid : Bool) (end : ℕ) (l : List ℕ) → every (λ m. ltb m e) l ≡ true → forestFits (laidOut T overlaid end l) ≡ true
-  unfolding laidOut every scalarsFit
-  laid-fit overlaid end [] h = refl
-  laid-fit overlaid end (m ∷ l) h =
+module _ (T : ℕ → Tree) (e : ℕ) (fit : (m : ℕ) → m < e → scalars_fit (T m) ≡ true) where
+  laid_fit : (overlaid : Bool) (end : ℕ) (l : List ℕ) → every (λ m. ltb m e) l ≡ true → forest_fits (laid_out T overlaid end l) ≡ true
+  unfolding laid_out every scalars_fit
+  laid_fit overlaid end [] h = refl
+  laid_fit overlaid end (m ∷ l) h =
       let b = both_true (ltb m e) (every (λ m. ltb m e) l) h in
-      rw (fit m (ltb-true m e b.0), laid-fit overlaid (offsetFrom overlaid end (align_of (T m)) + takesOf (T m)) l b.1)
+      rw (fit m (ltb-true m e b.0), laid_fit overlaid (offset_from overlaid end (align_of (T m)) + takes_of (T m)) l b.1)
 
-  tree-fit : (x : Meaning) → refersBack e x ≡ true → treeRefusal (tree_of T x) ≡ accepted → scalarsFit (tree_of T x) ≡ true
-  unfolding tree_of referred every scalarsFit treeRefusal
-  tree-fit (one s) h ok = eq-eqb _ _ ok
-  tree-fit (several overlaid l) h ok = laid-fit overlaid 0 l h
-  tree-fit (repeated m n) h ok = fit m (ltb-true m e (both_true (ltb m e) true h).0)
+  tree_fit : (x : Meaning) → refers_back e x ≡ true → tree_refusal (tree_of T x) ≡ accepted → scalars_fit (tree_of T x) ≡ true
+  unfolding tree_of referred every scalars_fit tree_refusal
+  tree_fit (one s) h ok = eq-eqb _ _ ok
+  tree_fit (several overlaid l) h ok = laid_fit overlaid 0 l h
+  tree_fit (repeated m n) h ok = fit m (ltb-true m e (both_true (ltb m e) true h).0)
 
-module _ (ts ms : List ℕ) (n : ℕ) (back : (e : ℕ) → e < n → refersBack e (meaningAt ts ms e) ≡ true)
-    (ok : (e : ℕ) → e < n → treeRefusal (type_at ts ms e) ≡ accepted) where
+module _ (ts ms : List ℕ) (n : ℕ) (back : (e : ℕ) → e < n → refers_back e (meaning_at ts ms e) ≡ true)
+    (ok : (e : ℕ) → e < n → tree_refusal (type_at ts ms e) ≡ accepted) where
   -- those of the entries below k
-  below-fit : (k : ℕ) → k ≤ n → (e : ℕ) → e < k → scalarsFit (type_at ts ms e) ≡ true
-  below-fit zero h e lt = absurd (omega arith)
-  below-fit (suc k) h e lt =
+  below_fit : (k : ℕ) → k ≤ n → (e : ℕ) → e < k → scalars_fit (type_at ts ms e) ≡ true
+  below_fit zero h e lt = absurd (omega arith)
+  below_fit (suc k) h e lt =
       let b = back e (omega arith) in
-      let t : type_at ts ms e ≡ tree_of (type_at ts ms) (meaningAt ts ms e) = own-type ts ms e b in
-      rw t (tree-fit (type_at ts ms) e (λ m q. below-fit k (omega arith) m (omega arith)) (meaningAt ts ms e) b (rw t at (ok e (omega arith))))
+      let t : type_at ts ms e ≡ tree_of (type_at ts ms) (meaning_at ts ms e) = own_type ts ms e b in
+      rw t (tree_fit (type_at ts ms) e (λ m q. below_fit k (omega arith) m (omega arith)) (meaning_at ts ms e) b (rw t at (ok e (omega arith))))
 
-  pub scalars-fit : (e : ℕ) → e < n → scalarsFit (type_at ts ms e) ≡ true
-  scalars-fit = below-fit n (omega arith)
+  pub scalars_fit_lem : (e : ℕ) → e < n → scalars_fit (type_at ts ms e) ≡ true
+  scalars_fit_lem = below_fit n (omega arith)
 
 mutual
-  unfolding scalarsFit align_of
+  unfolding scalars_fit align_of
 
-  pub align-within : (t : Tree) → scalarsFit t ≡ true → align_of t ≤ most-align
-  align-within (leaf s) h = omega (arith, (fits s (eqb-true _ _ h)).align≤)
-  align-within (group f) h = largest-within f h
-  align-within (array t n) h = align-within t h
+  pub align_within : (t : Tree) → scalars_fit t ≡ true → align_of t ≤ most_align
+  align_within (leaf s) h = omega (arith, (fits s (eqb-true _ _ h)).align≤)
+  align_within (group f) h = largest_within f h
+  align_within (array t n) h = align_within t h
 
-  largest-within : (f : Forest) → forestFits f ≡ true → largestIn f ≤ most-align
-  largest-within empty h = omega arith
-  largest-within (child o t f) h =
-      let b = both_true (scalarsFit t) (forestFits f) h in
-      omega (arith, align-within t b.0, largest-within f b.1)
+  largest_within : (f : Forest) → forest_fits f ≡ true → largest_in f ≤ most_align
+  largest_within empty h = omega arith
+  largest_within (child o t f) h =
+      let b = both_true (scalars_fit t) (forest_fits f) h in
+      omega (arith, align_within t b.0, largest_within f b.1)
 
 -- ---- lists that aren't refused
 
 pub record Accepted (ts ms : List ℕ) : Type 0 where
   pub some : 0 < entries ts
-  pub back : (e : ℕ) → e < entries ts → refersBack e (meaningAt ts ms e) ≡ true
-  pub levels : levelsOf (wanted ts ms) ≤ most-levels
-  pub within : (e : ℕ) → e < entries ts → treeRefusal (type_at ts ms e) ≡ accepted
+  pub back : (e : ℕ) → e < entries ts → refers_back e (meaning_at ts ms e) ≡ true
+  pub levels : levels_of (wanted ts ms) ≤ most_levels
+  pub within : (e : ℕ) → e < entries ts → tree_refusal (type_at ts ms e) ≡ accepted
 
-pub accepted-lists : (ts ms : List ℕ) → typesRefusal ts ms ≡ accepted → Accepted ts ms
-unfolding typesRefusal
-accepted-lists ts ms ok =
-    let l = else-none (listsRefusal ts ms) _ ok in
-    let r = else-none (referencesRefusal ts ms) _ l.1 in
+pub accepted_lists : (ts ms : List ℕ) → types_refusal ts ms ≡ accepted → Accepted ts ms
+unfolding types_refusal
+accepted_lists ts ms ok =
+    let l = else_none (lists_refusal ts ms) _ ok in
+    let r = else_none (references_refusal ts ms) _ l.1 in
     let s = sound ts ms r.0 in
     record {
       some = (whole ts ms l.0).some;
@@ -116,9 +116,9 @@ accepted-lists ts ms ok =
     }
 
 -- of the type wanted: its size, its alignment, and the scalars in it
-module _ (ts ms : List ℕ) (ok : typesRefusal ts ms ≡ accepted) where
-  pub wanted-size : size_of (wanted ts ms) ≤ most-offset
-  wanted-size = let a = accepted-lists ts ms ok in size-within (wanted ts ms) (a.within (entries ts - 1) (omega (arith, a.some)))
+module _ (ts ms : List ℕ) (ok : types_refusal ts ms ≡ accepted) where
+  pub wanted_size : size_of (wanted ts ms) ≤ most_offset
+  wanted_size = let a = accepted_lists ts ms ok in size_within (wanted ts ms) (a.within (entries ts - 1) (omega (arith, a.some)))
 
-  pub wanted-fits : scalarsFit (wanted ts ms) ≡ true
-  wanted-fits = let a = accepted-lists ts ms ok in scalars-fit ts ms (entries ts) a.back a.within (entries ts - 1) (omega (arith, a.some))
+  pub wanted_fits : scalars_fit (wanted ts ms) ≡ true
+  wanted_fits = let a = accepted_lists ts ms ok in scalars_fit_lem ts ms (entries ts) a.back a.within (entries ts - 1) (omega (arith, a.some))

@@ -10,9 +10,9 @@ use lib.Dec.{eqb}
 use lib.ListN.{length, get_or, get_or-eq_default}
 use Rattle.shape.specs.declared.Piece.{Piece}
 use Rattle.shape.specs.Words.{scalar, piece_at}
-use Rattle.shape.proofs.Words.{no-piece}
+use Rattle.shape.proofs.Words.{no_piece}
 use Rattle.types.specs.declared.Entry.{Entry}
-use Rattle.types.specs.Entries.{nowhere, union-kind, array_kind, membersFrom, one, several, repeated, hasMembers, meaningOf}
+use Rattle.types.specs.Entries.{nowhere, union_kind, array_kind, members_from, one, several, repeated, has_members, meaning_of}
 
 -- a word past the end, and one that is there, which doesn't hang on what stands for one that isn't
 past : (ws : List ℕ) (at d : ℕ) → length ws ≤ at → d ≡ get_or ws at d
@@ -27,51 +27,51 @@ pub no_word : (ws : List ℕ) (at : ℕ) → length ws ≤ at → 0 ≡ get_or w
 no_word ws at h = past ws at 0 h
 
 module _ (ms : List ℕ) (first i : ℕ) where
-  pub no-first : length ms ≤ first → nowhere ≡ get_or ms (first + i) nowhere
-  no-first h = past ms (first + i) nowhere (omega arith)
+  pub no_first : length ms ≤ first → nowhere ≡ get_or ms (first + i) nowhere
+  no_first h = past ms (first + i) nowhere (omega arith)
 
   pub no_member : first < length ms → length ms - first ≤ i → nowhere ≡ get_or ms (first + i) nowhere
   no_member h l = past ms (first + i) nowhere (omega arith)
 
-  pub member-there : first < length ms → i < length ms - first → get_or ms (first + i) 0 ≡ get_or ms (first + i) nowhere
-  member-there h l = there ms (first + i) 0 nowhere (omega arith)
+  pub member_there : first < length ms → i < length ms - first → get_or ms (first + i) 0 ≡ get_or ms (first + i) nowhere
+  member_there h l = there ms (first + i) 0 nowhere (omega arith)
 
-pub no-four : (ws : List ℕ) (e : ℕ) → length ws / 4 ≤ e → (p : Piece) → p ≡ piece_at ws (length ws) → p ≡ piece_at ws (4 * e)
-no-four ws e h p ep = ep ∙ sym (no-piece ws (length ws) (omega arith)) ∙ no-piece ws (4 * e) (omega arith)
+pub no_four : (ws : List ℕ) (e : ℕ) → length ws / 4 ≤ e → (p : Piece) → p ≡ piece_at ws (length ws) → p ≡ piece_at ws (4 * e)
+no_four ws e h p ep = ep ∙ sym (no_piece ws (length ws) (omega arith)) ∙ no_piece ws (4 * e) (omega arith)
 
 -- ---- a loop over members: those from number i on
 
 module _ (ms : List ℕ) (first count : ℕ) where
-  pub members-start : membersFrom ms first count ≡ membersFrom ms (first + 0) (count - 0)
-  members-start =
+  pub members_start : members_from ms first count ≡ members_from ms (first + 0) (count - 0)
+  members_start =
       let a : first ≡ first + 0 = omega arith in
       let b : count ≡ count - 0 = omega arith in
-      ap (λ (n : ℕ). membersFrom ms n count) a ∙ ap (λ (n : ℕ). membersFrom ms (first + 0) n) b
+      ap (λ (n : ℕ). members_from ms n count) a ∙ ap (λ (n : ℕ). members_from ms (first + 0) n) b
 
   module _ (i : ℕ) where
     pub members_step : i < count → (m : ℕ) → m ≡ get_or ms (first + i) nowhere
-        → membersFrom ms (first + i) (count - i) ≡ m ∷ membersFrom ms (first + (i + 1)) (count - (i + 1))
-    unfolding membersFrom
+        → members_from ms (first + i) (count - i) ≡ m ∷ members_from ms (first + (i + 1)) (count - (i + 1))
+    unfolding members_from
     members_step lt m em =
         let s : count - i ≡ suc (count - (i + 1)) = omega arith in
         let a : first + i + 1 ≡ first + (i + 1) = omega arith in
         rw (s, em, a)
 
-    pub members-end : count ≤ i → membersFrom ms (first + i) (count - i) ≡ []
-    unfolding membersFrom
-    members-end ge = let s : count - i ≡ 0 = omega arith in rw s
+    pub members_end : count ≤ i → members_from ms (first + i) (count - i) ≡ []
+    unfolding members_from
+    members_end ge = let s : count - i ≡ 0 = omega arith in rw s
 
 -- ---- what an entry says
 
-module _ (ms : List ℕ) (x : Entry) (b : Bool) (eb : b ≡ hasMembers x.kind) where
-  pub means-several : b ≡ true → meaningOf ms x ≡ several (eqb x.kind union-kind) (membersFrom ms x.second x.third)
-  unfolding meaningOf
-  means-several h = rw (← eb, h)
+module _ (ms : List ℕ) (x : Entry) (b : Bool) (eb : b ≡ has_members x.kind) where
+  pub means_several : b ≡ true → meaning_of ms x ≡ several (eqb x.kind union_kind) (members_from ms x.second x.third)
+  unfolding meaning_of
+  means_several h = rw (← eb, h)
 
-  pub means-repeated : b ≡ false → x.kind ≡ array_kind → meaningOf ms x ≡ repeated x.second x.third
-  unfolding meaningOf
-  means-repeated h k = rw (← eb, h, eq-eqb _ _ k)
+  pub means_repeated : b ≡ false → x.kind ≡ array_kind → meaning_of ms x ≡ repeated x.second x.third
+  unfolding meaning_of
+  means_repeated h k = rw (← eb, h, eq-eqb _ _ k)
 
-  pub means-one : b ≡ false → (x.kind ≡ array_kind → ⊥) → meaningOf ms x ≡ one (scalar x.kind x.second x.third)
-  unfolding meaningOf
-  means-one h k = rw (← eb, h, ne_eqb _ _ k)
+  pub means_one : b ≡ false → (x.kind ≡ array_kind → ⊥) → meaning_of ms x ≡ one (scalar x.kind x.second x.third)
+  unfolding meaning_of
+  means_one h k = rw (← eb, h, ne_eqb _ _ k)

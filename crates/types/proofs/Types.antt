@@ -12,22 +12,22 @@ use lib.ListN.{length, get_or, length-append, get_or-append}
 use lib.Seq.{get_or-append-add}
 use Rattle.shape.specs.Lists.{every}
 use Rattle.shape.proofs.Bools.{both_true}
-use Rattle.types.specs.Entries.{Meaning, one, several, repeated, referred, refersBack, meaningAt, allReferBack}
-use Rattle.types.specs.Tree.{Tree, align_of, takesOf, group, array}
-use Rattle.types.specs.Trees.{offsetFrom, laidOut, tree_of, no-type, trees, type_at}
+use Rattle.types.specs.Entries.{Meaning, one, several, repeated, referred, refers_back, meaning_at, all_refer_back}
+use Rattle.types.specs.Tree.{Tree, align_of, takes_of, group, array}
+use Rattle.types.specs.Trees.{offset_from, laid_out, tree_of, no_type, trees, type_at}
 
 module _ (ts ms : List ℕ) where
-  length-trees : (n : ℕ) → length (trees ts ms n) ≡ n
+  length_trees : (n : ℕ) → length (trees ts ms n) ≡ n
   unfolding trees
-  length-trees zero = refl
-  length-trees (suc n) = let h : length (trees ts ms n) ≡ n = length-trees n in simp length-append (omega arith)
+  length_trees zero = refl
+  length_trees (suc n) = let h : length (trees ts ms n) ≡ n = length_trees n in simp length-append (omega arith)
 
-  kept : (n e : ℕ) → e < n → get_or (trees ts ms (suc n)) e no-type ≡ get_or (trees ts ms n) e no-type
+  kept : (n e : ℕ) → e < n → get_or (trees ts ms (suc n)) e no_type ≡ get_or (trees ts ms n) e no_type
   unfolding trees
-  kept n e lt = let h : length (trees ts ms n) ≡ n = length-trees n in get_or-append (trees ts ms n) _ no-type e (omega arith)
+  kept n e lt = let h : length (trees ts ms n) ≡ n = length_trees n in get_or-append (trees ts ms n) _ no_type e (omega arith)
 
   -- an entry's type is the same wherever it is looked for
-  among : (n e : ℕ) → e < n → get_or (trees ts ms n) e no-type ≡ type_at ts ms e
+  among : (n e : ℕ) → e < n → get_or (trees ts ms n) e no_type ≡ type_at ts ms e
   among zero e lt = absurd (omega arith)
   among (suc n) e lt = ⊎_elim
       (λ (q : e ≡ n). rw q)
@@ -37,36 +37,36 @@ module _ (ts ms : List ℕ) where
   last_of : (ls : List Tree) (x d : Tree) (n : ℕ) → length ls ≡ n → get_or (ls ++ x ∷ []) n d ≡ x
   last_of ls x d n e = let z : n ≡ length ls + 0 = omega arith in rw z (get_or-append-add ls (x ∷ []) 0 d)
 
-  newest : (e : ℕ) → type_at ts ms e ≡ tree_of (λ m. get_or (trees ts ms e) m no-type) (meaningAt ts ms e)
+  newest : (e : ℕ) → type_at ts ms e ≡ tree_of (λ m. get_or (trees ts ms e) m no_type) (meaning_at ts ms e)
   unfolding trees
-  newest e = last_of (trees ts ms e) _ no-type e (length-trees e)
+  newest e = last_of (trees ts ms e) _ no_type e (length_trees e)
 
   -- what refers to earlier entries looks at their types alone
   module _ (g k : ℕ → Tree) (e : ℕ) (same : (m : ℕ) → m < e → g m ≡ k m) where
-    laid_same : (overlaid : Bool) (end : ℕ) (l : List ℕ) → every (λ m. ltb m e) l ≡ true → laidOut g overlaid end l ≡ laidOut k overlaid end l
-    unfolding laidOut every
+    laid_same : (overlaid : Bool) (end : ℕ) (l : List ℕ) → every (λ m. ltb m e) l ≡ true → laid_out g overlaid end l ≡ laid_out k overlaid end l
+    unfolding laid_out every
     laid_same overlaid end [] h = refl
     laid_same overlaid end (m ∷ l) h =
         let b = both_true (ltb m e) (every (λ m. ltb m e) l) h in
         let s : g m ≡ k m = same m (ltb-true m e b.0) in
-        rw (s, laid_same overlaid (offsetFrom overlaid end (align_of (k m)) + takesOf (k m)) l b.1)
+        rw (s, laid_same overlaid (offset_from overlaid end (align_of (k m)) + takes_of (k m)) l b.1)
 
-    tree-same : (x : Meaning) → refersBack e x ≡ true → tree_of g x ≡ tree_of k x
+    tree_same : (x : Meaning) → refers_back e x ≡ true → tree_of g x ≡ tree_of k x
     unfolding tree_of referred every
-    tree-same (one s) h = refl
-    tree-same (several overlaid l) h = ap group (laid_same overlaid 0 l h)
-    tree-same (repeated m n) h = ap (λ (t : Tree). array t n) (same m (ltb-true m e (both_true (ltb m e) true h).0))
+    tree_same (one s) h = refl
+    tree_same (several overlaid l) h = ap group (laid_same overlaid 0 l h)
+    tree_same (repeated m n) h = ap (λ (t : Tree). array t n) (same m (ltb-true m e (both_true (ltb m e) true h).0))
 
-  pub own-type : (e : ℕ) → refersBack e (meaningAt ts ms e) ≡ true → type_at ts ms e ≡ tree_of (type_at ts ms) (meaningAt ts ms e)
-  own-type e h = newest e ∙ tree-same (λ m. get_or (trees ts ms e) m no-type) (type_at ts ms) e (among e) (meaningAt ts ms e) h
+  pub own_type : (e : ℕ) → refers_back e (meaning_at ts ms e) ≡ true → type_at ts ms e ≡ tree_of (type_at ts ms) (meaning_at ts ms e)
+  own_type e h = newest e ∙ tree_same (λ m. get_or (trees ts ms e) m no_type) (type_at ts ms) e (among e) (meaning_at ts ms e) h
 
   -- of entries that all refer back, each does
-  pub each_back : (n e : ℕ) → allReferBack ts ms e n ≡ true → (i : ℕ) → i < n → refersBack (e + i) (meaningAt ts ms (e + i)) ≡ true
-  unfolding allReferBack
+  pub each_back : (n e : ℕ) → all_refer_back ts ms e n ≡ true → (i : ℕ) → i < n → refers_back (e + i) (meaning_at ts ms (e + i)) ≡ true
+  unfolding all_refer_back
   each_back zero e h i lt = absurd (omega arith)
   each_back (suc n) e h zero lt =
       let z : e + 0 ≡ e = omega arith in
-      rw z (both_true (refersBack e (meaningAt ts ms e)) (allReferBack ts ms (e + 1) n) h).0
+      rw z (both_true (refers_back e (meaning_at ts ms e)) (all_refer_back ts ms (e + 1) n) h).0
   each_back (suc n) e h (suc i) lt =
       let z : e + suc i ≡ e + 1 + i = omega arith in
-      rw z (each_back n (e + 1) (both_true (refersBack e (meaningAt ts ms e)) (allReferBack ts ms (e + 1) n) h).1 i (omega arith))
+      rw z (each_back n (e + 1) (both_true (refers_back e (meaning_at ts ms e)) (all_refer_back ts ms (e + 1) n) h).1 i (omega arith))

@@ -4,53 +4,53 @@ use Rattle.std.specs.Prelude.{ℕ, zero, suc, ◌+◌, ◌*◌, List, [], ◌∷
 use Rattle.shape.specs.declared.Piece.{Piece}
 use Rattle.shape.specs.declared.Scalar.{Scalar}
 use Rattle.shape.specs.Lists.{every}
-use Rattle.shape.specs.Numbers.{most-word}
+use Rattle.shape.specs.Numbers.{most_word}
 use Rattle.shape.specs.Words.{scalar, piece_at}
 use Rattle.types.specs.declared.Entry.{Entry}
 
 -- words of an entry
-abbrev pub entrySize : ℕ
-entrySize = 4
+abbrev pub entry_size : ℕ
+entry_size = 4
 
 -- kinds of entries that aren't scalars; further kinds of scalars have room below
-abbrev pub record-kind : ℕ
-record-kind = 256
+abbrev pub record_kind : ℕ
+record_kind = 256
 
-abbrev pub union-kind : ℕ
-union-kind = 257
+abbrev pub union_kind : ℕ
+union_kind = 257
 
 abbrev pub array_kind : ℕ
 array_kind = 258
 
 -- the most that is accepted of each; of leaves it is the most pieces
-abbrev pub most-entries : ℕ
-most-entries = 1024
+abbrev pub most_entries : ℕ
+most_entries = 1024
 
-abbrev pub most-members : ℕ
-most-members = 4096
+abbrev pub most_members : ℕ
+most_members = 4096
 
-abbrev pub most-elements : ℕ
-most-elements = 1024
+abbrev pub most_elements : ℕ
+most_elements = 1024
 
-abbrev pub most-levels : ℕ
-most-levels = 16
+abbrev pub most_levels : ℕ
+most_levels = 16
 
 -- the number of no entry, which a member past the list's end has: it refers to none
 abbrev pub nowhere : ℕ
-nowhere = most-word
+nowhere = most_word
 
 -- an entry's words stand as a piece's do
-abbrev pub entryFrom : Piece → Entry
-entryFrom p = record { kind = p.kind; second = p.size; third = p.align }
+abbrev pub entry_from : Piece → Entry
+entry_from p = record { kind = p.kind; second = p.size; third = p.align }
 
 -- all zeros where there is no such entry
 abbrev pub entry_at : List ℕ → ℕ → Entry
-entry_at ts e = entryFrom (piece_at ts (entrySize * e))
+entry_at ts e = entry_from (piece_at ts (entry_size * e))
 
 -- so many members from a place on
-unfoldable pub membersFrom : List ℕ → ℕ → ℕ → List ℕ
-membersFrom ms at zero = []
-membersFrom ms at (suc n) = get_or ms at nowhere ∷ membersFrom ms (at + 1) n
+unfoldable pub members_from : List ℕ → ℕ → ℕ → List ℕ
+members_from ms at zero = []
+members_from ms at (suc n) = get_or ms at nowhere ∷ members_from ms (at + 1) n
 
 -- ---- what an entry says
 
@@ -62,16 +62,16 @@ pub data Meaning : Type 0 where
   -- so many of one entry
   repeated : ℕ → ℕ → Meaning
 
-abbrev pub hasMembers : ℕ → Bool
-hasMembers kind = eqb kind record-kind || eqb kind union-kind
+abbrev pub has_members : ℕ → Bool
+has_members kind = eqb kind record_kind || eqb kind union_kind
 
-unfoldable pub meaningOf : List ℕ → Entry → Meaning
-meaningOf ms x =
-    cond (hasMembers x.kind) (several (eqb x.kind union-kind) (membersFrom ms x.second x.third))
+unfoldable pub meaning_of : List ℕ → Entry → Meaning
+meaning_of ms x =
+    cond (has_members x.kind) (several (eqb x.kind union_kind) (members_from ms x.second x.third))
     (cond (eqb x.kind array_kind) (repeated x.second x.third) (one (scalar x.kind x.second x.third)))
 
-abbrev pub meaningAt : List ℕ → List ℕ → ℕ → Meaning
-meaningAt ts ms e = meaningOf ms (entry_at ts e)
+abbrev pub meaning_at : List ℕ → List ℕ → ℕ → Meaning
+meaning_at ts ms e = meaning_of ms (entry_at ts e)
 
 -- the entries that it refers to, whatever the counts
 unfoldable pub referred : Meaning → List ℕ
@@ -80,10 +80,10 @@ referred (several overlaid ms) = ms
 referred (repeated m n) = m ∷ []
 
 -- every entry that entry e refers to is earlier
-abbrev pub refersBack : ℕ → Meaning → Bool
-refersBack e x = every (λ m. ltb m e) (referred x)
+abbrev pub refers_back : ℕ → Meaning → Bool
+refers_back e x = every (λ m. ltb m e) (referred x)
 
 -- so many entries from e on
-unfoldable pub allReferBack : List ℕ → List ℕ → ℕ → ℕ → Bool
-allReferBack ts ms e zero = true
-allReferBack ts ms e (suc n) = refersBack e (meaningAt ts ms e) && allReferBack ts ms (e + 1) n
+unfoldable pub all_refer_back : List ℕ → List ℕ → ℕ → ℕ → Bool
+all_refer_back ts ms e zero = true
+all_refer_back ts ms e (suc n) = refers_back e (meaning_at ts ms e) && all_refer_back ts ms (e + 1) n

@@ -1,12 +1,14 @@
 // Lists of types: entries from words, what is refused of them, and for each entry, from the first, what is asked of its type by the entries behind
 // it: a table of rows. References go back, so that one pass fills it. The rules are those of docs/REFERENCE.md, 4.5.
+#![tactic(auto)]
+
 ghost use Rattle.std.specs.Prelude.{◌≡◌, true, ◌+◌, ◌*◌, ◌≤◌, ◌<◌, min, length, get_or};
-ghost use Rattle.shape.specs.Numbers.{most-word};
+ghost use Rattle.shape.specs.Numbers.{most_word};
 ghost use Rattle.shape.specs.Words.{piece_at};
-ghost use Rattle.checks.specs.Check.{unlessRefused};
-ghost use Rattle.types.specs.Entries.{nowhere, entry_at, membersFrom, hasMembers, meaningOf, allReferBack};
-ghost use Rattle.types.specs.Trees.{entries, sizeRefusal, listsRefusal, referencesRefusal};
-ghost use Rattle.types.specs.Table.{row_at, putRow, placeFrom, membersRow, elementsRow, row_of, entryRefusal, filledRefusal, filled, tableRefusal, measureRefusal, levelOf, levelAbove, Levelled};
+ghost use Rattle.checks.specs.Check.{unless_refused};
+ghost use Rattle.types.specs.Entries.{nowhere, entry_at, members_from, has_members, meaning_of, all_refer_back};
+ghost use Rattle.types.specs.Trees.{entries, size_refusal, lists_refusal, references_refusal};
+ghost use Rattle.types.specs.Table.{row_at, put_row, place_from, members_row, elements_row, row_of, entry_refusal, filled_refusal, filled, table_refusal, measure_refusal, level_of, level_above, Levelled};
 
 use shape::{
     ACCEPTED, BAD_LIST, BAD_SIZE, BAD_TYPE, MOST_WORD, NO_ROOM, PIECE, Piece, Scalar, TOO_DEEP,
@@ -61,7 +63,7 @@ pub struct Row {
 
 // Fills a table with a row for each entry: the refusal, if there is one.
 pub fn measure(types: &[u64], members: &[u64], table: &mut [u64]) -> u64
-    ensures { (result ≡ measureRefusal types.now members.now table.old) × (table.new ≡ unlessRefused (tableRefusal types.now members.now table.old) (filled types.now members.now table.old 0 (entries types.now)) table.old) }
+    ensures { (result ≡ measure_refusal types.now members.now table.old) × (table.new ≡ unless_refused (table_refusal types.now members.now table.old) (filled types.now members.now table.old 0 (entries types.now)) table.old) }
 {
     let lists = check_lists(types, members);
     if lists != ACCEPTED {
@@ -79,7 +81,7 @@ pub fn measure(types: &[u64], members: &[u64], table: &mut [u64]) -> u64
 
 // The refusal of the lists by their lengths.
 fn check_lists(types: &[u64], members: &[u64]) -> u64
-    ensures { result ≡ listsRefusal types.now members.now }
+    ensures { result ≡ lists_refusal types.now members.now }
 {
     let n = types.len();
     if n % ENTRY != 0 {
@@ -100,7 +102,7 @@ fn check_lists(types: &[u64], members: &[u64]) -> u64
 // The refusal of the entries by what they refer to, and of the last one's levels.
 fn check_references(types: &[u64], members: &[u64]) -> u64
     requires { (0 < entries types.now) × (entries types.now ≤ 1024) }
-    ensures { result ≡ referencesRefusal types.now members.now }
+    ensures { result ≡ references_refusal types.now members.now }
 {
     if types.len() / ENTRY > FEW_ENTRIES {
         return check_many(types, members);
@@ -110,7 +112,7 @@ fn check_references(types: &[u64], members: &[u64]) -> u64
 
 fn check_few(types: &[u64], members: &[u64]) -> u64
     requires { (0 < entries types.now) × (entries types.now ≤ 32) }
-    ensures { result ≡ referencesRefusal types.now members.now }
+    ensures { result ≡ references_refusal types.now members.now }
 {
     let mut levels = [0u64; FEW_ENTRIES];
     check_levels(types, members, &mut levels)
@@ -118,7 +120,7 @@ fn check_few(types: &[u64], members: &[u64]) -> u64
 
 fn check_many(types: &[u64], members: &[u64]) -> u64
     requires { (0 < entries types.now) × (entries types.now ≤ 1024) }
-    ensures { result ≡ referencesRefusal types.now members.now }
+    ensures { result ≡ references_refusal types.now members.now }
 {
     let mut levels = [0u64; MOST_ENTRIES];
     check_levels(types, members, &mut levels)
@@ -127,7 +129,7 @@ fn check_many(types: &[u64], members: &[u64]) -> u64
 // The same, where there is a word for the levels of each entry.
 fn check_levels(types: &[u64], members: &[u64], levels: &mut [u64]) -> u64
     requires { (0 < entries types.now) × (entries types.now ≤ length levels.old) }
-    ensures { result ≡ referencesRefusal types.now members.now }
+    ensures { result ≡ references_refusal types.now members.now }
 {
     if !find_levels(types, members, levels) {
         return BAD_TYPE;
@@ -141,7 +143,7 @@ fn check_levels(types: &[u64], members: &[u64], levels: &mut [u64]) -> u64
 // The levels of each entry; whether all entries refer to earlier ones alone.
 fn find_levels(types: &[u64], members: &[u64], levels: &mut [u64]) -> bool
     requires { entries types.now ≤ length levels.old }
-    ensures { (result ≡ allReferBack types.now members.now 0 (entries types.now)) × (result ≡ true → Levelled types.now members.now levels.new (entries types.now)) }
+    ensures { (result ≡ all_refer_back types.now members.now 0 (entries types.now)) × (result ≡ true → Levelled types.now members.now levels.new (entries types.now)) }
 {
     let n = types.len() / ENTRY;
     let mut e = 0;
@@ -158,7 +160,7 @@ fn find_levels(types: &[u64], members: &[u64], levels: &mut [u64]) -> bool
 
 // The levels of an entry, from those of the entries before it: 0 where it refers to one that isn't earlier.
 fn level(x: Entry, members: &[u64], levels: &[u64], e: u64) -> u64
-    ensures { result ≡ levelOf levels.now e (meaningOf members.now x) }
+    ensures { result ≡ level_of levels.now e (meaning_of members.now x) }
 {
     if has_members(x.kind) {
         return level_over(members, levels, x.second, x.third, e);
@@ -174,7 +176,7 @@ fn level(x: Entry, members: &[u64], levels: &[u64], e: u64) -> u64
 
 // One level more than the deepest of some members. A member past the end of the list isn't earlier, so that the loop is never longer than the list.
 fn level_over(members: &[u64], levels: &[u64], first: u64, count: u64, e: u64) -> u64
-    ensures { result ≡ levelAbove levels.now e 0 (membersFrom members.now first count) }
+    ensures { result ≡ level_above levels.now e 0 (members_from members.now first count) }
 {
     let mut best = 0;
     let mut i = 0;
@@ -191,7 +193,7 @@ fn level_over(members: &[u64], levels: &[u64], first: u64, count: u64, e: u64) -
 
 // A row for each entry, up to the first that is refused: its refusal.
 fn fill(types: &[u64], members: &[u64], table: &mut [u64]) -> u64
-    ensures { (result ≡ filledRefusal types.now members.now table.old 0 (entries types.now)) × (table.new ≡ filled types.now members.now table.old 0 (entries types.now)) }
+    ensures { (result ≡ filled_refusal types.now members.now table.old 0 (entries types.now)) × (table.new ≡ filled types.now members.now table.old 0 (entries types.now)) }
 {
     let n = types.len() / ENTRY;
     let mut e = 0;
@@ -210,7 +212,7 @@ fn fill(types: &[u64], members: &[u64], table: &mut [u64]) -> u64
 
 // An entry's row, from the rows of the entries that it refers to.
 fn row_of(x: Entry, members: &[u64], table: &[u64]) -> Row
-    ensures { result ≡ row_of table.now (meaningOf members.now x) }
+    ensures { result ≡ row_of table.now (meaning_of members.now x) }
 {
     if has_members(x.kind) {
         return row_over(members, table, x.kind == UNION, x.second, x.third);
@@ -228,7 +230,7 @@ fn row_of(x: Entry, members: &[u64], table: &[u64]) -> Row
 
 // The row of so many members, overlaid or each behind the one before.
 fn row_over(members: &[u64], table: &[u64], overlaid: bool, first: u64, count: u64) -> Row
-    ensures { result ≡ membersRow table.now overlaid 0 0 1 0 (membersFrom members.now first count) }
+    ensures { result ≡ members_row table.now overlaid 0 0 1 0 (members_from members.now first count) }
 {
     let mut end = 0;
     let mut far = 0;
@@ -255,7 +257,7 @@ fn row_over(members: &[u64], table: &[u64], overlaid: bool, first: u64, count: u
 
 // The row of so many elements with this row.
 fn row_times(r: Row, count: u64) -> Row
-    ensures { result ≡ elementsRow r count }
+    ensures { result ≡ elements_row r count }
 {
     let size = product(count, round_up(r.reach, r.align));
     Row {
@@ -268,7 +270,7 @@ fn row_times(r: Row, count: u64) -> Row
 
 // The refusal of an entry: a scalar's own, an array's count, the size of what isn't a scalar.
 fn check_entry(x: Entry, r: Row) -> u64
-    ensures { result ≡ entryRefusal x r }
+    ensures { result ≡ entry_refusal x r }
 {
     if has_members(x.kind) {
         return check_size(r.reach);
@@ -287,7 +289,7 @@ fn check_entry(x: Entry, r: Row) -> u64
 }
 
 fn check_size(size: u64) -> u64
-    ensures { result ≡ sizeRefusal size }
+    ensures { result ≡ size_refusal size }
 {
     if size > checks::MOST_OFFSET {
         return BAD_SIZE;
@@ -297,7 +299,7 @@ fn check_size(size: u64) -> u64
 
 // Where a member stands, behind what ends there.
 pub fn place(overlaid: bool, end: u64, align: u64) -> u64
-    ensures { result ≡ placeFrom overlaid end align }
+    ensures { result ≡ place_from overlaid end align }
 {
     if overlaid {
         return 0;
@@ -314,7 +316,7 @@ fn counted(n: u64) -> u64
 
 // Whether an entry of this kind is a record or a union.
 pub fn has_members(kind: u64) -> bool
-    ensures { result ≡ hasMembers kind }
+    ensures { result ≡ has_members kind }
 {
     (kind == RECORD) | (kind == UNION)
 }
@@ -345,8 +347,8 @@ pub fn row_at(table: &[u64], e: u64) -> Row
 }
 
 fn put_row(table: &mut [u64], e: usize, r: Row)
-    requires { 4 * e ≤ most-word }
-    ensures { table.new ≡ putRow table.old e r }
+    requires { 4 * e ≤ most_word }
+    ensures { table.new ≡ put_row table.old e r }
 {
     shape::put_piece(
         table,

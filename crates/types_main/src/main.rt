@@ -1,6 +1,8 @@
 // Reads a sheet of types from standard input and prints a line for each case: `refused` and the refusal, or the type's size, its alignment and its
 // pieces. A case is three lengths in words, of its types, of its members and of a buffer for the pieces, then the words of the types, then
 // those of the members. The oracle's answers to the same types are compared with these.
+#![tactic(auto)]
+
 use flatten::Flattened;
 use libc::{STDIN_FILENO, STDOUT_FILENO};
 use shape::{PIECE, Piece, most};

@@ -5,13 +5,13 @@ use Rattle.shape.proofs.OneAnswer.{OneAnswer, OneShown}
 use Rattle.varargs.specs.Lists.{shown}
 use Rattle.varargs.proofs.Promised.{Reads}
 use Rattle.varargs.proofs.find.Reads as find
-use Rattle.varargs.proofs.area_number.Reads as area-number
+use Rattle.varargs.proofs.area_number.Reads as area_number
 
-read-decides : (κs : Lfts 1) → OneShown (Reads κs) shown
-read-decides κs a r q s t p p' = p ∙ sym p'
+read_decides : (κs : Lfts 1) → OneShown (Reads κs) shown
+read_decides κs a r q s t p p' = p ∙ sym p'
 
-find-decides : (κs : Lfts 1) → OneAnswer (find.Post κs)
-find-decides κs a r q s t p p' = p ∙ sym p'
+find_decides : (κs : Lfts 1) → OneAnswer (find.Post κs)
+find_decides κs a r q s t p p' = p ∙ sym p'
 
-area-number-decides : (κs : Lfts 0) → OneAnswer (area-number.Post κs)
-area-number-decides κs a r q s t p p' = p ∙ sym p'
+area_number_decides : (κs : Lfts 0) → OneAnswer (area_number.Post κs)
+area_number_decides κs a r q s t p p' = p ∙ sym p'

@@ -1,8 +1,10 @@
 // The callee's side of a variable argument list on description 0, the psABI's: where the bytes of the next scalar stand, in the register save
 // area or in the overflow area, and the offsets after it. The rules are those of docs/REFERENCE.md, 15.
+#![tactic(auto)]
+
 ghost use Rattle.std.specs.Prelude.{◌≡◌, ◌+◌, ◌≤◌, ◌<◌, length, take, drop};
-ghost use Rattle.shape.specs.Arithmetic.{roundUp};
-ghost use Rattle.varargs.specs.Lists.{areaNumber, isOwnSize, unnamedRefusal, isSaveArea, overflowStart, locatedNowhere, inOverflow, inIntegers, inFloats, located, part_of, Inside, shown, readsAs};
+ghost use Rattle.shape.specs.Arithmetic.{round_up};
+ghost use Rattle.varargs.specs.Lists.{area_number, is_own_size, unnamed_refusal, is_save_area, overflow_start, located_nowhere, in_overflow, in_integers, in_floats, located, part_of, Inside, shown, reads_as};
 
 use shape::{
     ACCEPTED, BAD_ALIGN, BAD_AREA, BAD_KIND, BAD_SIZE, DOUBLE, INTEGER, QUAD, SINGLE, Scalar,
@@ -57,7 +59,7 @@ pub struct Reading<'a> {
 
 // The next scalar of a list: a part of whichever of the two areas holds it. The overflow area starts at an address that is a multiple of 16.
 pub fn read<'a>(save: &'a [u8], overflow: &'a [u8], at: Offsets, s: Scalar) -> Reading<'a>
-    ensures { shown result ≡ readsAs save.now overflow.now at s }
+    ensures { shown result ≡ reads_as save.now overflow.now at s }
 {
     let found = find(save, overflow, at, s);
     let bytes = part(save, overflow, found);
@@ -114,7 +116,7 @@ pub fn find<'a>(save: &'a [u8], overflow: &'a [u8], at: Offsets, s: Scalar) -> L
 
 // The number of an area.
 pub fn area_number(area: Area) -> u64
-    ensures { result ≡ areaNumber area }
+    ensures { result ≡ area_number area }
 {
     match area {
         Area::Nowhere => 0,
@@ -126,7 +128,7 @@ pub fn area_number(area: Area) -> u64
 // ---- what is refused
 
 fn located_nowhere(refusal: u64, at: Offsets) -> Located
-    ensures { result ≡ locatedNowhere refusal at }
+    ensures { result ≡ located_nowhere refusal at }
 {
     Located {
         refusal,
@@ -139,7 +141,7 @@ fn located_nowhere(refusal: u64, at: Offsets) -> Located
 
 // A list's scalars are of their own sizes and aligned to them, so that the limits of other scalars are kept.
 fn check_unnamed(s: Scalar) -> u64
-    ensures { result ≡ unnamedRefusal s }
+    ensures { result ≡ unnamed_refusal s }
 {
     if s.kind > QUAD {
         return BAD_KIND;
@@ -154,7 +156,7 @@ fn check_unnamed(s: Scalar) -> u64
 }
 
 fn is_own_size(kind: u64, size: u64) -> bool
-    ensures { result ≡ isOwnSize kind size }
+    ensures { result ≡ is_own_size kind size }
 {
     if kind == INTEGER {
         return (size == 1) | (size == 2) | (size == 4) | (size == 8) | (size == 16);
@@ -169,7 +171,7 @@ fn is_own_size(kind: u64, size: u64) -> bool
 }
 
 fn is_save_area(length: u64, at: Offsets) -> bool
-    ensures { result ≡ isSaveArea length at }
+    ensures { result ≡ is_save_area length at }
 {
     (length == SAVE_BYTES)
         & ((at.integer <= INTEGER_END) & (at.integer % INTEGER_PLACE == 0))
@@ -180,7 +182,7 @@ fn is_save_area(length: u64, at: Offsets) -> bool
 
 fn in_integers(overflow: &[u8], at: Offsets, s: Scalar) -> Located
     requires { (1 ≤ s.size) × (s.size ≤ 16) }
-    ensures { result ≡ inIntegers (length overflow.now) at s }
+    ensures { result ≡ in_integers (length overflow.now) at s }
 {
     let bytes = rounded(s.size);
     if at.integer <= INTEGER_END - bytes {
@@ -201,7 +203,7 @@ fn in_integers(overflow: &[u8], at: Offsets, s: Scalar) -> Located
 
 fn in_floats(overflow: &[u8], at: Offsets, s: Scalar) -> Located
     requires { (1 ≤ s.size) × (s.size ≤ 16) }
-    ensures { result ≡ inFloats (length overflow.now) at s }
+    ensures { result ≡ in_floats (length overflow.now) at s }
 {
     if at.float <= FLOAT_END - FLOAT_PLACE {
         return Located {
@@ -221,7 +223,7 @@ fn in_floats(overflow: &[u8], at: Offsets, s: Scalar) -> Located
 
 fn in_overflow(overflow: &[u8], at: Offsets, s: Scalar) -> Located
     requires { (1 ≤ s.size) × (s.size ≤ 16) }
-    ensures { result ≡ inOverflow (length overflow.now) at s }
+    ensures { result ≡ in_overflow (length overflow.now) at s }
 {
     let length = overflow.len() as u64;
     // an offset past the end goes no further: no number wraps
@@ -248,7 +250,7 @@ fn in_overflow(overflow: &[u8], at: Offsets, s: Scalar) -> Located
 // Where an alignment may start, from an overflow offset on.
 fn overflow_start(overflow: u64, align: u64) -> u64
     requires { overflow < 9223372036854775808 }
-    ensures { result ≡ overflowStart overflow align }
+    ensures { result ≡ overflow_start overflow align }
 {
     if align > 8 {
         return (overflow + 15) / 16 * 16;
@@ -259,7 +261,7 @@ fn overflow_start(overflow: u64, align: u64) -> u64
 // The bytes that a size takes, in places of 8.
 fn rounded(size: u64) -> u64
     requires { size ≤ 16 }
-    ensures { result ≡ roundUp size 8 }
+    ensures { result ≡ round_up size 8 }
 {
     (size + 7) / 8 * 8
 }

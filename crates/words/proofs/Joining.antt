@@ -4,25 +4,25 @@ use mathlib.Core.Path.{◌≡◌}
 use mathlib.Core.List.{List}
 use borrow.Author.Tests.{le-leb, lt-leb}
 use lib.ListN.{length, get_or}
-use Rattle.words.specs.Packed.{word_size, quarterAt, halfAt, joinedAt, word_at}
+use Rattle.words.specs.Packed.{word_size, quarter_at, half_at, joined_at, word_at}
 
 module _ (bs : List ℕ) (at a b : ℕ) where
-  pub quarter-made : a ≡ get_or bs at 0 → b ≡ get_or bs (at + 1) 0 → a + b * 256 ≡ quarterAt bs at
-  unfolding quarterAt
-  quarter-made x y = rw (x, y)
+  pub quarter_made : a ≡ get_or bs at 0 → b ≡ get_or bs (at + 1) 0 → a + b * 256 ≡ quarter_at bs at
+  unfolding quarter_at
+  quarter_made x y = rw (x, y)
 
-  pub half-made : a ≡ quarterAt bs at → b ≡ quarterAt bs (at + 2) → a + b * 65536 ≡ halfAt bs at
-  unfolding halfAt
-  half-made x y = rw (x, y)
+  pub half_made : a ≡ quarter_at bs at → b ≡ quarter_at bs (at + 2) → a + b * 65536 ≡ half_at bs at
+  unfolding half_at
+  half_made x y = rw (x, y)
 
-  pub word_made : a ≡ halfAt bs at → b ≡ halfAt bs (at + 4) → a + b * 4294967296 ≡ joinedAt bs at
-  unfolding joinedAt
+  pub word_made : a ≡ half_at bs at → b ≡ half_at bs (at + 4) → a + b * 4294967296 ≡ joined_at bs at
+  unfolding joined_at
   word_made x y = rw (x, y)
 
 module _ (bs : List ℕ) (at : ℕ) where
-  pub word-there : at + word_size ≤ length bs → joinedAt bs at ≡ word_at bs at
+  pub word_there : at + word_size ≤ length bs → joined_at bs at ≡ word_at bs at
   unfolding word_at
-  word-there h = rw (le-leb _ _ h)
+  word_there h = rw (le-leb _ _ h)
 
   pub no_word : length bs < at + word_size → 0 ≡ word_at bs at
   unfolding word_at

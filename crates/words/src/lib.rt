@@ -1,6 +1,8 @@
 // Words of 64 bits from bytes, the lowest byte first, as a sheet has them (docs/REFERENCE.md, 11).
+#![tactic(auto)]
+
 ghost use Rattle.std.specs.Prelude.{◌≡◌, ◌+◌, ◌≤◌, ◌<◌, length};
-ghost use Rattle.words.specs.Packed.{word_size, quarterAt, halfAt, joinedAt, word_at, unpacked};
+ghost use Rattle.words.specs.Packed.{word_size, quarter_at, half_at, joined_at, word_at, unpacked};
 
 // Bytes of a word.
 pub const WORD: usize = 8;
@@ -38,21 +40,21 @@ pub fn word_at(bytes: &[u8], at: usize) -> u64
 // Eight bytes from a place on.
 fn joined(bytes: &[u8], at: usize) -> u64
     requires { at + word_size ≤ length bytes.now }
-    ensures { result ≡ joinedAt bytes.now at }
+    ensures { result ≡ joined_at bytes.now at }
 {
     half(bytes, at) + half(bytes, at + 4) * 4294967296
 }
 
 fn half(bytes: &[u8], at: usize) -> u64
     requires { at + 4 ≤ length bytes.now }
-    ensures { (result ≡ halfAt bytes.now at) × (result < 4294967296) }
+    ensures { (result ≡ half_at bytes.now at) × (result < 4294967296) }
 {
     quarter(bytes, at) + quarter(bytes, at + 2) * 65536
 }
 
 fn quarter(bytes: &[u8], at: usize) -> u64
     requires { at + 2 ≤ length bytes.now }
-    ensures { (result ≡ quarterAt bytes.now at) × (result < 65536) }
+    ensures { (result ≡ quarter_at bytes.now at) × (result < 65536) }
 {
     shape::wide(bytes[at]) + shape::wide(bytes[at + 1]) * 256
 }

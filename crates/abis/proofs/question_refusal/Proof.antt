@@ -1,12 +1,12 @@
 -- `question_refusal` tests the number, then the size.
 use borrow.Author.Tests.{le-leb, lt-leb, lt-ltb, le-ltb}
-use Rattle.abis.specs.Answers.{questionRefusal}
+use Rattle.abis.specs.Answers.{question_refusal}
 use Rattle.abis.proofs.question_refusal.Statement.{statement}
 use Rattle.abis.proofs.question_refusal.Tie as tie
 
-pub question-refusal-spec : {M : Type 1} → statement M
-unfolding questionRefusal
-question-refusal-spec =
+pub question_refusal_spec : {M : Type 1} → statement M
+unfolding question_refusal
+question_refusal_spec =
     tie.close
     (tie.spec
     (λ c. rw (le-leb _ _ c.if1.true))

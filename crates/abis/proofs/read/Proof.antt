@@ -1,8 +1,8 @@
 -- `read` gives each number what is read of its row: antt computes the code of each description, which is the row at that place of the table.
 use borrow.Author.Rules.{rules}
 use Rattle.shape.proofs.Cases.{none_below}
-use Rattle.abis.specs.Abis.{described, descriptions, description-count}
-use Rattle.abis.proofs.Rows.{here, past-last, read_here}
+use Rattle.abis.specs.Abis.{described, descriptions, description_count}
+use Rattle.abis.proofs.Rows.{here, past_last, read_here}
 use Rattle.abis.proofs.read.Statement.{statement}
 use Rattle.abis.proofs.read.Tie as tie
 
@@ -111,4 +111,4 @@ read_spec =
     (λ c. read_here c.before.before.before.args.d (here 30 c.before.before.match.keys31) c.read-of31.ensures)
     (λ c. read_here c.before.before.before.args.d (here 31 c.before.before.match.keys32) c.read-of32.ensures)
     (λ c. read_here c.before.before.before.args.d (here 32 c.before.before.match.keys33) c.read-of33.ensures)
-    (λ c. read_here c.before.before.args.d (past-last _ (none_below description-count c.before.before.args.d c.before.match.rest)) c.read-of34.ensures))
+    (λ c. read_here c.before.before.args.d (past_last _ (none_below description_count c.before.before.args.d c.before.match.rest)) c.read-of34.ensures))

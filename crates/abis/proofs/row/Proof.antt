@@ -3,16 +3,16 @@ use mathlib.Core.Path.{refl}
 use borrow.Author.Rules.{rules}
 use Rattle.rows.specs.Row.{encode}
 use Rattle.abis.specs.Abis.{described, descriptions}
-use Rattle.abis.proofs.Rows.{indexed, past-last}
+use Rattle.abis.proofs.Rows.{indexed, past_last}
 use Rattle.abis.proofs.row.Statement.{statement}
 use Rattle.abis.proofs.row.Tie as tie
 
-pub row-spec : {M : Type 1} → statement M
+pub row_spec : {M : Type 1} → statement M
 unfolding described descriptions
-row-spec =
+row_spec =
     tie.close
     (tie.spec
     (λ c. search rules)
     (λ c. search rules)
     (λ c. indexed encode _ _ refl c.before.before.args.d (search rules))
-    (λ c. past-last c.before.args.d (search rules)))
+    (λ c. past_last c.before.args.d (search rules)))

@@ -2,19 +2,19 @@
 use mathlib.Core.Path.{◌∙◌, ap}
 use borrow.Author.Rules.{rules}
 use Rattle.describe.specs.declared.Scalars.{Scalars}
-use Rattle.describe.specs.Questions.{returnsByReference}
-use Rattle.abis.specs.Answers.{returnsByReferenceAnswer}
+use Rattle.describe.specs.Questions.{returns_by_reference}
+use Rattle.abis.specs.Answers.{returns_by_reference_answer}
 use Rattle.abis.proofs.Questions.{answered, refused}
 use Rattle.abis.proofs.scalar_returns_by_reference.Statement.{statement}
 use Rattle.abis.proofs.scalar_returns_by_reference.Tie as tie
 
-pub scalar-returns-by-reference-spec : {M : Type 1} → statement M
-unfolding returnsByReferenceAnswer
-scalar-returns-by-reference-spec =
+pub scalar_returns_by_reference_spec : {M : Type 1} → statement M
+unfolding returns_by_reference_answer
+scalar_returns_by_reference_spec =
     tie.close
     (tie.spec
     (λ c κs. search rules)
     (λ c κs. search rules)
     (λ c κs. search rules)
-    (λ c. answered _ _ c.before.before.before.question-refusal.ensures _ _ c.before.before.if1.true (c.scalar-returns-by-reference.ensures ∙ ap (λ (s : Scalars). returnsByReference s c.before.before.before.before.args.size) c.before.scalars.ensures))
+    (λ c. answered _ _ c.before.before.before.question-refusal.ensures _ _ c.before.before.if1.true (c.scalar_returns_by_reference.ensures ∙ ap (λ (s : Scalars). returns_by_reference s c.before.before.before.before.args.size) c.before.scalars.ensures))
     (λ c. refused _ _ c.before.question-refusal.ensures _ c.if1.false))

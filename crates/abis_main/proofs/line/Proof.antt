@@ -12,8 +12,8 @@ invariant-loop out₀ from numbers at₀ i₀ t6 i-end out at i = (length out �
 abbrev decreases-loop : tie.decreases-loop
 decreases-loop out₀ from numbers at₀ i₀ t6 i-end out at i = length numbers - i
 
-pub line-spec : {M : Type 1} → statement M
-line-spec =
+pub line_spec : {M : Type 1} → statement M
+line_spec =
     tie.close
     (tie.spec
     invariant-loop

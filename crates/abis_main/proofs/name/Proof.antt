@@ -5,8 +5,8 @@ use borrow.Author.Rules.{rules}
 use Rattle.abis_main.proofs.name.Statement.{statement}
 use Rattle.abis_main.proofs.name.Tie as tie
 
-pub name-spec : {M : Type 1} → statement M
-name-spec =
+pub name_spec : {M : Type 1} → statement M
+name_spec =
     tie.close
     (tie.spec
     (λ c. search rules)

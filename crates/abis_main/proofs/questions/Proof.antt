@@ -12,8 +12,8 @@ invariant-loop out₀ from d at₀ size₀ out at size = (length out ≡ length 
 abbrev decreases-loop : tie.decreases-loop
 decreases-loop out₀ from d at₀ size₀ out at size = 65 - size
 
-pub questions-spec : {M : Type 1} → statement M
-questions-spec =
+pub questions_spec : {M : Type 1} → statement M
+questions_spec =
     tie.close
     (tie.spec
     invariant-loop

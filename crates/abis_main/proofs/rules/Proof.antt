@@ -12,8 +12,8 @@ invariant-loop out₀ from d returning row at₀ i₀ out at i = (length out ≡
 abbrev decreases-loop : tie.decreases-loop
 decreases-loop out₀ from d returning row at₀ i₀ out at i = 4 - i
 
-pub rules-spec : {M : Type 1} → statement M
-rules-spec =
+pub rules_spec : {M : Type 1} → statement M
+rules_spec =
     tie.close
     (tie.spec
     invariant-loop

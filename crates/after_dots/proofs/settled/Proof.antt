@@ -4,8 +4,8 @@ use Rattle.after_dots.proofs.AfterDots.{settles}
 use Rattle.after_dots.proofs.settled.Statement.{statement}
 use Rattle.after_dots.proofs.settled.Tie as tie
 
-pub settled-spec : {M : Type 1} → statement M
-settled-spec =
+pub settled_spec : {M : Type 1} → statement M
+settled_spec =
     tie.close
     (tie.spec
     (λ c κs. search rules)

@@ -3,8 +3,8 @@ use borrow.Author.Rules.{rules}
 use Rattle.bridge.proofs.argument_of.Statement.{statement}
 use Rattle.bridge.proofs.argument_of.Tie as tie
 
-pub argument-of-spec : {M : Type 1} → statement M
-argument-of-spec =
+pub argument_of_spec : {M : Type 1} → statement M
+argument_of_spec =
     tie.close
     (tie.spec
     (λ c κs. search rules)

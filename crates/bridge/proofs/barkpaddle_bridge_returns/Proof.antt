@@ -2,20 +2,20 @@
 use contract.Running.{tables, tables_of}
 use denote.Triple.Spec.{triple_of}
 use denote.Triple.Table.{entered, cited}
-use Rattle.classify.specs.Answers.{returnsAnswer, returnsWritten}
+use Rattle.classify.specs.Answers.{returns_answer, returns_written}
 use Rattle.bridge.proofs.Asking as Asking
-use Rattle.bridge.proofs.returns_of.Symbol as value-def
+use Rattle.bridge.proofs.returns_of.Symbol as value_def
 use Rattle.bridge.proofs.returns_of.Symbol.{name as #value}
-use Rattle.bridge.proofs.returns_of.Met as value-thm
+use Rattle.bridge.proofs.returns_of.Met as value_thm
 use Rattle.bridge.specs.contracts.barkpaddle_bridge_returns.Key.{name as #thin}
 use Rattle.bridge.specs.contracts.barkpaddle_bridge_returns as thin
 use Rattle.bridge.proofs.barkpaddle_bridge_returns.Statement as stated
 use Rattle.bridge.proofs.barkpaddle_bridge_returns.Code as code
 
-pub barkpaddle-bridge-returns-spec : {M : Type 1} → stated.statement M
+pub barkpaddle_bridge_returns_spec : {M : Type 1} → stated.statement M
 unfolding code.routine tables_of
-barkpaddle-bridge-returns-spec 𝓤 𝓛 𝓜 𝓡 =
+barkpaddle_bridge_returns_spec 𝓤 𝓛 𝓜 𝓡 =
     entered 𝓤 𝓛.H (triple_of 𝓛 thin.signature (thin.spec 𝓛 𝓜.mem 𝓡.run))
     (tables 𝓤 𝓛.H 𝓜 𝓡 code.env).C (tables 𝓤 𝓛.H 𝓜 𝓡 code.env).Λ #thin code.function (code.unfolded 𝓤 𝓛.H 𝓜 𝓡)
-    (Asking.meets returnsAnswer returnsWritten 𝓛 #value (tables_of 𝓤 𝓛.H 𝓜 (tables 𝓤 𝓛.H 𝓜 𝓡 code.env))
-    (cited 𝓤 𝓛.H (Asking.Value returnsAnswer returnsWritten 𝓛) 𝓜 𝓡 code.env #value value-def.routine code.calls-bridge::returns-of (value-thm.met 𝓤 𝓛 𝓜 𝓡)))
+    (Asking.meets returns_answer returns_written 𝓛 #value (tables_of 𝓤 𝓛.H 𝓜 (tables 𝓤 𝓛.H 𝓜 𝓡 code.env))
+    (cited 𝓤 𝓛.H (Asking.Value returns_answer returns_written 𝓛) 𝓜 𝓡 code.env #value value_def.routine code.calls-bridge::returns-of (value_thm.met 𝓤 𝓛 𝓜 𝓡)))

@@ -32,15 +32,15 @@ use denote.Triple.Walked.{says, Stays, stay_ref, walk_of, Goes-ref, ends_at, wal
 use denote.Signature.{plain}
 use Rattle.classify.specs.declared.Call.{Call}
 use Rattle.classify.specs.declared.Answer.{Answer}
-use Rattle.classify.specs.Answers.{variadicAnswer}
+use Rattle.classify.specs.Answers.{variadic_answer}
 use Rattle.classify.specs.contracts.Call as T
 use Rattle.classify.proofs.Call.TheLaws as T'
 use Rattle.classify.specs.contracts.Outcome as O
-use Rattle.bridge.proofs.Steps.{mach, outcome-value, gone, copied, answered, handed}
+use Rattle.bridge.proofs.Steps.{mach, outcome_value, gone, copied, answered, handed}
 use Rattle.bridge.specs.contracts.variadic_of as value
-use Rattle.bridge.proofs.variadic_of.Symbol as value-def
+use Rattle.bridge.proofs.variadic_of.Symbol as value_def
 use Rattle.bridge.proofs.variadic_of.Symbol.{name as #value}
-use Rattle.bridge.proofs.variadic_of.Met as value-thm
+use Rattle.bridge.proofs.variadic_of.Met as value_thm
 use Rattle.bridge.specs.contracts.barkpaddle_bridge_variadic.Key.{name as #thin}
 use Rattle.bridge.specs.contracts.barkpaddle_bridge_variadic as thin
 use Rattle.bridge.proofs.barkpaddle_bridge_variadic.Statement as stated
@@ -77,13 +77,13 @@ module _ {M : Type 1} {𝓤 : Ura M} (𝓛 : Logic 𝓤) (at_mem : Memory → SP
     abbrev Ensured : Answer → SProp 𝓤
     Ensured = ensured 𝓛 value.ended (value.clauses 𝓛 at_mem run) tt (h, tt) tt
 
-    exits : (r : Answer) → Is O.the_row r.outcome (outcome-value r.outcome ∷ [])
-        → ent 𝓤 (⋆ 𝓛 (‵ (fobs γ ((T.the_row).coded.code r.next)) ∷ ‵ (fbor κ (Body (mem T.the_row) b o γ)) ∷ ‵ (flft κ q) ∷ ‵ ftrue ∷ raw (Ensured r) ∷ [])) (Post (outcome-value r.outcome))
+    exits : (r : Answer) → Is O.the_row r.outcome (outcome_value r.outcome ∷ [])
+        → ent 𝓤 (⋆ 𝓛 (‵ (fobs γ ((T.the_row).coded.code r.next)) ∷ ‵ (fbor κ (Body (mem T.the_row) b o γ)) ∷ ‵ (flft κ q) ∷ ‵ ftrue ∷ raw (Ensured r) ∷ [])) (Post (outcome_value r.outcome))
     exits r is =
         qed 𝓛 (‵ (fobs γ ((T.the_row).coded.code r.next)) ∷ ‵ (fbor κ (Body (mem T.the_row) b o γ)) ∷ ‵ (flft κ q) ∷ ‵ ftrue ∷ raw (Ensured r) ∷ []) ∵ move ! (4 ∷ []) $
-        use1 𝓛 (some (λ (zs : Lasts value.ended tt (h, tt)). ‵ (lasts value.ended tt (h, tt) zs) ⊛ raw (fact 𝓤 (r ≡ variadicAnswer h)))) (id⊢ 𝓤 _) $
-        pick ! (λ zs. split ! $ drop ! $ heard ! (r ≡ variadicAnswer h) (λ e.
-        suffices ! _ (ends_at 𝓛 thin.ended stayed (thin.clauses 𝓛 at_mem run) bound (outcome-value r.outcome) r.outcome (r.next, tt) (tt, tt)) $
+        use1 𝓛 (some (λ (zs : Lasts value.ended tt (h, tt)). ‵ (lasts value.ended tt (h, tt) zs) ⊛ raw (fact 𝓤 (r ≡ variadic_answer h)))) (id⊢ 𝓤 _) $
+        pick ! (λ zs. split ! $ drop ! $ heard ! (r ≡ variadic_answer h) (λ e.
+        suffices ! _ (ends_at 𝓛 thin.ended stayed (thin.clauses 𝓛 at_mem run) bound (outcome_value r.outcome) r.outcome (r.next, tt) (tt, tt)) $
         says ! (ap (λ (x : Answer). x.outcome) e, ap (λ (x : Answer). x.next) e) $ move ! (2 ∷ 3 ∷ []) $ join ! $ frame ! $ nothing ! $ handed ! b o r.outcome is $ done !))
 
     module _ (C : Calls 𝓤 H) (Λ : Loops 𝓤 H) (fm : FmC 𝓤 H 𝓛.laws C) (known : Triple 𝓤 (C #value) (Value 𝓛 at_mem run)) where
@@ -105,10 +105,10 @@ module _ {M : Type 1} {𝓤 : Ura M} (𝓛 : Logic 𝓤) (at_mem : Memory → SP
       (walked 𝓛 thin.ended stayed (thin.clauses 𝓛 at_mem run) (WpFn 𝓤 H 𝓣.C 𝓣.Λ code.function) (λ κs. (mut_vals, tt)) (λ κs. (mut_Tells (named 0) κs.0 T.the_row, tt))
       (λ κs qs bounds a g are. via 𝓤 _ (fst∗ 𝓤 _ (emp 𝓤)) (walk κs.0 qs.0 a.0.ref_ptr.0 a.0.ref_ptr.1 a.0.ghost_name a.0.now 𝓣.C 𝓣.Λ (fm_of 𝓤 H 𝓛.laws 𝓣) known)))
 
-pub barkpaddle-bridge-variadic-spec : {M : Type 1} → stated.statement M
+pub barkpaddle_bridge_variadic_spec : {M : Type 1} → stated.statement M
 unfolding code.routine tables_of
-barkpaddle-bridge-variadic-spec 𝓤 𝓛 𝓜 𝓡 =
+barkpaddle_bridge_variadic_spec 𝓤 𝓛 𝓜 𝓡 =
     entered 𝓤 𝓛.H (triple_of 𝓛 thin.signature (thin.spec 𝓛 𝓜.mem 𝓡.run))
     (tables 𝓤 𝓛.H 𝓜 𝓡 code.env).C (tables 𝓤 𝓛.H 𝓜 𝓡 code.env).Λ #thin code.function (code.unfolded 𝓤 𝓛.H 𝓜 𝓡)
     (meets 𝓛 𝓜.mem 𝓡.run (tables_of 𝓤 𝓛.H 𝓜 (tables 𝓤 𝓛.H 𝓜 𝓡 code.env))
-    (cited 𝓤 𝓛.H (Value 𝓛 𝓜.mem 𝓡.run) 𝓜 𝓡 code.env #value value-def.routine code.calls-bridge::variadic-of (value-thm.met 𝓤 𝓛 𝓜 𝓡)))
+    (cited 𝓤 𝓛.H (Value 𝓛 𝓜.mem 𝓡.run) 𝓜 𝓡 code.env #value value_def.routine code.calls-bridge::variadic-of (value_thm.met 𝓤 𝓛 𝓜 𝓡)))

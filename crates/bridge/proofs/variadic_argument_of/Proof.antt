@@ -3,8 +3,8 @@ use borrow.Author.Rules.{rules}
 use Rattle.bridge.proofs.variadic_argument_of.Statement.{statement}
 use Rattle.bridge.proofs.variadic_argument_of.Tie as tie
 
-pub variadic-argument-of-spec : {M : Type 1} → statement M
-variadic-argument-of-spec =
+pub variadic_argument_of_spec : {M : Type 1} → statement M
+variadic_argument_of_spec =
     tie.close
     (tie.spec
     (λ c κs. search rules)

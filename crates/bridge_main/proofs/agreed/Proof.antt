@@ -12,8 +12,8 @@ invariant-loop tally₀ turn₀ done₀ tally turn done = length tally ≡ lengt
 abbrev decreases-loop : tie.decreases-loop
 decreases-loop tally₀ turn₀ done₀ tally turn done = 60000 - done
 
-pub agreed-spec : {M : Type 1} → statement M
-agreed-spec =
+pub agreed_spec : {M : Type 1} → statement M
+agreed_spec =
     tie.close
     (tie.spec
     invariant-loop

@@ -5,8 +5,8 @@ use native.Mathlib.Omega.{arith}
 use Rattle.bridge_main.proofs.among.Statement.{statement}
 use Rattle.bridge_main.proofs.among.Tie as tie
 
-pub among-spec : {M : Type 1} → statement M
-among-spec =
+pub among_spec : {M : Type 1} → statement M
+among_spec =
     tie.close
     (tie.spec
     (λ c. (omega arith, sym (length-take-le _ _ (omega arith))))

@@ -28,7 +28,7 @@ use denote.Triple.Table.{entered, cited}
 use denote.Triple.Walked.{says, Stays, stay_none, walk_of, Goes-none, ends_at, walked, walk_Meets}
 use denote.Exit.{yes}
 use Rattle.classify.specs.declared.Call.{Call}
-use Rattle.classify.specs.Answers.{variadicAnswer}
+use Rattle.classify.specs.Answers.{variadic_answer}
 use Rattle.classify.specs.declared.Outcome.{Outcome}
 use Rattle.classify.specs.contracts.Call as T
 use Rattle.classify.proofs.Call.TheLaws as T'
@@ -36,10 +36,10 @@ use Rattle.classify.specs.contracts.Answer as N
 use Rattle.classify.proofs.Answer.TheLaws as N'
 use Rattle.bridge.proofs.Steps.{mach, gone}
 use Rattle.bridge.specs.contracts.barkpaddle_bridge_variadic as thin
-use Rattle.bridge.proofs.barkpaddle_bridge_variadic.Symbol as thin-def
+use Rattle.bridge.proofs.barkpaddle_bridge_variadic.Symbol as thin_def
 use Rattle.bridge.proofs.barkpaddle_bridge_variadic.Symbol.{name as #thin}
-use Rattle.bridge.proofs.barkpaddle_bridge_variadic.Met as thin-thm
-use Rattle.bridge_main.proofs.Steps.{left, left-value, lent_ref, Lent, lent, back}
+use Rattle.bridge.proofs.barkpaddle_bridge_variadic.Met as thin_thm
+use Rattle.bridge_main.proofs.Steps.{left, left_value, lent_ref, Lent, lent, back}
 use Rattle.bridge_main.specs.contracts.mark.Key.{name as #mark}
 use Rattle.bridge_main.specs.contracts.mark as mark
 use Rattle.bridge_main.proofs.mark.Statement as stated
@@ -72,11 +72,11 @@ module _ {M : Type 1} {𝓤 : Ura M} (𝓛 : Logic 𝓤) (at_mem : Memory → SP
         nothing ! $ nothing ! $ move ! (2 ∷ 0 ∷ []) $ join ! $ move ! (2 ∷ 1 ∷ []) $ join ! $ move ! (1 ∷ 0 ∷ []) $ join ! $ frame ! $ done !
 
     abbrev Said : Outcome → Call × Unit {0} → Type 0
-    Said r zs = (r ≡ (variadicAnswer h).outcome) × (zs.0 ≡ (variadicAnswer h).next)
+    Said r zs = (r ≡ (variadic_answer h).outcome) × (zs.0 ≡ (variadic_answer h).next)
 
-    exits : (r : Outcome) (zs : Call × Unit {0}) → Said r zs → Is N.the_row (left zs.0 r) (left-value zs.0 r ∷ []) → ent 𝓤 (emp 𝓤) (Post (left-value zs.0 r))
+    exits : (r : Outcome) (zs : Call × Unit {0}) → Said r zs → Is N.the_row (left zs.0 r) (left_value zs.0 r ∷ []) → ent 𝓤 (emp 𝓤) (Post (left_value zs.0 r))
     exits r zs e is =
-        qed 𝓛 [] ∵ suffices ! _ (ends_at 𝓛 mark.ended stayed (mark.clauses 𝓛 at_mem run) bound (left-value zs.0 r) (left zs.0 r) (tt, tt) (tt, tt)) $
+        qed 𝓛 [] ∵ suffices ! _ (ends_at 𝓛 mark.ended stayed (mark.clauses 𝓛 at_mem run) bound (left_value zs.0 r) (left zs.0 r) (tt, tt) (tt, tt)) $
         says ! e $ nothing ! $ frame ! $ nothing ! $ owned ! T.the_row (Is T.the_row) (LL.makes T.the_type T'.the_plain 𝓛) h _ h-is $ fjoin ! $
         owned ! N.the_row (Is N.the_row) (LL.makes N.the_type N'.the_plain 𝓛) (left zs.0 r) _ is $ move ! (1 ∷ 0 ∷ []) $ done !
 
@@ -107,4 +107,4 @@ mark_spec 𝓤 𝓛 𝓜 𝓡 =
     entered 𝓤 𝓛.H (triple_of 𝓛 mark.signature (mark.spec 𝓛 𝓜.mem 𝓡.run))
     (tables 𝓤 𝓛.H 𝓜 𝓡 code.env).C (tables 𝓤 𝓛.H 𝓜 𝓡 code.env).Λ #mark code.function (code.unfolded 𝓤 𝓛.H 𝓜 𝓡)
     (meets 𝓛 𝓜.mem 𝓡.run (tables_of 𝓤 𝓛.H 𝓜 (tables 𝓤 𝓛.H 𝓜 𝓡 code.env))
-    (cited 𝓤 𝓛.H (Thin 𝓛 𝓜.mem 𝓡.run) 𝓜 𝓡 code.env #thin thin-def.routine code.calls-bridge::barkpaddle-bridge-variadic (thin-thm.met 𝓤 𝓛 𝓜 𝓡)))
+    (cited 𝓤 𝓛.H (Thin 𝓛 𝓜.mem 𝓡.run) 𝓜 𝓡 code.env #thin thin_def.routine code.calls-bridge::barkpaddle_bridge_variadic (thin_thm.met 𝓤 𝓛 𝓜 𝓡)))

@@ -2,11 +2,11 @@
 use contract.Running.{tables, tables_of}
 use denote.Triple.Spec.{triple_of}
 use denote.Triple.Table.{entered, cited}
-use Rattle.classify.specs.Answers.{returnsAnswer, returnsWritten}
+use Rattle.classify.specs.Answers.{returns_answer, returns_written}
 use Rattle.bridge_main.proofs.Lending as Lending
-use Rattle.bridge.proofs.barkpaddle_bridge_returns.Symbol as form-def
+use Rattle.bridge.proofs.barkpaddle_bridge_returns.Symbol as form_def
 use Rattle.bridge.proofs.barkpaddle_bridge_returns.Symbol.{name as #form}
-use Rattle.bridge.proofs.barkpaddle_bridge_returns.Met as form-thm
+use Rattle.bridge.proofs.barkpaddle_bridge_returns.Met as form_thm
 use Rattle.bridge_main.specs.contracts.returns.Key.{name as #here}
 use Rattle.bridge_main.specs.contracts.returns as here
 use Rattle.bridge_main.proofs.returns.Statement as stated
@@ -17,5 +17,5 @@ unfolding code.routine tables_of
 returns-spec 𝓤 𝓛 𝓜 𝓡 =
     entered 𝓤 𝓛.H (triple_of 𝓛 here.signature (here.spec 𝓛 𝓜.mem 𝓡.run))
     (tables 𝓤 𝓛.H 𝓜 𝓡 code.env).C (tables 𝓤 𝓛.H 𝓜 𝓡 code.env).Λ #here code.function (code.unfolded 𝓤 𝓛.H 𝓜 𝓡)
-    (Lending.meets returnsAnswer returnsWritten 𝓛 #form (tables_of 𝓤 𝓛.H 𝓜 (tables 𝓤 𝓛.H 𝓜 𝓡 code.env))
-    (cited 𝓤 𝓛.H (Lending.Form returnsAnswer returnsWritten 𝓛) 𝓜 𝓡 code.env #form form-def.routine code.calls-bridge::barkpaddle-bridge-returns (form-thm.met 𝓤 𝓛 𝓜 𝓡)))
+    (Lending.meets returns_answer returns_written 𝓛 #form (tables_of 𝓤 𝓛.H 𝓜 (tables 𝓤 𝓛.H 𝓜 𝓡 code.env))
+    (cited 𝓤 𝓛.H (Lending.Form returns_answer returns_written 𝓛) 𝓜 𝓡 code.env #form form_def.routine code.calls-bridge::barkpaddle_bridge_returns (form_thm.met 𝓤 𝓛 𝓜 𝓡)))

@@ -13,8 +13,8 @@ invariant-loop first second n i₀ i = (n ≡ length first) × (n ≡ length sec
 abbrev decreases-loop : tie.decreases-loop
 decreases-loop first second n i₀ i = n - i
 
-pub same-words-spec : {M : Type 1} → statement M
-same-words-spec =
+pub same_words_spec : {M : Type 1} → statement M
+same_words_spec =
     tie.close
     (tie.spec
     invariant-loop

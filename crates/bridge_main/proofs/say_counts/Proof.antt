@@ -10,8 +10,8 @@ invariant-loop words tally first end i₀ i = Unit {0}
 abbrev decreases-loop : tie.decreases-loop
 decreases-loop words tally first end i₀ i = end - i
 
-pub say-counts-spec : {M : Type 1} → statement M
-say-counts-spec =
+pub say_counts_spec : {M : Type 1} → statement M
+say_counts_spec =
     tie.close
     (tie.spec
     invariant-loop

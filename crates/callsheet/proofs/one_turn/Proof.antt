@@ -6,8 +6,8 @@ use borrow.Author.Rules.{rules}
 use Rattle.callsheet.proofs.one_turn.Statement.{statement}
 use Rattle.callsheet.proofs.one_turn.Tie as tie
 
-pub one-turn-spec : {M : Type 1} → statement M
-one-turn-spec =
+pub one_turn_spec : {M : Type 1} → statement M
+one_turn_spec =
     tie.close
     (tie.spec
     (λ c κs. search rules)

@@ -6,8 +6,8 @@ use borrow.Author.Rules.{rules}
 use Rattle.callsheet.proofs.take_in.Statement.{statement}
 use Rattle.callsheet.proofs.take_in.Tie as tie
 
-pub take-in-spec : {M : Type 1} → statement M
-take-in-spec =
+pub take_in_spec : {M : Type 1} → statement M
+take_in_spec =
     tie.close
     (tie.spec
     (λ c. search rules)

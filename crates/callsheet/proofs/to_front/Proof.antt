@@ -13,8 +13,8 @@ invariant-loop input₀ from to i₀ at₀ input i at = (length input ≡ length
 abbrev decreases-loop : tie.decreases-loop
 decreases-loop input₀ from to i₀ at₀ input i at = to - at
 
-pub to-front-spec : {M : Type 1} → statement M
-to-front-spec =
+pub to_front_spec : {M : Type 1} → statement M
+to_front_spec =
     tie.close
     (tie.spec
     invariant-loop

@@ -3,8 +3,8 @@ use Rattle.checks.proofs.Check.{piece-laws}
 use Rattle.checks.proofs.check_piece.Statement.{statement}
 use Rattle.checks.proofs.check_piece.Tie as tie
 
-pub check-piece-spec : {M : Type 1} → statement M
-check-piece-spec =
+pub check_piece_spec : {M : Type 1} → statement M
+check_piece_spec =
     tie.close
     (tie.spec
     (λ c. search piece-laws)

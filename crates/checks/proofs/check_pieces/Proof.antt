@@ -3,22 +3,22 @@ use Prim.Native.Nat.{◌≤◌, ◌-◌}
 use mathlib.Core.Path.{◌≡◌, refl}
 use lib.ListN.{length, drop}
 use Rattle.shape.specs.Words.{pieces_of}
-use Rattle.shape.proofs.Words.{pieces, loop-end}
-use Rattle.checks.specs.Check.{piecesRefusal}
-use Rattle.checks.proofs.Check.{pieces-by-first, refused-here, refused-later}
+use Rattle.shape.proofs.Words.{pieces, loop_end}
+use Rattle.checks.specs.Check.{pieces_refusal}
+use Rattle.checks.proofs.Check.{pieces_by_first, refused_here, refused_later}
 use borrow.Author.Rules.{rules}
 use native.Mathlib.Omega.{arith}
 use Rattle.checks.proofs.check_pieces.Statement.{statement}
 use Rattle.checks.proofs.check_pieces.Tie as tie
 
 abbrev invariant-loop : tie.invariant-loop
-invariant-loop words at₀ at = (at ≤ length words) × (piecesRefusal (pieces_of words) ≡ piecesRefusal (pieces_of (drop at words)))
+invariant-loop words at₀ at = (at ≤ length words) × (pieces_refusal (pieces_of words) ≡ pieces_refusal (pieces_of (drop at words)))
 
 abbrev decreases-loop : tie.decreases-loop
 decreases-loop words at₀ at = length words - at
 
-pub check-pieces-spec : {M : Type 1} → statement M
-check-pieces-spec =
+pub check_pieces_spec : {M : Type 1} → statement M
+check_pieces_spec =
     tie.close
     (tie.spec
     invariant-loop
@@ -27,8 +27,8 @@ check-pieces-spec =
     (λ c. search rules)
     (λ c κs. search rules)
     (λ c κs. search rules)
-    (λ c. search (refused-here pieces pieces-by-first))
+    (λ c. search (refused_here pieces pieces_by_first))
     (λ c. search rules)
     (λ c. search rules)
-    (λ c. (omega arith, search (refused-later pieces pieces-by-first)))
-    (λ c. search (loop-end pieces pieces-by-first)))
+    (λ c. (omega arith, search (refused_later pieces pieces_by_first)))
+    (λ c. search (loop_end pieces pieces_by_first)))

@@ -3,8 +3,8 @@ use Rattle.checks.proofs.Check.{scalar-laws}
 use Rattle.checks.proofs.check_scalar.Statement.{statement}
 use Rattle.checks.proofs.check_scalar.Tie as tie
 
-pub check-scalar-spec : {M : Type 1} → statement M
-check-scalar-spec =
+pub check_scalar_spec : {M : Type 1} → statement M
+check_scalar_spec =
     tie.close
     (tie.spec
     (λ c. search scalar-laws)

@@ -4,8 +4,8 @@ use Rattle.classify.proofs.Steps.{accepts}
 use Rattle.classify.proofs.accept.Statement.{statement}
 use Rattle.classify.proofs.accept.Tie as tie
 
-pub accept-spec : {M : Type 1} → statement M
-accept-spec =
+pub accept_spec : {M : Type 1} → statement M
+accept_spec =
     tie.close
     (tie.spec
     (λ c κs. search rules)

@@ -2,7 +2,7 @@
 -- there is no way past their end.
 use borrow.Author.Rules.{rules}
 use Rattle.shape.specs.Words.{pieces_of}
-use Rattle.classify.proofs.Walking.{Remaining, whole-list, falls, nothing-next, skipped-next, short-next, decided-here}
+use Rattle.classify.proofs.Walking.{Remaining, whole_list, falls, nothing_next, skipped_next, short_next, decided_here}
 use Rattle.classify.proofs.apply.Statement.{statement}
 use Rattle.classify.proofs.apply.Tie as tie
 
@@ -12,26 +12,26 @@ invariant-loop terms returning left shape words list rules = Remaining terms lis
 abbrev decreases-loop : tie.decreases-loop
 decreases-loop terms returning left shape words list rules = rules.tests
 
-pub apply-spec : {M : Type 1} → statement M
-apply-spec =
+pub apply_spec : {M : Type 1} → statement M
+apply_spec =
     tie.close
     (tie.spec
     invariant-loop
     decreases-loop
-    (λ c. search (whole-list))
+    (λ c. search (whole_list))
     (λ c κs. search rules)
     (λ c κs. search rules)
     (λ c κs. search rules)
     (λ c. search rules)
     (λ c. search rules)
     (λ c. search (falls))
-    (λ c. search (nothing-next))
+    (λ c. search (nothing_next))
     (λ c. search (falls))
-    (λ c. search (skipped-next))
+    (λ c. search (skipped_next))
     (λ c κs. search rules)
     (λ c κs. search rules)
     (λ c. search rules)
     (λ c. search rules)
     (λ c. search (falls))
-    (λ c. search (short-next))
-    (λ c. search (decided-here)))
+    (λ c. search (short_next))
+    (λ c. search (decided_here)))

@@ -1,6 +1,6 @@
 -- `finish` refuses what the stack has no room for, and else writes and answers.
 use borrow.Author.Rules.{rules}
-use Rattle.classify.proofs.Steps.{stack-short, stack-fits}
+use Rattle.classify.proofs.Steps.{stack_short, stack_fits}
 use Rattle.classify.proofs.finish.Statement.{statement}
 use Rattle.classify.proofs.finish.Tie as tie
 
@@ -9,8 +9,8 @@ finish_spec =
     tie.close
     (tie.spec
     (λ c κs. search rules)
-    (λ c. search (stack-short))
+    (λ c. search (stack_short))
     (λ c κs. search rules)
     (λ c κs. search rules)
     (λ c. search rules)
-    (λ c. search (stack-fits)))
+    (λ c. search (stack_fits)))

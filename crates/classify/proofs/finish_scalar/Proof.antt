@@ -1,16 +1,16 @@
 -- `finish_scalar` refuses what the stack has no room for, and else writes and answers.
 use borrow.Author.Rules.{rules}
-use Rattle.classify.proofs.Steps.{stack-short, stack-fits}
+use Rattle.classify.proofs.Steps.{stack_short, stack_fits}
 use Rattle.classify.proofs.finish_scalar.Statement.{statement}
 use Rattle.classify.proofs.finish_scalar.Tie as tie
 
-pub finish-scalar-spec : {M : Type 1} → statement M
-finish-scalar-spec =
+pub finish_scalar_spec : {M : Type 1} → statement M
+finish_scalar_spec =
     tie.close
     (tie.spec
     (λ c κs. search rules)
-    (λ c. search (stack-short))
+    (λ c. search (stack_short))
     (λ c κs. search rules)
     (λ c κs. search rules)
     (λ c. search rules)
-    (λ c. search (stack-fits)))
+    (λ c. search (stack_fits)))

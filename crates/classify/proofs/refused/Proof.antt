@@ -4,8 +4,8 @@ use Rattle.classify.proofs.Steps.{refuses}
 use Rattle.classify.proofs.refused.Statement.{statement}
 use Rattle.classify.proofs.refused.Tie as tie
 
-pub refused-spec : {M : Type 1} → statement M
-refused-spec =
+pub refused_spec : {M : Type 1} → statement M
+refused_spec =
     tie.close
     (tie.spec
     (λ c κs. search rules)

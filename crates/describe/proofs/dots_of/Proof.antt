@@ -4,8 +4,8 @@ use Rattle.describe.proofs.Dotted.{dotted}
 use Rattle.describe.proofs.dots_of.Statement.{statement}
 use Rattle.describe.proofs.dots_of.Tie as tie
 
-pub dots-of-spec : {M : Type 1} → statement M
-dots-of-spec =
+pub dots_of_spec : {M : Type 1} → statement M
+dots_of_spec =
     tie.close
     (tie.spec
     (λ c. search rules)

@@ -3,9 +3,9 @@ use borrow.Author.Rules.{rules}
 use Rattle.describe.proofs.scalar_returns_by_reference.Statement.{statement}
 use Rattle.describe.proofs.scalar_returns_by_reference.Tie as tie
 
-pub scalar-returns-by-reference-spec : {M : Type 1} → statement M
-scalar-returns-by-reference-spec =
+pub scalar_returns_by_reference_spec : {M : Type 1} → statement M
+scalar_returns_by_reference_spec =
     tie.close
     (tie.spec
     (λ c κs. search rules)
-    (λ c. simp c.before.scalar-is-by-reference.ensures))
+    (λ c. simp c.before.scalar_is_by_reference.ensures))

@@ -3,10 +3,10 @@ use borrow.Author.Rules.{rules}
 use Rattle.describe.proofs.wide_integer_returns_in.Statement.{statement}
 use Rattle.describe.proofs.wide_integer_returns_in.Tie as tie
 
-pub wide-integer-returns-in-spec : {M : Type 1} → statement M
-wide-integer-returns-in-spec =
+pub wide_integer_returns_in_spec : {M : Type 1} → statement M
+wide_integer_returns_in_spec =
     tie.close
     (tie.spec
     (λ c κs. search rules)
-    (λ c. rw (← c.before.scalar-is-by-reference.ensures, c.if1.true))
-    (λ c. rw (← c.before.scalar-is-by-reference.ensures, c.if1.false)))
+    (λ c. rw (← c.before.scalar_is_by_reference.ensures, c.if1.true))
+    (λ c. rw (← c.before.scalar_is_by_reference.ensures, c.if1.false)))

@@ -6,8 +6,8 @@ use mathlib.Core.Bool.{Bool, true, false, cond, ◌||◌, or-true}
 use native.Mathlib.Omega.{arith}
 use borrow.Author.Tests.{eq-eqb, ne_eqb}
 use lib.Dec.{eqb, leb}
-use Rattle.eightbytes.specs.Class.{code, classOf, same, merge}
-use Rattle.eightbytes.proofs.Merging.{merge_none, merge-same}
+use Rattle.eightbytes.specs.Class.{code, class_of, same, merge}
+use Rattle.eightbytes.proofs.Merging.{merge_none, merge_same}
 use Rattle.eightbytes.proofs.merge.Statement.{statement}
 use Rattle.eightbytes.proofs.merge.Tie as tie
 
@@ -21,18 +21,18 @@ below6 P a b c d e f (suc (suc (suc (suc (suc zero))))) h = f
 below6 P a b c d e f (suc (suc (suc (suc (suc (suc n)))))) h = absurd (omega arith)
 
 abbrev merged : ℕ → ℕ → ℕ
-merged a b = code (merge (classOf a) (classOf b))
+merged a b = code (merge (class_of a) (class_of b))
 
 -- what two different classes make, None aside
-abbrev ofTwo : ℕ → ℕ → ℕ
-ofTwo a b = cond (leb 4 a || leb 4 b) 5 (cond (eqb a 1 || eqb b 1) 1 2)
+abbrev of_two : ℕ → ℕ → ℕ
+of_two a b = cond (leb 4 a || leb 4 b) 5 (cond (eqb a 1 || eqb b 1) 1 2)
 
 abbrev AsTested : ℕ → ℕ → Type 0
-AsTested a b = merged a b ≡ cond (eqb a b) b (cond (eqb a 0) b (cond (eqb b 0) a (ofTwo a b)))
+AsTested a b = merged a b ≡ cond (eqb a b) b (cond (eqb a 0) b (cond (eqb b 0) a (of_two a b)))
 
-as-tested : (a b : ℕ) → a < 6 → b < 6 → AsTested a b
-unfolding code classOf same merge
-as-tested a b ha hb =
+as_tested : (a b : ℕ) → a < 6 → b < 6 → AsTested a b
+unfolding code class_of same merge
+as_tested a b ha hb =
     below6 (λ a. AsTested a b)
     (below6 (AsTested 0) refl refl refl refl refl refl b hb)
     (below6 (AsTested 1) refl refl refl refl refl refl b hb)
@@ -43,25 +43,25 @@ as-tested a b ha hb =
     a ha
 
 module _ (a b : ℕ) (ha : a < 6) (hb : b < 6) (different : a ≡ b → ⊥) (some : a ≡ 0 → ⊥) where
-  none-second : b ≡ 0 → a ≡ merged a b
-  none-second e = rw (as-tested a b ha hb, ne_eqb _ _ different, ne_eqb _ _ some, eq-eqb _ _ e)
+  none_second : b ≡ 0 → a ≡ merged a b
+  none_second e = rw (as_tested a b ha hb, ne_eqb _ _ different, ne_eqb _ _ some, eq-eqb _ _ e)
 
   module _ (both : b ≡ 0 → ⊥) where
-    two : merged a b ≡ ofTwo a b
-    two = rw (as-tested a b ha hb, ne_eqb _ _ different, ne_eqb _ _ some, ne_eqb _ _ both)
+    two : merged a b ≡ of_two a b
+    two = rw (as_tested a b ha hb, ne_eqb _ _ different, ne_eqb _ _ some, ne_eqb _ _ both)
 
-    memory-first : leb 4 a ≡ true → 5 ≡ merged a b
-    memory-first h = rw (two, h)
+    memory_first : leb 4 a ≡ true → 5 ≡ merged a b
+    memory_first h = rw (two, h)
 
-    memory-second : leb 4 b ≡ true → 5 ≡ merged a b
-    memory-second h = rw (two, h, or-true (leb 4 a))
+    memory_second : leb 4 b ≡ true → 5 ≡ merged a b
+    memory_second h = rw (two, h, or-true (leb 4 a))
 
     module _ (m : (leb 4 a || leb 4 b) ≡ false) where
-      integer-first : eqb a 1 ≡ true → 1 ≡ merged a b
-      integer-first h = rw (two, m, h)
+      integer_first : eqb a 1 ≡ true → 1 ≡ merged a b
+      integer_first h = rw (two, m, h)
 
-      integer-second : eqb b 1 ≡ true → 1 ≡ merged a b
-      integer-second h = rw (two, m, h, or-true (eqb a 1))
+      integer_second : eqb b 1 ≡ true → 1 ≡ merged a b
+      integer_second h = rw (two, m, h, or-true (eqb a 1))
 
       sse : (eqb a 1 || eqb b 1) ≡ false → 2 ≡ merged a b
       sse h = rw (two, m, h)
@@ -72,13 +72,13 @@ one_of : {r n : ℕ} (x y : Bool) → (x ≡ true → r ≡ n) → (y ≡ true �
 one_of true y f g h = f refl
 one_of false y f g h = g h
 
-pub merge-spec : {M : Type 1} → statement M
-merge-spec =
+pub merge_spec : {M : Type 1} → statement M
+merge_spec =
     tie.close
     (tie.spec
-    (λ c. search (merge-same))
+    (λ c. search (merge_same))
     (λ c. search (merge_none))
-    (λ c. search (none-second))
-    (λ c. search (one_of, memory-first, memory-second))
-    (λ c. search (one_of, integer-first, integer-second))
+    (λ c. search (none_second))
+    (λ c. search (one_of, memory_first, memory_second))
+    (λ c. search (one_of, integer_first, integer_second))
     (λ c. search (sse)))

@@ -4,6 +4,6 @@ use Rattle.eightbytes.specs.Eightbytes.{codes}
 use Rattle.eightbytes.proofs.nothing.Statement.{statement}
 use Rattle.eightbytes.proofs.nothing.Tie as tie
 
-pub nothing-spec : {M : Type 1} → statement M
+pub nothing_spec : {M : Type 1} → statement M
 unfolding codes
-nothing-spec = tie.close (tie.spec (λ c. (refl, refl)))
+nothing_spec = tie.close (tie.spec (λ c. (refl, refl)))

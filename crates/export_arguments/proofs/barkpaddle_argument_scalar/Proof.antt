@@ -3,8 +3,8 @@ use borrow.Author.Rules.{rules}
 use Rattle.export_arguments.proofs.barkpaddle_argument_scalar.Statement.{statement}
 use Rattle.export_arguments.proofs.barkpaddle_argument_scalar.Tie as tie
 
-pub barkpaddle-argument-scalar-spec : {M : Type 1} → statement M
-barkpaddle-argument-scalar-spec =
+pub barkpaddle_argument_scalar_spec : {M : Type 1} → statement M
+barkpaddle_argument_scalar_spec =
     tie.close
     (tie.spec
     (λ c κs. search rules)

@@ -2,14 +2,14 @@
 use mathlib.Core.Path.{refl}
 use mathlib.Core.Bool.{false}
 use borrow.Author.Rules.{rules}
-use Rattle.classify.proofs.Operations.{by-void}
+use Rattle.classify.proofs.Operations.{by_void}
 use Rattle.export_arguments.proofs.barkpaddle_argument_void.Statement.{statement}
 use Rattle.export_arguments.proofs.barkpaddle_argument_void.Tie as tie
 
-pub barkpaddle-argument-void-spec : {M : Type 1} → statement M
-barkpaddle-argument-void-spec =
+pub barkpaddle_argument_void_spec : {M : Type 1} → statement M
+barkpaddle_argument_void_spec =
     tie.close
     (tie.spec
     (λ c κs. search rules)
     (λ c κs. search rules)
-    (λ c. by-void false false _ _ _ _ _ refl cc))
+    (λ c. by_void false false _ _ _ _ _ refl cc))

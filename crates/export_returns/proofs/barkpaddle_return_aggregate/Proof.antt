@@ -3,8 +3,8 @@ use borrow.Author.Rules.{rules}
 use Rattle.export_returns.proofs.barkpaddle_return_aggregate.Statement.{statement}
 use Rattle.export_returns.proofs.barkpaddle_return_aggregate.Tie as tie
 
-pub barkpaddle-return-aggregate-spec : {M : Type 1} → statement M
-barkpaddle-return-aggregate-spec =
+pub barkpaddle_return_aggregate_spec : {M : Type 1} → statement M
+barkpaddle_return_aggregate_spec =
     tie.close
     (tie.spec
     (λ c κs. search rules)

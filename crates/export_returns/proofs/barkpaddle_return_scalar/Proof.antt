@@ -3,8 +3,8 @@ use borrow.Author.Rules.{rules}
 use Rattle.export_returns.proofs.barkpaddle_return_scalar.Statement.{statement}
 use Rattle.export_returns.proofs.barkpaddle_return_scalar.Tie as tie
 
-pub barkpaddle-return-scalar-spec : {M : Type 1} → statement M
-barkpaddle-return-scalar-spec =
+pub barkpaddle_return_scalar_spec : {M : Type 1} → statement M
+barkpaddle_return_scalar_spec =
     tie.close
     (tie.spec
     (λ c κs. search rules)

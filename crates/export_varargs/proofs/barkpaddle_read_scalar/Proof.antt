@@ -3,10 +3,10 @@ use borrow.Author.Rules.{rules}
 use Rattle.export_varargs.proofs.barkpaddle_read_scalar.Statement.{statement}
 use Rattle.export_varargs.proofs.barkpaddle_read_scalar.Tie as tie
 
-pub barkpaddle-read-scalar-spec : {M : Type 1} → statement M
-barkpaddle-read-scalar-spec =
+pub barkpaddle_read_scalar_spec : {M : Type 1} → statement M
+barkpaddle_read_scalar_spec =
     tie.close
     (tie.spec
     (λ c κs. search rules)
     (λ c κs. search rules)
-    (λ c. rw (c.area-number.ensures, c.before.find.ensures)))
+    (λ c. rw (c.area_number.ensures, c.before.find.ensures)))

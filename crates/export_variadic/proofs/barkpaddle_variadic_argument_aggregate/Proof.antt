@@ -3,8 +3,8 @@ use borrow.Author.Rules.{rules}
 use Rattle.export_variadic.proofs.barkpaddle_variadic_argument_aggregate.Statement.{statement}
 use Rattle.export_variadic.proofs.barkpaddle_variadic_argument_aggregate.Tie as tie
 
-pub barkpaddle-variadic-argument-aggregate-spec : {M : Type 1} → statement M
-barkpaddle-variadic-argument-aggregate-spec =
+pub barkpaddle_variadic_argument_aggregate_spec : {M : Type 1} → statement M
+barkpaddle_variadic_argument_aggregate_spec =
     tie.close
     (tie.spec
     (λ c κs. search rules)

@@ -3,8 +3,8 @@ use borrow.Author.Rules.{rules}
 use Rattle.export_variadic.proofs.barkpaddle_variadic_argument_scalar.Statement.{statement}
 use Rattle.export_variadic.proofs.barkpaddle_variadic_argument_scalar.Tie as tie
 
-pub barkpaddle-variadic-argument-scalar-spec : {M : Type 1} → statement M
-barkpaddle-variadic-argument-scalar-spec =
+pub barkpaddle_variadic_argument_scalar_spec : {M : Type 1} → statement M
+barkpaddle_variadic_argument_scalar_spec =
     tie.close
     (tie.spec
     (λ c κs. search rules)

@@ -1,12 +1,12 @@
 -- `first_test` reads the lowest two bytes.
 use borrow.Author.Rules.{rules}
-use Rattle.rows.specs.Row.{firstRule, ruleFrom}
+use Rattle.rows.specs.Row.{first_rule, rule_from}
 use Rattle.rows.proofs.first_test.Statement.{statement}
 use Rattle.rows.proofs.first_test.Tie as tie
 
-pub first-test-spec : {M : Type 1} → statement M
-unfolding firstRule ruleFrom
-first-test-spec =
+pub first_test_spec : {M : Type 1} → statement M
+unfolding first_rule rule_from
+first_test_spec =
     tie.close
     (tie.spec
     (λ c. search rules)

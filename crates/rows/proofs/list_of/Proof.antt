@@ -4,9 +4,9 @@ use Rattle.rows.specs.Row.{list_of}
 use Rattle.rows.proofs.list_of.Statement.{statement}
 use Rattle.rows.proofs.list_of.Tie as tie
 
-pub list-of-spec : {M : Type 1} → statement M
+pub list_of_spec : {M : Type 1} → statement M
 unfolding list_of
-list-of-spec =
+list_of_spec =
     tie.close
     (tie.spec
     (λ c κs. search rules)

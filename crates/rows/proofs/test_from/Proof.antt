@@ -1,14 +1,14 @@
 -- `test_from` gives the test of each number, arm by arm; the last arm is past the end of the tests before it.
 use borrow.Author.Rules.{rules}
 use Rattle.describe.specs.declared.Test.TheVariants.{Eightbytes}
-use Rattle.rows.specs.Codes.{testFrom, firstTests}
+use Rattle.rows.specs.Codes.{test_from, first_tests}
 use Rattle.shape.proofs.Cases.{past_end}
 use Rattle.rows.proofs.test_from.Statement.{statement}
 use Rattle.rows.proofs.test_from.Tie as tie
 
-pub test-from-spec : {M : Type 1} → statement M
-unfolding testFrom
-test-from-spec =
+pub test_from_spec : {M : Type 1} → statement M
+unfolding test_from
+test_from_spec =
     tie.close
     (tie.spec
     (λ c κs. search rules)
@@ -29,4 +29,4 @@ test-from-spec =
     (λ c. rw c.match.keys9)
     (λ c. rw c.match.keys10)
     (λ c. rw c.match.keys11)
-    (λ c. let n = c.before.before.args.number in rw c.wide3.ensures.0 (past_end (firstTests n) c.before.before.args.code (Eightbytes n) c.before.match.rest)))
+    (λ c. let n = c.before.before.args.number in rw c.wide3.ensures.0 (past_end (first_tests n) c.before.before.args.code (Eightbytes n) c.before.match.rest)))

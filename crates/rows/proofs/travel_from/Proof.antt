@@ -1,14 +1,14 @@
 -- `travel_from` gives the case of each number, arm by arm; the last arm is past the end of the cases before it.
 use mathlib.Core.List.{[], ◌∷◌}
 use Rattle.describe.specs.declared.Travel.TheVariants.{Ignore, AsFound, AsIntegers, AsOneInteger, ByReference, InMemory, InMemoryAndSpend}
-use Rattle.rows.specs.Codes.{travelFrom}
+use Rattle.rows.specs.Codes.{travel_from}
 use Rattle.shape.proofs.Cases.{past_end}
 use Rattle.rows.proofs.travel_from.Statement.{statement}
 use Rattle.rows.proofs.travel_from.Tie as tie
 
-pub travel-from-spec : {M : Type 1} → statement M
-unfolding travelFrom
-travel-from-spec =
+pub travel_from_spec : {M : Type 1} → statement M
+unfolding travel_from
+travel_from_spec =
     tie.close
     (tie.spec
     (λ c. rw c.match.keys1)

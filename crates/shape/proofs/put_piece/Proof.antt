@@ -1,17 +1,17 @@
 -- `put_piece` writes the words of a piece where they fit, and no other word.
 use lib.ListN.{length-set}
-use Rattle.shape.proofs.Put.{fitted-not, fitted}
+use Rattle.shape.proofs.Put.{fitted_not, fitted}
 use borrow.Author.Rules.{rules}
 use native.Mathlib.Omega.{arith}
 use Rattle.shape.proofs.put_piece.Statement.{statement}
 use Rattle.shape.proofs.put_piece.Tie as tie
 
-pub put-piece-spec : {M : Type 1} → statement M
-put-piece-spec =
+pub put_piece_spec : {M : Type 1} → statement M
+put_piece_spec =
     tie.close
     (tie.spec
-    (λ c. fitted-not _ _ _ (omega arith))
-    (λ c. fitted-not _ _ _ (omega arith))
+    (λ c. fitted_not _ _ _ (omega arith))
+    (λ c. fitted_not _ _ _ (omega arith))
     (λ c. search rules)
     (λ c. search rules)
     (λ c. search rules)

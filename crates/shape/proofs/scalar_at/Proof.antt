@@ -1,16 +1,16 @@
 -- `scalar_at` reads the three words of the scalar at a place, or nothing where no whole scalar is left.
-use Rattle.shape.proofs.Words.{read-scalar, no-scalar}
+use Rattle.shape.proofs.Words.{read_scalar, no_scalar}
 use borrow.Author.Rules.{rules}
 use native.Mathlib.Omega.{arith}
 use Rattle.shape.proofs.scalar_at.Statement.{statement}
 use Rattle.shape.proofs.scalar_at.Tie as tie
 
-pub scalar-at-spec : {M : Type 1} → statement M
-scalar-at-spec =
+pub scalar_at_spec : {M : Type 1} → statement M
+scalar_at_spec =
     tie.close
     (tie.spec
-    (λ c. no-scalar _ _ (omega arith))
-    (λ c. no-scalar _ _ (omega arith))
+    (λ c. no_scalar _ _ (omega arith))
+    (λ c. no_scalar _ _ (omega arith))
     (λ c. search rules)
     (λ c. search rules)
     (λ c. search rules)
@@ -19,4 +19,4 @@ scalar-at-spec =
     (λ c. search rules)
     (λ c. search rules)
     (λ c. search rules)
-    (λ c. read-scalar _ _ (omega arith)))
+    (λ c. read_scalar _ _ (omega arith)))

@@ -6,8 +6,8 @@ use borrow.Author.Rules.{rules}
 use Rattle.shapes_main.proofs.answer.Statement.{statement}
 use Rattle.shapes_main.proofs.answer.Tie as tie
 
-pub answer-spec : {M : Type 1} → statement M
-answer-spec =
+pub answer_spec : {M : Type 1} → statement M
+answer_spec =
     tie.close
     (tie.spec
     (λ c. search rules)

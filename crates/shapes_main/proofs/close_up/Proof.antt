@@ -16,8 +16,8 @@ invariant-loop words size from to out₀ n₀ i₀ i-end out n i =
 abbrev decreases-loop : tie.decreases-loop
 decreases-loop words size from to out₀ n₀ i₀ i-end out n i = i-end - i
 
-pub close-up-spec : {M : Type 1} → statement M
-close-up-spec =
+pub close_up_spec : {M : Type 1} → statement M
+close_up_spec =
     tie.close
     (tie.spec
     invariant-loop

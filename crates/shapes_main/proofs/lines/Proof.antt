@@ -12,8 +12,8 @@ invariant-loop shape pieces each out₀ at₀ number₀ out at number = length o
 abbrev decreases-loop : tie.decreases-loop
 decreases-loop shape pieces each out₀ at₀ number₀ out at number = 23 - number
 
-pub lines-spec : {M : Type 1} → statement M
-lines-spec =
+pub lines_spec : {M : Type 1} → statement M
+lines_spec =
     tie.close
     (tie.spec
     invariant-loop

@@ -3,8 +3,8 @@ use borrow.Author.Rules.{rules}
 use Rattle.shapes_main.proofs.one_shape.Statement.{statement}
 use Rattle.shapes_main.proofs.one_shape.Tie as tie
 
-pub one-shape-spec : {M : Type 1} → statement M
-one-shape-spec =
+pub one_shape_spec : {M : Type 1} → statement M
+one_shape_spec =
     tie.close
     (tie.spec
     (λ c. search rules)

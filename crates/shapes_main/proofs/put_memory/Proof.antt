@@ -12,8 +12,8 @@ invariant-loop out₀ from shape pieces at₀ row₀ out at row = length out ≡
 abbrev decreases-loop : tie.decreases-loop
 decreases-loop out₀ from shape pieces at₀ row₀ out at row = 33 - row
 
-pub put-memory-spec : {M : Type 1} → statement M
-put-memory-spec =
+pub put_memory_spec : {M : Type 1} → statement M
+put_memory_spec =
     tie.close
     (tie.spec
     invariant-loop

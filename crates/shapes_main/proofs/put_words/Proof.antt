@@ -13,8 +13,8 @@ invariant-loop out₀ from size count each at₀ i₀ i-end out at i =
 abbrev decreases-loop : tie.decreases-loop
 decreases-loop out₀ from size count each at₀ i₀ i-end out at i = i-end - i
 
-pub put-words-spec : {M : Type 1} → statement M
-put-words-spec =
+pub put_words_spec : {M : Type 1} → statement M
+put_words_spec =
     tie.close
     (tie.spec
     invariant-loop

@@ -6,8 +6,8 @@ use native.Mathlib.Omega.{arith}
 use Rattle.shapes_main.proofs.within.Statement.{statement}
 use Rattle.shapes_main.proofs.within.Tie as tie
 
-pub within-spec : {M : Type 1} → statement M
-within-spec =
+pub within_spec : {M : Type 1} → statement M
+within_spec =
     tie.close
     (tie.spec
     (λ c. search rules)

@@ -1,11 +1,11 @@
 -- `carry_out` performs an operation and prints its line.
-use Rattle.sheet.proofs.StepLaws.{carried-out}
+use Rattle.sheet.proofs.StepLaws.{carried_out}
 use borrow.Author.Rules.{rules}
 use Rattle.sheet.proofs.carry_out.Statement.{statement}
 use Rattle.sheet.proofs.carry_out.Tie as tie
 
-pub carry-out-spec : {M : Type 1} → statement M
-carry-out-spec =
+pub carry_out_spec : {M : Type 1} → statement M
+carry_out_spec =
     tie.close
     (tie.spec
     (λ c κs. search rules)
@@ -13,4 +13,4 @@ carry-out-spec =
     (λ c κs. search rules)
     (λ c. search rules)
     (λ c. search rules)
-    (λ c. search (carried-out)))
+    (λ c. search (carried_out)))

@@ -1,5 +1,5 @@
 -- `finish` stops where a piece is still due.
-use Rattle.sheet.proofs.StepLaws.{finish-roomless, finish-nothing, finish-missing, line-fits}
+use Rattle.sheet.proofs.StepLaws.{finish_roomless, finish_nothing, finish_missing, line_fits}
 use borrow.Author.Rules.{rules}
 use Rattle.sheet.proofs.finish.Statement.{statement}
 use Rattle.sheet.proofs.finish.Tie as tie
@@ -9,9 +9,9 @@ finish_spec =
     tie.close
     (tie.spec
     (λ c κs. search rules)
-    (λ c. search (finish-roomless))
-    (λ c. search (finish-nothing))
+    (λ c. search (finish_roomless))
+    (λ c. search (finish_nothing))
     (λ c κs. search rules)
-    (λ c κs. search (line-fits))
+    (λ c κs. search (line_fits))
     (λ c. search rules)
-    (λ c. search (finish-missing)))
+    (λ c. search (finish_missing)))

@@ -3,5 +3,5 @@ use borrow.Author.Rules.{rules}
 use Rattle.sheet_lines.proofs.are_there.Statement.{statement}
 use Rattle.sheet_lines.proofs.are_there.Tie as tie
 
-pub are-there-spec : {M : Type 1} → statement M
-are-there-spec = tie.close (tie.spec (λ c κs. search rules) (λ c. rw c.room.ensures))
+pub are_there_spec : {M : Type 1} → statement M
+are_there_spec = tie.close (tie.spec (λ c κs. search rules) (λ c. rw c.room.ensures))

@@ -5,8 +5,8 @@ use borrow.Author.Rules.{rules}
 use Rattle.sheet_lines.proofs.put_pair.Statement.{statement}
 use Rattle.sheet_lines.proofs.put_pair.Tie as tie
 
-pub put-pair-spec : {M : Type 1} → statement M
-put-pair-spec =
+pub put_pair_spec : {M : Type 1} → statement M
+put_pair_spec =
     tie.close
     (tie.spec
     (λ c κs. search rules)

@@ -2,16 +2,16 @@
 use Prim.Native.Nat.{◌≤◌, ◌+◌, ◌*◌, ◌-◌}
 use mathlib.Core.Path.{◌≡◌, refl}
 use lib.ListN.{length, take}
-use Rattle.text.specs.Numbers.{mostPart}
-use Rattle.sheet_lines.specs.Printing.{slotsText}
-use Rattle.sheet_lines.proofs.PrintingLaws.{Goes, slotsFrom, goes_first, goes-next, goes_last}
+use Rattle.text.specs.Numbers.{most_part}
+use Rattle.sheet_lines.specs.Printing.{slots_text}
+use Rattle.sheet_lines.proofs.PrintingLaws.{Goes, slots_from, goes_first, goes_next, goes_last}
 use native.Mathlib.Omega.{arith}
 use borrow.Author.Rules.{rules}
 use Rattle.sheet_lines.proofs.put_slots.Statement.{statement}
 use Rattle.sheet_lines.proofs.put_slots.Tie as tie
 
 abbrev invariant-loop : tie.invariant-loop
-invariant-loop slots n out₀ at to₀ i₀ out to i = (i ≤ n) × (length out ≡ length out₀) × (to ≤ at + i * mostPart) × Goes out₀ at (slotsText 0 (take n slots)) out to (slotsFrom n slots i)
+invariant-loop slots n out₀ at to₀ i₀ out to i = (i ≤ n) × (length out ≡ length out₀) × (to ≤ at + i * most_part) × Goes out₀ at (slots_text 0 (take n slots)) out to (slots_from n slots i)
 
 abbrev decreases-loop : tie.decreases-loop
 decreases-loop slots n out₀ at to₀ i₀ out to i = n - i
@@ -26,11 +26,11 @@ loop-again c =
       omega arith,
       omega arith,
       omega arith,
-      goes-next _ _ start.requires.1 _ _ _ _ _ _ loop.invariant.3 test.loop-test.true _ _ _ mark.mark.ensures part.put-part.ensures.0,
+      goes_next _ _ start.requires.1 _ _ _ _ _ _ loop.invariant.3 test.loop-test.true _ _ _ mark.mark.ensures part.put-part.ensures.0,
     )
 
-pub put-slots-spec : {M : Type 1} → statement M
-put-slots-spec =
+pub put_slots_spec : {M : Type 1} → statement M
+put_slots_spec =
     tie.close
     (tie.spec
     invariant-loop

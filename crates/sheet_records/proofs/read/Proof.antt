@@ -1,5 +1,5 @@
 -- `read` reads nothing behind a stop, and else a piece or another record.
-use Rattle.sheet_records.proofs.ReadingLaws.{read-stopped, stopped-kept, read_short, short-kept, read-due, due-put, read_first, first-kept}
+use Rattle.sheet_records.proofs.ReadingLaws.{read_stopped, stopped_kept, read_short, short_kept, read_due, due_put, read_first, first_kept}
 use borrow.Author.Rules.{rules}
 use Rattle.sheet_records.proofs.read.Statement.{statement}
 use Rattle.sheet_records.proofs.read.Tie as tie
@@ -9,12 +9,12 @@ read_spec =
     tie.close
     (tie.spec
     (λ c κs. search rules)
-    (λ c. (search (read-stopped), search (stopped-kept)))
+    (λ c. (search (read_stopped), search (stopped_kept)))
     (λ c κs. search rules)
-    (λ c. (search (read_short), search (short-kept)))
+    (λ c. (search (read_short), search (short_kept)))
     (λ c κs. search rules)
     (λ c κs. search rules)
     (λ c. search rules)
-    (λ c. (search (read-due), search (due-put)))
+    (λ c. (search (read_due), search (due_put)))
     (λ c κs. search rules)
-    (λ c. (search (read_first), search (first-kept))))
+    (λ c. (search (read_first), search (first_kept))))

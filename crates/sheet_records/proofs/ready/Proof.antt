@@ -4,8 +4,8 @@ use borrow.Author.Rules.{rules}
 use Rattle.sheet_records.proofs.ready.Statement.{statement}
 use Rattle.sheet_records.proofs.ready.Tie as tie
 
-pub ready-spec : {M : Type 1} → statement M
-ready-spec =
+pub ready_spec : {M : Type 1} → statement M
+ready_spec =
     tie.close
     (tie.spec
     (λ c κs. search rules)

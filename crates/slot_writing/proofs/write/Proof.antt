@@ -1,5 +1,5 @@
 -- `write` writes the slots of a decision, from where they stand.
-use Rattle.slot_writing.proofs.Writing.{write-none, write-each, write-classes, write-cut, write-one}
+use Rattle.slot_writing.proofs.Writing.{write_none, write_each, write_classes, write_cut, write_one}
 use borrow.Author.Rules.{rules}
 use Rattle.slot_writing.proofs.write.Statement.{statement}
 use Rattle.slot_writing.proofs.write.Tie as tie
@@ -17,12 +17,12 @@ write_spec =
     (λ c κs. search rules)
     (λ c. search rules)
     (λ c κs. search rules)
-    (λ c. search (write-none))
+    (λ c. search (write_none))
     (λ c. search rules)
-    (λ c. search (write-each))
+    (λ c. search (write_each))
     (λ c. search rules)
-    (λ c. search (write-classes))
+    (λ c. search (write_classes))
     (λ c. search rules)
-    (λ c. search (write-cut))
+    (λ c. search (write_cut))
     (λ c. search rules)
-    (λ c. search (write-one)))
+    (λ c. search (write_one)))

@@ -2,17 +2,17 @@
 use Prim.Native.Nat.{◌≤◌, ◌<◌, ◌-◌, ◌*◌}
 use mathlib.Core.Path.{◌≡◌, refl}
 use lib.ListN.{length}
-use Rattle.slots.specs.Words.{slotSize, words_of}
+use Rattle.slots.specs.Words.{slot_size, words_of}
 use Rattle.slots.specs.Cut.{up_to, part_of}
 use Rattle.slots.proofs.Words.{over}
-use Rattle.slots.proofs.Cut.{run_none, cut_inside, cut-done, cut_short, cut-next}
+use Rattle.slots.proofs.Cut.{run_none, cut_inside, cut_done, cut_short, cut_next}
 use borrow.Author.Rules.{rules}
 use native.Mathlib.Omega.{arith}
 use Rattle.slots.proofs.integer_slots.Statement.{statement}
 use Rattle.slots.proofs.integer_slots.Tie as tie
 
 abbrev invariant-loop : tie.invariant-loop
-invariant-loop size width out₀ count w at₀ i₀ out at i = (i ≤ count) × (at ≡ slotSize * i) × (length out ≡ length out₀) × (out ≡ over (words_of (up_to i (part_of size w))) out₀)
+invariant-loop size width out₀ count w at₀ i₀ out at i = (i ≤ count) × (at ≡ slot_size * i) × (length out ≡ length out₀) × (out ≡ over (words_of (up_to i (part_of size w))) out₀)
 
 abbrev decreases-loop : tie.decreases-loop
 decreases-loop size width out₀ count w at₀ i₀ out at i = count - i
@@ -21,8 +21,8 @@ decreases-loop size width out₀ count w at₀ i₀ out at i = count - i
 inside : (c : tie.In-loop invariant-loop decreases-loop) → c.before.loop.i * c.before.before.before.before.most.result < c.before.before.before.before.before.before.before.args.size
 inside c = search (cut_inside)
 
-pub integer-slots-spec : {M : Type 1} → statement M
-integer-slots-spec =
+pub integer_slots_spec : {M : Type 1} → statement M
+integer_slots_spec =
     tie.close
     (tie.spec
     invariant-loop
@@ -39,6 +39,6 @@ integer-slots-spec =
     (λ c. search rules)
     (λ c. search rules)
     (λ c. search rules)
-    (λ c. (omega arith, omega arith, omega arith, search (cut-next)))
+    (λ c. (omega arith, omega arith, omega arith, search (cut_next)))
     (λ c. omega arith)
-    (λ c. search (cut-done)))
+    (λ c. search (cut_done)))

@@ -4,8 +4,8 @@ use borrow.Author.Rules.{rules}
 use Rattle.spend.proofs.by_address.Statement.{statement}
 use Rattle.spend.proofs.by_address.Tie as tie
 
-pub by-address-spec : {M : Type 1} → statement M
-by-address-spec =
+pub by_address_spec : {M : Type 1} → statement M
+by_address_spec =
     tie.close
     (tie.spec
     (λ c κs. search rules)

@@ -4,5 +4,5 @@ use borrow.Author.Rules.{rules}
 use Rattle.spend.proofs.cut_slots.Statement.{statement}
 use Rattle.spend.proofs.cut_slots.Tie as tie
 
-pub cut-slots-spec : {M : Type 1} → statement M
-cut-slots-spec = tie.close (tie.spec (λ c κs. search rules) (λ c. search (cuts)))
+pub cut_slots_spec : {M : Type 1} → statement M
+cut_slots_spec = tie.close (tie.spec (λ c κs. search rules) (λ c. search (cuts)))

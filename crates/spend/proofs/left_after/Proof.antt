@@ -4,8 +4,8 @@ use Rattle.spend.proofs.Spending.{left_less}
 use Rattle.spend.proofs.left_after.Statement.{statement}
 use Rattle.spend.proofs.left_after.Tie as tie
 
-pub left-after-spec : {M : Type 1} → statement M
-left-after-spec =
+pub left_after_spec : {M : Type 1} → statement M
+left_after_spec =
     tie.close
     (tie.spec
     (λ c κs. search rules)

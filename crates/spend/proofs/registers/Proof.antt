@@ -4,8 +4,8 @@ use borrow.Author.Rules.{rules}
 use Rattle.spend.proofs.registers.Statement.{statement}
 use Rattle.spend.proofs.registers.Tie as tie
 
-pub registers-spec : {M : Type 1} → statement M
-registers-spec =
+pub registers_spec : {M : Type 1} → statement M
+registers_spec =
     tie.close
     (tie.spec
     (λ c κs. search rules)

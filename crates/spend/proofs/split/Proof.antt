@@ -1,14 +1,14 @@
 -- `split` gives what is left, or is in memory where that is nothing.
-use Rattle.spend.proofs.Spending.{split-none, split-some}
+use Rattle.spend.proofs.Spending.{split_none, split_some}
 use borrow.Author.Rules.{rules}
 use Rattle.spend.proofs.split.Statement.{statement}
 use Rattle.spend.proofs.split.Tie as tie
 
-pub split-spec : {M : Type 1} → statement M
-split-spec =
+pub split_spec : {M : Type 1} → statement M
+split_spec =
     tie.close
     (tie.spec
     (λ c κs. search rules)
-    (λ c. search (split-some))
+    (λ c. search (split_some))
     (λ c κs. search rules)
-    (λ c. search (split-none)))
+    (λ c. search (split_none)))

@@ -5,8 +5,8 @@ use Rattle.spend.specs.declared.Way.TheVariants.{Ignore, Direct, Pieces, Referen
 use Rattle.spend.proofs.way_from.Statement.{statement}
 use Rattle.spend.proofs.way_from.Tie as tie
 
-pub way-from-spec : {M : Type 1} → statement M
-way-from-spec =
+pub way_from_spec : {M : Type 1} → statement M
+way_from_spec =
     tie.close
     (tie.spec
     (λ c. rw c.match.keys1)

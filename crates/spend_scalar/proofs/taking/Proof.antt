@@ -4,8 +4,8 @@ use borrow.Author.Rules.{rules}
 use Rattle.spend_scalar.proofs.taking.Statement.{statement}
 use Rattle.spend_scalar.proofs.taking.Tie as tie
 
-pub taking-spec : {M : Type 1} → statement M
-taking-spec =
+pub taking_spec : {M : Type 1} → statement M
+taking_spec =
     tie.close
     (tie.spec
     (λ c κs. search rules)

@@ -2,13 +2,13 @@
 use Prim.Native.Nat.{◌≤◌}
 use native.Mathlib.Omega.{arith}
 use borrow.Author.Rules.{rules}
-use Rattle.shape.specs.Numbers.{most-word}
-use Rattle.stack_place.proofs.Placing.{aggregate-ignored, aggregate-direct, aggregate-slots, aggregate-pointer, aggregate-memory}
+use Rattle.shape.specs.Numbers.{most_word}
+use Rattle.stack_place.proofs.Placing.{aggregate_ignored, aggregate_direct, aggregate_slots, aggregate_pointer, aggregate_memory}
 use Rattle.stack_place.proofs.aggregate_bytes.Statement.{statement}
 use Rattle.stack_place.proofs.aggregate_bytes.Tie as tie
 
-pub aggregate-bytes-spec : {M : Type 1} → statement M
-aggregate-bytes-spec =
+pub aggregate_bytes_spec : {M : Type 1} → statement M
+aggregate_bytes_spec =
     tie.close
     (tie.spec
     (λ c. search rules)
@@ -19,8 +19,8 @@ aggregate-bytes-spec =
     (λ c. search rules)
     (λ c κs. search rules)
     (λ c. search rules)
-    (λ c. search (aggregate-ignored))
-    (λ c. let l : c.before.before.args.size ≤ most-word = omega arith in search (aggregate-direct, l))
-    (λ c. search (aggregate-slots))
-    (λ c. let l : c.before.before.before.args.width ≤ most-word = omega arith in search (aggregate-pointer, l))
-    (λ c. let l : c.before.before.args.size ≤ most-word = omega arith in search (aggregate-memory, l)))
+    (λ c. search (aggregate_ignored))
+    (λ c. let l : c.before.before.args.size ≤ most_word = omega arith in search (aggregate_direct, l))
+    (λ c. search (aggregate_slots))
+    (λ c. let l : c.before.before.before.args.width ≤ most_word = omega arith in search (aggregate_pointer, l))
+    (λ c. let l : c.before.before.args.size ≤ most_word = omega arith in search (aggregate_memory, l)))

@@ -1,11 +1,11 @@
 -- `is_held` is by the way.
 use borrow.Author.Rules.{rules}
-use Rattle.stack_place.proofs.Placing.{held-slots, held-address}
+use Rattle.stack_place.proofs.Placing.{held_slots, held_address}
 use Rattle.stack_place.proofs.is_held.Statement.{statement}
 use Rattle.stack_place.proofs.is_held.Tie as tie
 
-pub is-held-spec : {M : Type 1} → statement M
-is-held-spec =
+pub is_held_spec : {M : Type 1} → statement M
+is_held_spec =
     tie.close
     (tie.spec
     (λ c. search rules)
@@ -16,6 +16,6 @@ is-held-spec =
     (λ c. search rules)
     (λ c. search rules)
     (λ c. search rules)
-    (λ c. search (held-slots))
-    (λ c. search (held-address))
+    (λ c. search (held_slots))
+    (λ c. search (held_address))
     (λ c. search rules))

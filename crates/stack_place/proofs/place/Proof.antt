@@ -4,8 +4,8 @@ use Rattle.stack_place.proofs.Placing.{place_is}
 use Rattle.stack_place.proofs.place.Statement.{statement}
 use Rattle.stack_place.proofs.place.Tie as tie
 
-pub place-spec : {M : Type 1} → statement M
-place-spec =
+pub place_spec : {M : Type 1} → statement M
+place_spec =
     tie.close
     (tie.spec
     (λ c κs. search rules)

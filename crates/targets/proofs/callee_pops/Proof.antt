@@ -3,5 +3,5 @@ use Rattle.targets.proofs.PopLaws.{pops}
 use Rattle.targets.proofs.callee_pops.Statement.{statement}
 use Rattle.targets.proofs.callee_pops.Tie as tie
 
-pub callee-pops-spec : {M : Type 1} → statement M
-callee-pops-spec = tie.close (tie.spec (λ c. pops c.args.convention))
+pub callee_pops_spec : {M : Type 1} → statement M
+callee_pops_spec = tie.close (tie.spec (λ c. pops c.args.convention))

@@ -5,8 +5,8 @@ use borrow.Author.Rules.{rules}
 use Rattle.targets_main.proofs.flush.Statement.{statement}
 use Rattle.targets_main.proofs.flush.Tie as tie
 
-pub flush-spec : {M : Type 1} → statement M
-flush-spec =
+pub flush_spec : {M : Type 1} → statement M
+flush_spec =
     tie.close
     (tie.spec
     (λ c. simp length-take (omega arith))

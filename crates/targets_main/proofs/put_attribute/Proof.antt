@@ -5,8 +5,8 @@ use borrow.Author.Rules.{rules}
 use Rattle.targets_main.proofs.put_attribute.Statement.{statement}
 use Rattle.targets_main.proofs.put_attribute.Tie as tie
 
-pub put-attribute-spec : {M : Type 1} → statement M
-put-attribute-spec =
+pub put_attribute_spec : {M : Type 1} → statement M
+put_attribute_spec =
     tie.close
     (tie.spec
     (λ c. search rules)

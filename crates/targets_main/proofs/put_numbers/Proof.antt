@@ -12,8 +12,8 @@ invariant-loop out₀ from i at₀ k₀ k-end out at k = length out ≡ length o
 abbrev decreases-loop : tie.decreases-loop
 decreases-loop out₀ from i at₀ k₀ k-end out at k = k-end - k
 
-pub put-numbers-spec : {M : Type 1} → statement M
-put-numbers-spec =
+pub put_numbers_spec : {M : Type 1} → statement M
+put_numbers_spec =
     tie.close
     (tie.spec
     invariant-loop

@@ -12,8 +12,8 @@ invariant-loop out₀ from unknown at₀ i₀ out at i = length out ≡ length o
 abbrev decreases-loop : tie.decreases-loop
 decreases-loop out₀ from unknown at₀ i₀ out at i = 2790 - i
 
-pub section-spec : {M : Type 1} → statement M
-section-spec =
+pub section_spec : {M : Type 1} → statement M
+section_spec =
     tie.close
     (tie.spec
     invariant-loop

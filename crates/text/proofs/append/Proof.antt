@@ -4,7 +4,7 @@ use mathlib.Core.Path.{◌≡◌, refl}
 use native.Mathlib.Omega.{arith}
 use lib.ListN.{length, length-set}
 use lib.Seq.{paste, paste-zero}
-use Rattle.text.proofs.Copy.{left_out, copy-next, copy-end, copy_done}
+use Rattle.text.proofs.Copy.{left_out, copy_next, copy_end, copy_done}
 use Rattle.text.proofs.append.Statement.{statement}
 use Rattle.text.proofs.append.Tie as tie
 
@@ -14,8 +14,8 @@ invariant-loop out₀ at bytes i₀ out i = (i ≤ length bytes) × (length out 
 abbrev decreases-loop : tie.decreases-loop
 decreases-loop out₀ at bytes i₀ out i = length bytes - i
 
-pub append-spec : {M : Type 1} → statement M
-append-spec =
+pub append_spec : {M : Type 1} → statement M
+append_spec =
     tie.close
     (tie.spec
     invariant-loop
@@ -29,7 +29,7 @@ append-spec =
     (λ c. omega arith)
     (λ c. omega arith)
     (λ c. omega arith)
-    (λ c. (omega arith, simp length-set (omega arith), search (copy-next)))
+    (λ c. (omega arith, simp length-set (omega arith), search (copy_next)))
     (λ c. omega arith)
     (λ c. omega arith)
-    (λ c. (search (copy-end), search (copy_done))))
+    (λ c. (search (copy_end), search (copy_done))))

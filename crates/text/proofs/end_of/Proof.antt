@@ -3,27 +3,27 @@ use Prim.Native.Nat.{◌-◌}
 use mathlib.Core.Path.{◌≡◌, refl}
 use lib.ListN.{length}
 use borrow.Author.Rules.{rules}
-use Rattle.text.specs.Text.{endFrom}
-use Rattle.text.proofs.Dots.{end-dot, end-next, end-last}
+use Rattle.text.specs.Text.{end_from}
+use Rattle.text.proofs.Dots.{end_dot, end_next, end_last}
 use Rattle.text.proofs.end_of.Statement.{statement}
 use Rattle.text.proofs.end_of.Tie as tie
 
 abbrev invariant-loop : tie.invariant-loop
-invariant-loop texts start end₀ end = endFrom texts start ≡ endFrom texts end
+invariant-loop texts start end₀ end = end_from texts start ≡ end_from texts end
 
 abbrev decreases-loop : tie.decreases-loop
 decreases-loop texts start end₀ end = length texts - end
 
-pub end-of-spec : {M : Type 1} → statement M
-end-of-spec =
+pub end_of_spec : {M : Type 1} → statement M
+end_of_spec =
     tie.close
     (tie.spec
     invariant-loop
     decreases-loop
     (λ c. refl)
     (λ c. search rules)
-    (λ c. search (end-dot))
+    (λ c. search (end_dot))
     (λ c. search rules)
     (λ c. search rules)
-    (λ c. search (end-next))
-    (λ c. search (end-last)))
+    (λ c. search (end_next))
+    (λ c. search (end_last)))

@@ -1,6 +1,6 @@
 -- `put` meets its contract: what fits is appended to nothing.
 use borrow.Author.Rules.{rules}
-use Rattle.text.proofs.Copy.{refused, put-answer}
+use Rattle.text.proofs.Copy.{refused, put_answer_lem}
 use Rattle.text.proofs.put.Statement.{statement}
 use Rattle.text.proofs.put.Tie as tie
 
@@ -11,4 +11,4 @@ put_spec =
     (λ c. search (refused))
     (λ c κs. search rules)
     (λ c. search rules)
-    (λ c. (search (put-answer), search rules)))
+    (λ c. (search (put_answer_lem), search rules)))

@@ -1,17 +1,17 @@
 -- `put_decimal` writes one digit by itself, and more by `put_digits`.
 use borrow.Author.Rules.{rules}
-use Rattle.text.proofs.Digits.{decimal-one-digit}
+use Rattle.text.proofs.Digits.{decimal_one_digit}
 use Rattle.text.proofs.put_decimal.Statement.{statement}
 use Rattle.text.proofs.put_decimal.Tie as tie
 
-pub put-decimal-spec : {M : Type 1} → statement M
-put-decimal-spec =
+pub put_decimal_spec : {M : Type 1} → statement M
+put_decimal_spec =
     tie.close
     (tie.spec
     (λ c κs. search rules)
     (λ c κs. search rules)
     (λ c. search rules)
-    (λ c. search (decimal-one-digit))
+    (λ c. search (decimal_one_digit))
     (λ c κs. search rules)
     (λ c. search rules)
     (λ c. search rules))

@@ -1,13 +1,13 @@
 -- `entry_at` reads an entry.
 use mathlib.Core.Path.{ap}
-use Rattle.types.specs.Entries.{entryFrom}
+use Rattle.types.specs.Entries.{entry_from}
 use borrow.Author.Rules.{rules}
 use Rattle.types.proofs.entry_at.Statement.{statement}
 use Rattle.types.proofs.entry_at.Tie as tie
 
-pub entry-at-spec : {M : Type 1} → statement M
-entry-at-spec =
+pub entry_at_spec : {M : Type 1} → statement M
+entry_at_spec =
     tie.close
     (tie.spec
     (λ c κs. search rules)
-    (λ c. ap entryFrom c.four-at.ensures))
+    (λ c. ap entry_from c.four-at.ensures))

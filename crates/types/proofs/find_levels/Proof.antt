@@ -5,16 +5,16 @@ use mathlib.Core.Path.{◌≡◌, refl}
 use native.Mathlib.Nat.{sub-zero}
 use lib.ListN.{length, length-set}
 use native.Mathlib.Omega.{arith}
-use Rattle.types.specs.Entries.{allReferBack}
+use Rattle.types.specs.Entries.{all_refer_back}
 use Rattle.types.specs.Table.{Levelled}
-use Rattle.types.proofs.Levels.{levels-late, levels-next, levels-more, levels-end, levels-all, levels-unclaimed, levels-none}
+use Rattle.types.proofs.Levels.{levels_late, levels_next, levels_more, levels_end, levels_all, levels_unclaimed, levels_none}
 use borrow.Author.Rules.{rules}
 use Rattle.types.proofs.find_levels.Statement.{statement}
 use Rattle.types.proofs.find_levels.Tie as tie
 
 abbrev invariant-loop : tie.invariant-loop
 invariant-loop types members levels₀ n e₀ levels e =
-    (e ≤ n) × (length levels ≡ length levels₀) × (allReferBack types members 0 n ≡ allReferBack types members e (n - e)) × Levelled types members levels e
+    (e ≤ n) × (length levels ≡ length levels₀) × (all_refer_back types members 0 n ≡ all_refer_back types members e (n - e)) × Levelled types members levels e
 
 abbrev decreases-loop : tie.decreases-loop
 decreases-loop types members levels₀ n e₀ levels e = n - e
@@ -26,25 +26,25 @@ loop-again c =
     let i = l.before.loop.invariant in (
       omega arith,
       simp length-set (omega arith),
-      search (levels-next),
-      levels-more _ _ _ _ _ l.loop-test.true i.2 i.3 _ x.entry_at.ensures _ c.before.level.ensures c.if1.false (omega arith),
+      search (levels_next),
+      levels_more _ _ _ _ _ l.loop-test.true i.2 i.3 _ x.entry_at.ensures _ c.before.level.ensures c.if1.false (omega arith),
     )
 
-pub find-levels-spec : {M : Type 1} → statement M
-find-levels-spec =
+pub find_levels_spec : {M : Type 1} → statement M
+find_levels_spec =
     tie.close
     (tie.spec
     invariant-loop
     decreases-loop
-    (λ c. (omega arith, refl, rw sub-zero, levels-none _ _ _))
+    (λ c. (omega arith, refl, rw sub-zero, levels_none _ _ _))
     (λ c κs. search rules)
     (λ c κs. search rules)
     (λ c. omega arith)
-    (λ c. (search (levels-late), levels-unclaimed _ _ _ _))
+    (λ c. (search (levels_late), levels_unclaimed _ _ _ _))
     (λ c. search rules)
     (λ c. search rules)
     (λ c. search rules)
     (λ c. search rules)
     loop-again
     (λ c. omega arith)
-    (λ c. (search (levels-end), λ q. search (levels-all))))
+    (λ c. (search (levels_end), λ q. search (levels_all))))

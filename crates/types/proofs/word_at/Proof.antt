@@ -4,8 +4,8 @@ use borrow.Author.Rules.{rules}
 use Rattle.types.proofs.word_at.Statement.{statement}
 use Rattle.types.proofs.word_at.Tie as tie
 
-pub word-at-spec : {M : Type 1} → statement M
-word-at-spec =
+pub word_at_spec : {M : Type 1} → statement M
+word_at_spec =
     tie.close
     (tie.spec
     (λ c. search (no_word))

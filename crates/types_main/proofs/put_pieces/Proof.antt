@@ -13,8 +13,8 @@ invariant-loop text₀ from count words at₀ i₀ i-end text at i =
 abbrev decreases-loop : tie.decreases-loop
 decreases-loop text₀ from count words at₀ i₀ i-end text at i = i-end - i
 
-pub put-pieces-spec : {M : Type 1} → statement M
-put-pieces-spec =
+pub put_pieces_spec : {M : Type 1} → statement M
+put_pieces_spec =
     tie.close
     (tie.spec
     invariant-loop

@@ -4,8 +4,8 @@ use Rattle.varargs.proofs.Lists.{scalar-laws}
 use Rattle.varargs.proofs.check_unnamed.Statement.{statement}
 use Rattle.varargs.proofs.check_unnamed.Tie as tie
 
-pub check-unnamed-spec : {M : Type 1} → statement M
-check-unnamed-spec =
+pub check_unnamed_spec : {M : Type 1} → statement M
+check_unnamed_spec =
     tie.close
     (tie.spec
     (λ c. search scalar-laws)

@@ -2,17 +2,17 @@
 use mathlib.Core.Path.{◌∙◌}
 use borrow.Author.Rules.{rules}
 use native.Mathlib.Omega.{arith}
-use Rattle.varargs.proofs.Lists.{rounded-small, integers-left, integers-gone}
+use Rattle.varargs.proofs.Lists.{rounded_small, integers_left, integers_gone}
 use Rattle.varargs.proofs.in_integers.Statement.{statement}
 use Rattle.varargs.proofs.in_integers.Tie as tie
 
-pub in-integers-spec : {M : Type 1} → statement M
-in-integers-spec =
+pub in_integers_spec : {M : Type 1} → statement M
+in_integers_spec =
     tie.close
     (tie.spec
     (λ c κs. search rules)
-    (λ c. omega (arith, rounded-small _ c.before.before.requires _ c.rounded.ensures))
+    (λ c. omega (arith, rounded_small _ c.before.before.requires _ c.rounded.ensures))
     (λ c. search rules)
-    (λ c. search (integers-left))
+    (λ c. search (integers_left))
     (λ c κs. search rules)
-    (λ c. c.in-overflow.ensures ∙ search (integers-gone)))
+    (λ c. c.in-overflow.ensures ∙ search (integers_gone)))

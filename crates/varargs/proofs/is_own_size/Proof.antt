@@ -1,12 +1,12 @@
 -- `is_own_size`: the tests that led to a `return` pick the kind's sizes.
 use borrow.Author.Tests.{eq-eqb, ne_eqb}
-use Rattle.varargs.specs.Lists.{isOwnSize}
+use Rattle.varargs.specs.Lists.{is_own_size}
 use Rattle.varargs.proofs.is_own_size.Statement.{statement}
 use Rattle.varargs.proofs.is_own_size.Tie as tie
 
-pub is-own-size-spec : {M : Type 1} → statement M
-unfolding isOwnSize
-is-own-size-spec =
+pub is_own_size_spec : {M : Type 1} → statement M
+unfolding is_own_size
+is_own_size_spec =
     tie.close
     (tie.spec
     (λ c. rw (eq-eqb _ _ c.if1.true))

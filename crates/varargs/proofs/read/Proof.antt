@@ -46,7 +46,7 @@ use Rattle.varargs.specs.declared.Offsets.{Offsets}
 use Rattle.varargs.specs.declared.Located.{Located}
 use Rattle.varargs.specs.declared.Reading.{Reading}
 use Rattle.varargs.specs.Lists.{located, part_of, Inside}
-use Rattle.varargs.proofs.Lists.{located-inside, shown-so}
+use Rattle.varargs.proofs.Lists.{located_inside, shown_so}
 use Rattle.varargs.specs.contracts.Offsets as P
 use Rattle.varargs.proofs.Offsets.TheLaws as P'
 use Rattle.varargs.specs.contracts.Located as L
@@ -54,13 +54,13 @@ use Rattle.varargs.proofs.Located.TheLaws as L'
 use Rattle.varargs.specs.contracts.Reading as R
 use Rattle.varargs.proofs.Reading.TheLaws as R'
 use Rattle.varargs.specs.contracts.find as find
-use Rattle.varargs.proofs.find.Symbol as find-def
+use Rattle.varargs.proofs.find.Symbol as find_def
 use Rattle.varargs.proofs.find.Symbol.{name as #find}
-use Rattle.varargs.proofs.find.Met as find-thm
+use Rattle.varargs.proofs.find.Met as find_thm
 use Rattle.varargs.specs.contracts.part as part
-use Rattle.varargs.proofs.part.Symbol as part-def
+use Rattle.varargs.proofs.part.Symbol as part_def
 use Rattle.varargs.proofs.part.Symbol.{name as #part}
-use Rattle.varargs.proofs.part.Met as part-thm
+use Rattle.varargs.proofs.part.Met as part_thm
 use Rattle.varargs.specs.contracts.read.Key.{name as #read}
 use Rattle.varargs.specs.contracts.read as read
 use Rattle.varargs.proofs.read.Statement as stated
@@ -120,29 +120,29 @@ module _ {M : Type 1} {𝓤 : Ura M} (𝓛 : Logic 𝓤) (mem : Memory → SProp
   abbrev is_found : Located → Type 0
   is_found r = r ≡ located (length sv.now) (length ov.now) p s
 
-  abbrev is-part : Located → Bor (List ℕ) → Type 0
-  is-part r x = x.now ≡ part_of sv.now ov.now r
+  abbrev is_part : Located → Bor (List ℕ) → Type 0
+  is_part r x = x.now ≡ part_of sv.now ov.now r
 
   abbrev made : Located → Bor (List ℕ) → Reading
   made r x = record { refusal = r.refusal; part = x; next = r.next }
 
   -- the parameters' facts
   pub record Facts : Type 0 where
-    pub p-is : Is P.the_row p (vp ∷ [])
-    pub s-is : Is S.the_row s (vc ∷ [])
+    pub p_is : Is P.the_row p (vp ∷ [])
+    pub s_is : Is S.the_row s (vc ∷ [])
 
   -- the call of `find`
-  abbrev to-find : (Find 𝓛 mem run).Ghost
-  to-find = (((κ, tt), (q, tt), tt, args, vals), tt)
+  abbrev to_find : (Find 𝓛 mem run).Ghost
+  to_find = (((κ, tt), (q, tt), tt, args, vals), tt)
 
-  goes-find : Facts → ent 𝓤 (⋆ 𝓛 (token ∷ ‵ Save ∷ ‵ Over ∷ [])) ((Find 𝓛 mem run).pre to-find)
-  goes-find g =
-      qed 𝓛 (token ∷ ‵ Save ∷ ‵ Over ∷ []) ∵ nothing ! $ owned ! S.the_row (Is S.the_row) (LL.makes S.the_type S'.the_plain 𝓛) s _ g.s-is $ fjoin ! $
-      owned ! P.the_row (Is P.the_row) (LL.makes P.the_type P'.the_plain 𝓛) p _ g.p-is $ fjoin ! $
+  goes_find : Facts → ent 𝓤 (⋆ 𝓛 (token ∷ ‵ Save ∷ ‵ Over ∷ [])) ((Find 𝓛 mem run).pre to_find)
+  goes_find g =
+      qed 𝓛 (token ∷ ‵ Save ∷ ‵ Over ∷ []) ∵ nothing ! $ owned ! S.the_row (Is S.the_row) (LL.makes S.the_type S'.the_plain 𝓛) s _ g.s_is $ fjoin ! $
+      owned ! P.the_row (Is P.the_row) (LL.makes P.the_type P'.the_plain 𝓛) p _ g.p_is $ fjoin ! $
       move ! (3 ∷ 0 ∷ []) $ fjoin ! $ move ! (2 ∷ 0 ∷ []) $ fjoin ! $ move ! (1 ∷ 0 ∷ []) $ join ! $ frame ! $ done !
 
-  find-said : (r : Located) → ent 𝓤 (ensured 𝓛 find.ended (find.clauses 𝓛 mem run) (κ, tt) args tt r) (fact 𝓤 (is_found r))
-  find-said r = ex_e 𝓤 _ (λ ws. snd∗ 𝓤 (sem 𝓛 (lasts find.ended (κ, tt) args ws)) (fact 𝓤 (is_found r)))
+  find_said : (r : Located) → ent 𝓤 (ensured 𝓛 find.ended (find.clauses 𝓛 mem run) (κ, tt) args tt r) (fact 𝓤 (is_found r))
+  find_said r = ex_e 𝓤 _ (λ ws. snd∗ 𝓤 (sem 𝓛 (lasts find.ended (κ, tt) args ws)) (fact 𝓤 (is_found r)))
 
   -- the call of `part`, on what was located
   abbrev vl : Located → Val
@@ -151,37 +151,37 @@ module _ {M : Type 1} {𝓤 : Ura M} (𝓛 : Logic 𝓤) (mem : Memory → SProp
   abbrev to_part : Located → (Part 𝓛 mem run).Ghost
   to_part r = (((κ, tt), (q, tt), tt, (sv, (ov, (r, tt))), (vs ∷ [], (vo ∷ [], (vl r ∷ [], tt)))), tt)
 
-  goes-part : (r : Located) → Inside (length sv.now) (length ov.now) r → Is L.the_row r (vl r ∷ []) → ent 𝓤 (⋆ 𝓛 (token ∷ ‵ Save ∷ ‵ Over ∷ [])) ((Part 𝓛 mem run).pre (to_part r))
-  goes-part r inside is =
+  goes_part : (r : Located) → Inside (length sv.now) (length ov.now) r → Is L.the_row r (vl r ∷ []) → ent 𝓤 (⋆ 𝓛 (token ∷ ‵ Save ∷ ‵ Over ∷ [])) ((Part 𝓛 mem run).pre (to_part r))
+  goes_part r inside is =
       qed 𝓛 (token ∷ ‵ Save ∷ ‵ Over ∷ []) ∵ says ! inside $ frame ! $ nothing ! $ owned ! L.the_row (Is L.the_row) (LL.makes L.the_type L'.the_plain 𝓛) r _ is $ fjoin ! $
       move ! (2 ∷ 0 ∷ []) $ fjoin ! $ move ! (1 ∷ 0 ∷ []) $ fjoin ! $ done !
 
-  part-said : (r : Located) (x : Bor (List ℕ)) → ent 𝓤 (ensured 𝓛 part.ended (part.clauses 𝓛 mem run) (κ, tt) (sv, (ov, (r, tt))) tt x) (fact 𝓤 (is-part r x))
-  part-said r x = ex_e 𝓤 _ (λ ws. snd∗ 𝓤 (sem 𝓛 (lasts part.ended (κ, tt) (sv, (ov, (r, tt))) ws)) (fact 𝓤 (is-part r x)))
+  part_said : (r : Located) (x : Bor (List ℕ)) → ent 𝓤 (ensured 𝓛 part.ended (part.clauses 𝓛 mem run) (κ, tt) (sv, (ov, (r, tt))) tt x) (fact 𝓤 (is_part r x))
+  part_said r x = ex_e 𝓤 _ (λ ws. snd∗ 𝓤 (sem 𝓛 (lasts part.ended (κ, tt) (sv, (ov, (r, tt))) ws)) (fact 𝓤 (is_part r x)))
 
   -- what whoever holds what was located knows, at the value written out, and of its parts
-  found-is : (r : Located) (w : Val) → Is L.the_row r (w ∷ []) → Is L.the_row r (vl r ∷ [])
-  found-is r w is = LL.owes L.the_type L'.the_laws r (LL.owed L.the_type L'.the_laws r _ is)
+  found_is : (r : Located) (w : Val) → Is L.the_row r (w ∷ []) → Is L.the_row r (vl r ∷ [])
+  found_is r w is = LL.owes L.the_type L'.the_laws r (LL.owed L.the_type L'.the_laws r _ is)
 
   inside_found : (r : Located) → is_found r → Inside (length sv.now) (length ov.now) r
-  inside_found r e = rw e (located-inside (length sv.now) (length ov.now) p s)
+  inside_found r e = rw e (located_inside (length sv.now) (length ov.now) p s)
 
   abbrev vx : Bor (List ℕ) → Val
   vx x = slice_val x.ref_ptr (length x.now)
 
-  part-is : (x : Bor (List ℕ)) (w : Val) → Is (ShrSlice (named 0) κ u8) x (w ∷ []) → Is (ShrSlice (named 0) κ u8) x (vx x ∷ [])
-  part-is x w is = rw (shr_slice_Tells (named 0) κ u8 x (w ∷ []) is) at is
+  part_is : (x : Bor (List ℕ)) (w : Val) → Is (ShrSlice (named 0) κ u8) x (w ∷ []) → Is (ShrSlice (named 0) κ u8) x (vx x ∷ [])
+  part_is x w is = rw (shr_slice_Tells (named 0) κ u8 x (w ∷ []) is) at is
 
-  made-is : (r : Located) (x : Bor (List ℕ)) → Is (ShrSlice (named 0) κ u8) x (vx x ∷ []) → Is L.the_row r (vl r ∷ []) → Is (R.the_row α) (made r x) (LL.vals (R.the_type α) (R'.the_laws α) (made r x))
-  made-is r x g is = LL.owes (R.the_type α) (R'.the_laws α) (made r x) ((LL.owed L.the_type L'.the_laws r _ is).0, (g, ((LL.owed L.the_type L'.the_laws r _ is).1.1.1.1.0, tt)))
+  made_is : (r : Located) (x : Bor (List ℕ)) → Is (ShrSlice (named 0) κ u8) x (vx x ∷ []) → Is L.the_row r (vl r ∷ []) → Is (R.the_row α) (made r x) (LL.vals (R.the_type α) (R'.the_laws α) (made r x))
+  made_is r x g is = LL.owes (R.the_type α) (R'.the_laws α) (made r x) ((LL.owed L.the_type L'.the_laws r _ is).0, (g, ((LL.owed L.the_type L'.the_laws r _ is).1.1.1.1.0, tt)))
 
-  exits : Facts → (r : Located) (x : Bor (List ℕ)) → is_found r → is-part r x → Is L.the_row r (vl r ∷ [])
+  exits : Facts → (r : Located) (x : Bor (List ℕ)) → is_found r → is_part r x → Is L.the_row r (vl r ∷ [])
       → ent 𝓤 (⋆ 𝓛 (‵ ((ShrSlice (named 0) κ u8).own_val x (vx x ∷ [])) ∷ token ∷ ‵ Save ∷ ‵ Over ∷ [])) (Post (LL.val (R.the_type α) (R'.the_laws α) (made r x)))
   exits g r x e₁ e₂ is =
       qed 𝓛 (‵ ((ShrSlice (named 0) κ u8).own_val x (vx x ∷ [])) ∷ token ∷ ‵ Save ∷ ‵ Over ∷ []) ∵
       suffices ! _ (ends_at 𝓛 read.ended stayed (read.clauses 𝓛 mem run) (((κ, tt), (q, tt), tt, args, vals), tt) (LL.val (R.the_type α) (R'.the_laws α) (made r x)) (made r x) (tt, (tt, (tt, (tt, tt)))) (tt, (tt, (tt, (tt, tt))))) $
-      says ! (shown-so sv.now ov.now _ r x.now e₁ e₂) $ move ! (1 ∷ []) $ frame ! $
-      nothing ! $ owned ! S.the_row (Is S.the_row) (LL.makes S.the_type S'.the_plain 𝓛) s _ g.s-is $ fjoin ! $ owned ! P.the_row (Is P.the_row) (LL.makes P.the_type P'.the_plain 𝓛) p _ g.p-is $ fjoin ! $
+      says ! (shown_so sv.now ov.now _ r x.now e₁ e₂) $ move ! (1 ∷ []) $ frame ! $
+      nothing ! $ owned ! S.the_row (Is S.the_row) (LL.makes S.the_type S'.the_plain 𝓛) s _ g.s_is $ fjoin ! $ owned ! P.the_row (Is P.the_row) (LL.makes P.the_type P'.the_plain 𝓛) p _ g.p_is $ fjoin ! $
       move ! (3 ∷ 0 ∷ []) $ fjoin ! $ move ! (2 ∷ 0 ∷ []) $ fjoin ! $ frame ! $
       -- [what the part owns]: with the refusal and the offsets, what the struct owns
       nothing ! $ owned ! P.the_row (Is P.the_row) (LL.makes P.the_type P'.the_plain 𝓛) r.next _ (LL.owed L.the_type L'.the_laws r _ is).1.1.1.1.0 $ fjoin ! $ move ! (1 ∷ 0 ∷ []) $ fjoin ! $
@@ -193,41 +193,41 @@ module _ {M : Type 1} {𝓤 : Ura M} (𝓛 : Logic 𝓤) (mem : Memory → SProp
         qed 𝓛 (token ∷ ‵ (owns (ShrSlice (named 0) κ u8 ∷ ShrSlice (named 0) κ u8 ∷ P.the_row ∷ S.the_row ∷ []) args vals) ∷ []) ∵ enter ! C Λ code.function (vs ∷ vo ∷ vp ∷ vc ∷ []) _ $
         alloc1 ! (λ l₀. alloc1 ! (λ l₁. alloc1 ! (λ l₂. alloc1 ! (λ l₃. alloc1 ! (λ l₄. alloc1 ! (λ l₅. alloc1 ! (λ l₆. alloc0 ! $ params1 ! $
         pass1 ! (init ! 10 refl ((shr_slice_Lawful 𝓛 (named 0) κ u8).typed sv (vs ∷ []) gs).0) $ pass1 ! (init ! 8 refl ((shr_slice_Lawful 𝓛 (named 0) κ u8).typed ov (vo ∷ []) go).0) $
-        pass1 ! (init ! 6 refl ((LL.lawful P.the_type P'.the_laws 𝓛).typed p _ g.p-is).0) $ pass1 ! (init ! 4 refl ((LL.lawful S.the_type S'.the_laws 𝓛).typed s _ g.s-is).0) $ pass0 ! $
+        pass1 ! (init ! 6 refl ((LL.lawful P.the_type P'.the_laws 𝓛).typed p _ g.p_is).0) $ pass1 ! (init ! 4 refl ((LL.lawful S.the_type S'.the_laws 𝓛).typed s _ g.s_is).0) $ pass0 ! $
         -- what the areas own is had three times
         move ! (15 ∷ []) $ fsplit ! $ use1 𝓛 (‵ Save ⊛ ‵ Save) ((shr_slice_copy 𝓛 (named 0) κ u8).twice sv (vs ∷ [])) $ split ! $ use1 𝓛 (‵ Save ⊛ ‵ Save) ((shr_slice_copy 𝓛 (named 0) κ u8).twice sv (vs ∷ [])) $ split ! $
         move ! (3 ∷ []) $ fsplit ! $ use1 𝓛 (‵ Over ⊛ ‵ Over) ((shr_slice_copy 𝓛 (named 0) κ u8).twice ov (vo ∷ [])) $ split ! $ use1 𝓛 (‵ Over ⊛ ‵ Over) ((shr_slice_copy 𝓛 (named 0) κ u8).twice ov (vo ∷ [])) $ split ! $
         -- [Over; Over; Over; what the rest owns; Save; Save; Save; _6; …; the token]
-        move ! (21 ∷ 4 ∷ 0 ∷ []) $ use3 𝓛 (raw ((Find 𝓛 mem run).pre to-find)) (goes-find g) $
+        move ! (21 ∷ 4 ∷ 0 ∷ []) $ use3 𝓛 (raw ((Find 𝓛 mem run).pre to_find)) (goes_find g) $
         -- [what `find` asks; Over; Over; the rest; Save; Save; _6; …; _5; …; _4; …; _3; …; _2; …; _1; …; room for _0; …]
-        calls_at ! fm (Find 𝓛 mem run) known-find to-find (and_then ! (load ! (from ! (stop !)) (look ! 16 refl)) (and_then ! (load ! (from ! (stop !)) (look ! 14 refl)) (and_then ! (load ! (from ! (stop !)) (look ! 12 refl)) (and_then ! (load ! (from ! (stop !)) (look ! 10 refl)) (no_more !))))) (λ w.
+        calls_at ! fm (Find 𝓛 mem run) known-find to_find (and_then ! (load ! (from ! (stop !)) (look ! 16 refl)) (and_then ! (load ! (from ! (stop !)) (look ! 14 refl)) (and_then ! (load ! (from ! (stop !)) (look ! 12 refl)) (and_then ! (load ! (from ! (stop !)) (look ! 10 refl)) (no_more !))))) (λ w.
         use1 𝓛 (later (some (λ (r : Located). (token ⊛ ‵ ((L.the_row).own_val r (w ∷ []))) ⊛ raw (ensured 𝓛 find.ended (find.clauses 𝓛 mem run) (κ, tt) args tt r)))) (id⊢ 𝓤 _) $ await ! tt $ pick ! (λ r.
-        split ! $ move ! (1 ∷ []) $ use1 𝓛 (raw (fact 𝓤 (is_found r))) (find-said r) $ heard ! (is_found r) (λ e₁. split ! $ move ! (1 ∷ []) $ peeks ! L.the_row (Is L.the_row) (shows 𝓛 L.the_row) r (w ∷ []) (λ is. drop ! $
+        split ! $ move ! (1 ∷ []) $ use1 𝓛 (raw (fact 𝓤 (is_found r))) (find_said r) $ heard ! (is_found r) (λ e₁. split ! $ move ! (1 ∷ []) $ peeks ! L.the_row (Is L.the_row) (shows 𝓛 L.the_row) r (w ∷ []) (λ is. drop ! $
         -- [the token; Over; Over; the rest; Save; Save; _6; …; room for _5; …]
         land ! (from ! (stop !)) (init ! 8 refl ((LL.lawful L.the_type L'.the_laws 𝓛).typed r _ is).0) $ rewrite ! 8 (λ (u : Val). ‵ (fat full_share L'.mir l₅ 0 u)) (ap only (LL.tells L.the_type L'.the_laws r _ is)) refl $
-        move ! (0 ∷ 4 ∷ 1 ∷ []) $ use3 𝓛 (raw ((Part 𝓛 mem run).pre (to_part r))) (goes-part r (inside_found r e₁) (found-is r w is)) $
+        move ! (0 ∷ 4 ∷ 1 ∷ []) $ use3 𝓛 (raw ((Part 𝓛 mem run).pre (to_part r))) (goes_part r (inside_found r e₁) (found_is r w is)) $
         -- [what `part` asks; Over; the rest; Save; _6; …; _5; …; _4; …; _3; …; _2; …; _1; …; room for _0; …]
         calls_at ! fm (Part 𝓛 mem run) known-part (to_part r) (and_then ! (load ! (from ! (stop !)) (look ! 14 refl)) (and_then ! (load ! (from ! (stop !)) (look ! 12 refl)) (and_then ! (load ! (from ! (stop !)) (look ! 6 refl)) (no_more !)))) (λ w'.
         use1 𝓛 (later (some (λ (x : Bor (List ℕ)). (token ⊛ ‵ ((ShrSlice (named 0) κ u8).own_val x (w' ∷ []))) ⊛ raw (ensured 𝓛 part.ended (part.clauses 𝓛 mem run) (κ, tt) (sv, (ov, (r, tt))) tt x)))) (id⊢ 𝓤 _) $ await ! tt $ pick ! (λ x.
-        split ! $ move ! (1 ∷ []) $ use1 𝓛 (raw (fact 𝓤 (is-part r x))) (part-said r x) $ heard ! (is-part r x) (λ e₂. split ! $ move ! (1 ∷ []) $ peeks ! (ShrSlice (named 0) κ u8) (Is (ShrSlice (named 0) κ u8)) (shows 𝓛 (ShrSlice (named 0) κ u8)) x (w' ∷ []) (λ is'.
+        split ! $ move ! (1 ∷ []) $ use1 𝓛 (raw (fact 𝓤 (is_part r x))) (part_said r x) $ heard ! (is_part r x) (λ e₂. split ! $ move ! (1 ∷ []) $ peeks ! (ShrSlice (named 0) κ u8) (Is (ShrSlice (named 0) κ u8)) (shows 𝓛 (ShrSlice (named 0) κ u8)) x (w' ∷ []) (λ is'.
         rewrite ! 0 (λ (us : List Val). ‵ ((ShrSlice (named 0) κ u8).own_val x us)) (shr_slice_Tells (named 0) κ u8 x _ is') refl $
         -- [what the part owns; the token; Over; the rest; Save; room for _6; …; _5; …]
         land ! (from ! (stop !)) (init ! 5 refl ((shr_slice_Lawful 𝓛 erased κ u8).typed x (w' ∷ []) is').0) $ rewrite ! 5 (λ (u : Val). ‵ (fat full_share (slice_ty (ty_ref erased imm (ty_int w8))) l₆ 0 u)) (ap only (shr_slice_Tells (named 0) κ u8 x _ is')) refl $
         -- the refusal, the part and the offsets go into the struct
-        assigns ! (agg ! (and_then ! (load ! (from ! (fld ! refl (stop !))) (look_in ! 7 (sub ! 0 refl (whole !)))) (and_then ! (load ! (from ! (stop !)) (look ! 5 refl)) (and_then ! (load ! (from ! (fld ! refl (stop !))) (look_in ! 7 (sub ! 4 refl (whole !)))) (no_more !))))) (from ! (stop !)) (init ! 17 refl ((LL.lawful (R.the_type α) (R'.the_laws α) 𝓛).typed (made r x) _ (made-is r x (part-is x w' is') (found-is r w is))).0) $
+        assigns ! (agg ! (and_then ! (load ! (from ! (fld ! refl (stop !))) (look_in ! 7 (sub ! 0 refl (whole !)))) (and_then ! (load ! (from ! (stop !)) (look ! 5 refl)) (and_then ! (load ! (from ! (fld ! refl (stop !))) (look_in ! 7 (sub ! 4 refl (whole !)))) (no_more !))))) (from ! (stop !)) (init ! 17 refl ((LL.lawful (R.the_type α) (R'.the_laws α) 𝓛).typed (made r x) _ (made_is r x (part_is x w' is') (found_is r w is))).0) $
         returns ! (look ! 17 refl) $ forget ! 5 refl $ forget ! 7 refl $ forget ! 9 refl $ forget ! 11 refl $ forget ! 13 refl $ forget ! 15 refl $ forget ! 17 refl $
         move ! (17 ∷ 18 ∷ []) $ free1 ! $ move ! (15 ∷ 16 ∷ []) $ free1 ! $ move ! (13 ∷ 14 ∷ []) $ free1 ! $ move ! (11 ∷ 12 ∷ []) $ free1 ! $ move ! (9 ∷ 10 ∷ []) $ free1 ! $ move ! (7 ∷ 8 ∷ []) $ free1 ! $ move ! (5 ∷ 6 ∷ []) $ free1 ! $ free0 ! $
-        keep ! (0 ∷ 1 ∷ 4 ∷ 2 ∷ []) $ by ! (exits g r x e₁ e₂ (found-is r w is)))))))))))))))))
+        keep ! (0 ∷ 1 ∷ 4 ∷ 2 ∷ []) $ by ! (exits g r x e₁ e₂ (found_is r w is)))))))))))))))))
 
 module _ {M : Type 1} {𝓤 : Ura M} (𝓛 : Logic 𝓤) (mem : Memory → SProp 𝓤) (run : Routine → Fun 𝓤) where
   open 𝓛 use {H}
 
-  read-walks : (C : Calls 𝓤 H) (Λ : Loops 𝓤 H) → FmC 𝓤 H 𝓛.laws C → Triple 𝓤 (C #find) (Find 𝓛 mem run) → Triple 𝓤 (C #part) (Part 𝓛 mem run) → Walks 𝓛 read.ended stayed (WpFn 𝓤 H C Λ code.function) (read.clauses 𝓛 mem run)
-  read-walks C Λ fm known-find known-part = walked 𝓛 read.ended stayed (read.clauses 𝓛 mem run) (WpFn 𝓤 H C Λ code.function)
+  read_walks : (C : Calls 𝓤 H) (Λ : Loops 𝓤 H) → FmC 𝓤 H 𝓛.laws C → Triple 𝓤 (C #find) (Find 𝓛 mem run) → Triple 𝓤 (C #part) (Part 𝓛 mem run) → Walks 𝓛 read.ended stayed (WpFn 𝓤 H C Λ code.function) (read.clauses 𝓛 mem run)
+  read_walks C Λ fm known-find known-part = walked 𝓛 read.ended stayed (read.clauses 𝓛 mem run) (WpFn 𝓤 H C Λ code.function)
       (λ κs. (shr_slice_vals, (shr_slice_vals, (LL.vals P.the_type P'.the_laws, (LL.vals S.the_type S'.the_laws, tt)))))
       (λ κs. (shr_slice_Tells (named 0) κs.0 u8, (shr_slice_Tells (named 0) κs.0 u8, (LL.tells P.the_type P'.the_laws, (LL.tells S.the_type S'.the_laws, tt)))))
       (λ κs qs bounds a g are. via 𝓤 _ (fst∗ 𝓤 _ (emp 𝓤)) (walk 𝓛 mem run κs.0 qs.0 a.0 a.1.0 a.1.1.0 a.1.1.1.0 C Λ fm known-find known-part
-      (record { p-is = are.1.1.0; s-is = are.1.1.1.0 }) are.0 are.1.0))
+      (record { p_is = are.1.1.0; s_is = are.1.1.1.0 }) are.0 are.1.0))
 
   all_go : AllGo 𝓛 1 (read.signature).params (read.ended).kept stayed
   all_go = (Goes-none_slice 𝓛 1 (0 ∷ []) tt (plain (λ _. u8)) yes, (Goes-none_slice 𝓛 1 (0 ∷ []) tt (plain (λ _. u8)) yes, (Goes-none 𝓛 1 (λ _. P.the_row) yes (λ κs x f. refl), (Goes-none 𝓛 1 (λ _. S.the_row) yes (λ κs x f. refl), tt))))
@@ -236,7 +236,7 @@ read_meets : {M : Type 1} {𝓤 : Ura M} (𝓛 : Logic 𝓤) → (mem : Memory �
     → Meets 𝓛 read.signature (WpFn 𝓤 𝓛.H 𝓣.C 𝓣.Λ code.function) (read.spec 𝓛 mem run)
 read_meets {𝓤 = 𝓤} 𝓛 mem run 𝓣 known-find known-part =
     walk_Meets 𝓛 read.ended stayed (all_go 𝓛 mem run) (read.clauses 𝓛 mem run)
-    (WpFn 𝓤 𝓛.H 𝓣.C 𝓣.Λ code.function) (WpFn-mono 𝓤 𝓛.H 𝓛.laws 𝓣 code.function) (read-walks 𝓛 mem run 𝓣.C 𝓣.Λ (fm_of 𝓤 𝓛.H 𝓛.laws 𝓣) known-find known-part)
+    (WpFn 𝓤 𝓛.H 𝓣.C 𝓣.Λ code.function) (WpFn-mono 𝓤 𝓛.H 𝓛.laws 𝓣 code.function) (read_walks 𝓛 mem run 𝓣.C 𝓣.Λ (fm_of 𝓤 𝓛.H 𝓛.laws 𝓣) known-find known-part)
 
 pub read_spec : {M : Type 1} → stated.statement M
 unfolding code.routine tables_of
@@ -244,5 +244,5 @@ read_spec 𝓤 𝓛 𝓜 𝓡 =
     entered 𝓤 𝓛.H (triple_of 𝓛 read.signature (read.spec 𝓛 𝓜.mem 𝓡.run))
     (tables 𝓤 𝓛.H 𝓜 𝓡 code.env).C (tables 𝓤 𝓛.H 𝓜 𝓡 code.env).Λ #read code.function (code.unfolded 𝓤 𝓛.H 𝓜 𝓡)
     (read_meets 𝓛 𝓜.mem 𝓡.run (tables_of 𝓤 𝓛.H 𝓜 (tables 𝓤 𝓛.H 𝓜 𝓡 code.env))
-    (cited 𝓤 𝓛.H (Find 𝓛 𝓜.mem 𝓡.run) 𝓜 𝓡 code.env #find find-def.routine code.calls-varargs::find (find-thm.met 𝓤 𝓛 𝓜 𝓡))
-    (cited 𝓤 𝓛.H (Part 𝓛 𝓜.mem 𝓡.run) 𝓜 𝓡 code.env #part part-def.routine code.calls-varargs::part (part-thm.met 𝓤 𝓛 𝓜 𝓡)))
+    (cited 𝓤 𝓛.H (Find 𝓛 𝓜.mem 𝓡.run) 𝓜 𝓡 code.env #find find_def.routine code.calls-varargs::find (find_thm.met 𝓤 𝓛 𝓜 𝓡))
+    (cited 𝓤 𝓛.H (Part 𝓛 𝓜.mem 𝓡.run) 𝓜 𝓡 code.env #part part_def.routine code.calls-varargs::part (part_thm.met 𝓤 𝓛 𝓜 𝓡)))

@@ -1,5 +1,5 @@
 -- `half` joins four bytes.
-use Rattle.words.proofs.Joining.{half-made}
+use Rattle.words.proofs.Joining.{half_made}
 use native.Mathlib.Omega.{arith}
 use borrow.Author.Rules.{rules}
 use Rattle.words.proofs.half.Statement.{statement}
@@ -14,4 +14,4 @@ half_spec =
     (λ c κs. search rules)
     (λ c. search rules)
     (λ c. search rules)
-    (λ c. (search (half-made), omega arith)))
+    (λ c. (search (half_made), omega arith)))

@@ -6,7 +6,7 @@ use borrow.Author.Rules.{rules}
 use lib.ListN.{length, length-set}
 use lib.Seq.{paste}
 use Rattle.words.specs.Packed.{word_size}
-use Rattle.words.proofs.Unpacking.{come, unpack-next, unpack-last, unpack-full}
+use Rattle.words.proofs.Unpacking.{come, unpack_next, unpack_last, unpack_full}
 use Rattle.words.proofs.unpack.Statement.{statement}
 use Rattle.words.proofs.unpack.Tie as tie
 
@@ -17,8 +17,8 @@ invariant-loop bytes words₀ i₀ at₀ words i at =
 abbrev decreases-loop : tie.decreases-loop
 decreases-loop bytes words₀ i₀ at₀ words i at = length words₀ - i
 
-pub unpack-spec : {M : Type 1} → statement M
-unpack-spec =
+pub unpack_spec : {M : Type 1} → statement M
+unpack_spec =
     tie.close
     (tie.spec
     invariant-loop
@@ -26,13 +26,13 @@ unpack-spec =
     (λ c. (refl, omega arith, omega arith, refl, search rules))
     (λ c. search rules)
     (λ c. omega arith)
-    (λ c. search (unpack-last))
+    (λ c. search (unpack_last))
     (λ c κs. search rules)
     (λ c. omega arith)
     (λ c. search rules)
     (λ c. search rules)
     (λ c. search rules)
     (λ c. search rules)
-    (λ c. (omega arith, omega arith, omega arith, simp length-set (omega arith), search (unpack-next)))
+    (λ c. (omega arith, omega arith, omega arith, simp length-set (omega arith), search (unpack_next)))
     (λ c. omega arith)
-    (λ c. search (unpack-full)))
+    (λ c. search (unpack_full)))

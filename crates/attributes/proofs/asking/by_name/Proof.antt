@@ -3,8 +3,8 @@ use borrow.Author.Rules.{rules}
 use Rattle.attributes.proofs.asking.by_name.Statement.{statement}
 use Rattle.attributes.proofs.asking.by_name.Tie as tie
 
-pub by_name-spec : {M : Type 1} → statement M
-by_name-spec =
+pub by_name_spec : {M : Type 1} → statement M
+by_name_spec =
     tie.close
     (tie.spec
     (λ c. search rules)

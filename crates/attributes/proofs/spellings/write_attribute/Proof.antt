@@ -1,13 +1,13 @@
 -- `write_attribute` meets its contract: each arm writes the name that the definition has for its convention.
 use mathlib.Core.Path.{refl}
-use Rattle.attributes.specs.Spellings.{spellingAnswer, spellingWritten}
+use Rattle.attributes.specs.Spellings.{spelling_answer, spelling_written}
 use borrow.Author.Rules.{rules}
 use Rattle.attributes.proofs.spellings.write_attribute.Statement.{statement}
 use Rattle.attributes.proofs.spellings.write_attribute.Tie as tie
 
-pub write-attribute-spec : {M : Type 1} → statement M
-unfolding spellingAnswer spellingWritten
-write-attribute-spec =
+pub write_attribute_spec : {M : Type 1} → statement M
+unfolding spelling_answer spelling_written
+write_attribute_spec =
     tie.close
     (tie.spec
     (λ c. search rules)

@@ -1,7 +1,7 @@
 -- `returns` performs an operation by what is asked about.
 use mathlib.Core.Bool.{true, false}
 use borrow.Author.Rules.{rules}
-use Rattle.classify.proofs.Operations.{by-void, returns-scalar, by-aggregate}
+use Rattle.classify.proofs.Operations.{by_void, returns_scalar, by_aggregate}
 use Rattle.classify.proofs.Call.returns.Statement.{statement}
 use Rattle.classify.proofs.Call.returns.Tie as tie
 
@@ -15,8 +15,8 @@ returns-spec =
     (λ c κs. search rules)
     (λ c. search rules)
     (λ c κs. search rules)
-    (λ c. search (by-void true false))
+    (λ c. search (by_void true false))
     (λ c. search rules)
-    (λ c. search (returns-scalar))
+    (λ c. search (returns_scalar))
     (λ c. search rules)
-    (λ c. search (by-aggregate true false)))
+    (λ c. search (by_aggregate true false)))

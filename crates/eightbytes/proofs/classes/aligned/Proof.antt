@@ -4,8 +4,8 @@ use borrow.Author.Tests.{le-leb, lt-leb}
 use Rattle.eightbytes.proofs.classes.aligned.Statement.{statement}
 use Rattle.eightbytes.proofs.classes.aligned.Tie as tie
 
-pub aligned-spec : {M : Type 1} → statement M
-aligned-spec =
+pub aligned_spec : {M : Type 1} → statement M
+aligned_spec =
     tie.close
     (tie.spec
     (λ c. rw (le-leb _ _ c.if1.true))

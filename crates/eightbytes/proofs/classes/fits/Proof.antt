@@ -4,8 +4,8 @@ use Rattle.eightbytes.proofs.Reach.{fits_by}
 use Rattle.eightbytes.proofs.classes.fits.Statement.{statement}
 use Rattle.eightbytes.proofs.classes.fits.Tie as tie
 
-pub fits-spec : {M : Type 1} → statement M
-fits-spec =
+pub fits_spec : {M : Type 1} → statement M
+fits_spec =
     tie.close
     (tie.spec
     (λ c κs. search rules)

@@ -3,8 +3,8 @@ use borrow.Author.Rules.{rules}
 use Rattle.export_questions.proofs.descriptions.barkpaddle_wide_integer_returns_in.Statement.{statement}
 use Rattle.export_questions.proofs.descriptions.barkpaddle_wide_integer_returns_in.Tie as tie
 
-pub barkpaddle-wide-integer-returns-in-spec : {M : Type 1} → statement M
-barkpaddle-wide-integer-returns-in-spec =
+pub barkpaddle_wide_integer_returns_in_spec : {M : Type 1} → statement M
+barkpaddle_wide_integer_returns_in_spec =
     tie.close
     (tie.spec
     (λ c κs. search rules)

@@ -3,8 +3,8 @@ use borrow.Author.Rules.{rules}
 use Rattle.export_questions.proofs.lookups.barkpaddle_attribute.Statement.{statement}
 use Rattle.export_questions.proofs.lookups.barkpaddle_attribute.Tie as tie
 
-pub barkpaddle-attribute-spec : {M : Type 1} → statement M
-barkpaddle-attribute-spec =
+pub barkpaddle_attribute_spec : {M : Type 1} → statement M
+barkpaddle_attribute_spec =
     tie.close
     (tie.spec
     (λ c κs. search rules)

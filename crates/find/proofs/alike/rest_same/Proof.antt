@@ -3,22 +3,22 @@ use Prim.Native.Nat.{◌≤◌, ◌-◌}
 use mathlib.Core.Path.{◌≡◌, refl}
 use lib.ListN.{length, drop}
 use Rattle.shape.specs.Words.{pieces_of}
-use Rattle.shape.proofs.Words.{pieces, test-end, test-broken, test-next}
-use Rattle.find.specs.Find.{allSame}
-use Rattle.find.proofs.AllAlike.{same-by-first}
+use Rattle.shape.proofs.Words.{pieces, test_end, test_broken, test_next}
+use Rattle.find.specs.Find.{all_same}
+use Rattle.find.proofs.AllAlike.{same_by_first}
 use borrow.Author.Rules.{rules}
 use native.Mathlib.Omega.{arith}
 use Rattle.find.proofs.alike.rest_same.Statement.{statement}
 use Rattle.find.proofs.alike.rest_same.Tie as tie
 
 abbrev invariant-loop : tie.invariant-loop
-invariant-loop first words at₀ at = (at ≤ length words) × (allSame first (pieces_of (drop 4 words)) ≡ allSame first (pieces_of (drop at words)))
+invariant-loop first words at₀ at = (at ≤ length words) × (all_same first (pieces_of (drop 4 words)) ≡ all_same first (pieces_of (drop at words)))
 
 abbrev decreases-loop : tie.decreases-loop
 decreases-loop first words at₀ at = length words - at
 
-pub rest-same-spec : {M : Type 1} → statement M
-rest-same-spec =
+pub rest_same_spec : {M : Type 1} → statement M
+rest_same_spec =
     tie.close
     (tie.spec
     invariant-loop
@@ -26,8 +26,8 @@ rest-same-spec =
     (λ c. (omega arith, refl))
     (λ c. search rules)
     (λ c κs. search rules)
-    (λ c. search (test-broken pieces same-by-first))
+    (λ c. search (test_broken pieces same_by_first))
     (λ c. search rules)
     (λ c. search rules)
-    (λ c. (omega arith, search (test-next pieces same-by-first)))
-    (λ c. search (test-end pieces same-by-first)))
+    (λ c. (omega arith, search (test_next pieces same_by_first)))
+    (λ c. search (test_end pieces same_by_first)))

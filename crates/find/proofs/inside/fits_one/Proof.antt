@@ -1,7 +1,7 @@
 -- `fits_one` compares a piece with the width of its bank.
-use Rattle.find.proofs.Tests.{fits-integer, fits-float}
+use Rattle.find.proofs.Tests.{fits_integer, fits_float}
 use Rattle.find.proofs.inside.fits_one.Statement.{statement}
 use Rattle.find.proofs.inside.fits_one.Tie as tie
 
-pub fits-one-spec : {M : Type 1} → statement M
-fits-one-spec = tie.close (tie.spec (λ c. search (fits-integer)) (λ c. search (fits-float)))
+pub fits_one_spec : {M : Type 1} → statement M
+fits_one_spec = tie.close (tie.spec (λ c. search (fits_integer)) (λ c. search (fits_float)))

@@ -1,12 +1,12 @@
 -- `banks_of` reads the four numbers and the flag from their bytes.
 use borrow.Author.Rules.{rules}
-use Rattle.rows.specs.Row.{banksFrom}
+use Rattle.rows.specs.Row.{banks_from}
 use Rattle.rows.proofs.fields.banks_of.Statement.{statement}
 use Rattle.rows.proofs.fields.banks_of.Tie as tie
 
-pub banks-of-spec : {M : Type 1} → statement M
-unfolding banksFrom
-banks-of-spec =
+pub banks_of_spec : {M : Type 1} → statement M
+unfolding banks_from
+banks_of_spec =
     tie.close
     (tie.spec
     (λ c. search rules)

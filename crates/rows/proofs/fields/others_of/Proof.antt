@@ -1,12 +1,12 @@
 -- `others_of` reads each field from its byte, by what each callee ensures.
 use borrow.Author.Rules.{rules}
-use Rattle.rows.specs.Row.{othersFrom}
+use Rattle.rows.specs.Row.{others_from}
 use Rattle.rows.proofs.fields.others_of.Statement.{statement}
 use Rattle.rows.proofs.fields.others_of.Tie as tie
 
-pub others-of-spec : {M : Type 1} → statement M
-unfolding othersFrom
-others-of-spec =
+pub others_of_spec : {M : Type 1} → statement M
+unfolding others_from
+others_of_spec =
     tie.close
     (tie.spec
     (λ c. search rules)

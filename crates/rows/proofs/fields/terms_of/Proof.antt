@@ -1,12 +1,12 @@
 -- `terms_of` reads each field from its bytes, by what each callee ensures.
 use borrow.Author.Rules.{rules}
-use Rattle.rows.specs.Row.{termsFrom}
+use Rattle.rows.specs.Row.{terms_from}
 use Rattle.rows.proofs.fields.terms_of.Statement.{statement}
 use Rattle.rows.proofs.fields.terms_of.Tie as tie
 
-pub terms-of-spec : {M : Type 1} → statement M
-unfolding termsFrom
-terms-of-spec =
+pub terms_of_spec : {M : Type 1} → statement M
+unfolding terms_from
+terms_of_spec =
     tie.close
     (tie.spec
     (λ c. search rules)

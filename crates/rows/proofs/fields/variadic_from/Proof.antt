@@ -1,14 +1,14 @@
 -- `variadic_from` gives the case of each number, arm by arm; the last arm is past the end of the cases before it.
 use mathlib.Core.List.{[], ◌∷◌}
 use Rattle.describe.specs.declared.Variadic.TheVariants.{SameAsFixed, AlwaysMemory, BothBanks, IntegersOnly, UnnamedIntegers, UnnamedIntegersEven}
-use Rattle.rows.specs.Codes.{variadicFrom}
+use Rattle.rows.specs.Codes.{variadic_from}
 use Rattle.shape.proofs.Cases.{past_end}
 use Rattle.rows.proofs.fields.variadic_from.Statement.{statement}
 use Rattle.rows.proofs.fields.variadic_from.Tie as tie
 
-pub variadic-from-spec : {M : Type 1} → statement M
-unfolding variadicFrom
-variadic-from-spec =
+pub variadic_from_spec : {M : Type 1} → statement M
+unfolding variadic_from
+variadic_from_spec =
     tie.close
     (tie.spec
     (λ c. rw c.match.keys1)

@@ -5,8 +5,8 @@ use native.Mathlib.Omega.{arith}
 use Rattle.slot_writing.proofs.classes.eightbytes_in.Statement.{statement}
 use Rattle.slot_writing.proofs.classes.eightbytes_in.Tie as tie
 
-pub eightbytes-in-spec : {M : Type 1} → statement M
-eightbytes-in-spec =
+pub eightbytes_in_spec : {M : Type 1} → statement M
+eightbytes_in_spec =
     tie.close
     (tie.spec
     (λ c κs. search rules)

@@ -3,8 +3,8 @@ use borrow.Author.Tests.{le-leb, lt-leb}
 use Rattle.slot_writing.proofs.classes.format_of.Statement.{statement}
 use Rattle.slot_writing.proofs.classes.format_of.Tie as tie
 
-pub format-of-spec : {M : Type 1} → statement M
-format-of-spec =
+pub format_of_spec : {M : Type 1} → statement M
+format_of_spec =
     tie.close
     (tie.spec
     (λ c. rw c.if1.true)

@@ -3,8 +3,8 @@ use borrow.Author.Rules.{rules}
 use Rattle.targets.proofs.followed.target_row.Statement.{statement}
 use Rattle.targets.proofs.followed.target_row.Tie as tie
 
-pub target-row-spec : {M : Type 1} → statement M
-target-row-spec =
+pub target_row_spec : {M : Type 1} → statement M
+target_row_spec =
     tie.close
     (tie.spec
     (λ c. search rules)
