@@ -19,21 +19,21 @@ use text::Written;
 pub const DESCRIPTIONS: u64 = 33;
 
 // Yes or no, unless refused.
-#[derive(Drop)]
+#[derive(Clone, Copy)]
 pub struct Asked {
     pub refusal: u64,
     pub answer: bool,
 }
 
 // The kind of a format, or 0 for none, unless refused.
-#[derive(Drop)]
+#[derive(Clone, Copy)]
 pub struct AskedFormat {
     pub refusal: u64,
     pub format: u64,
 }
 
 // What classification reads of a description.
-#[derive(Drop)]
+#[derive(Clone, Copy)]
 pub struct Brief {
     pub terms: Terms,
     pub returns: Rules,

@@ -12,7 +12,7 @@ use shape::{Arg, Scalar};
 // What is asked about: void, a scalar of this kind, size and alignment, or an aggregate of this size and alignment, which is complex and
 // has the floating mode where those aren't 0. An aggregate's pieces stand beside it, as words.
 #[repr(C)]
-#[derive(Drop)]
+#[derive(Clone, Copy)]
 pub struct What {
     pub form: u64,
     pub kind: u64,

@@ -36,7 +36,7 @@ const TALLY: usize = REFUSALS + 5;
 
 // The call behind an operation, the seed of the next one, whether the two forms agreed, and which place of the tally it counts in. Where they
 // agreed they left one call.
-#[derive(Drop)]
+#[derive(Clone, Copy)]
 struct Turn {
     call: Call,
     seed: u64,
@@ -135,7 +135,7 @@ fn both(call: Call, drawn: Drawn, words: &[u64], first: &mut [u64], second: &mut
 // ---- the history
 
 // The next three numbers of the generator, xorshift of 64 bits.
-#[derive(Drop)]
+#[derive(Clone, Copy)]
 struct Drawn {
     a: u64,
     b: u64,

@@ -11,7 +11,7 @@ use sheet_perform::State;
 const RECORDS: usize = 1024;
 
 // What a turn leaves for the next: the state, how many bytes wait, and whether the sheet goes on.
-#[derive(Drop)]
+#[derive(Clone, Copy)]
 struct Turn {
     state: State,
     waiting: usize,

@@ -24,7 +24,7 @@ use stack_place::{Area, Placed, Stacked};
 
 // One call: the number of its description, what it has left, and the offset at which the next argument on the stack may stand.
 #[repr(C)]
-#[derive(Drop)]
+#[derive(Clone, Copy)]
 pub struct Call {
     pub abi: u64,
     pub left: Left,
@@ -34,7 +34,7 @@ pub struct Call {
 // The number of the way that the value travels, what it passes over and is given, how many slots were written, and where on the stack it stands; or
 // the refusal, with every other number 0. Methods, exported entries and the forms over a lent call all have this one.
 #[repr(C)]
-#[derive(Drop)]
+#[derive(Clone, Copy)]
 pub struct Outcome {
     pub refusal: u64,
     pub way: u64,
@@ -45,14 +45,14 @@ pub struct Outcome {
 
 // The next call beside the outcome. A refusal hands back the call that it was handed.
 #[repr(C)]
-#[derive(Drop)]
+#[derive(Clone, Copy)]
 pub struct Answer {
     pub next: Call,
     pub outcome: Outcome,
 }
 
 // The alignment of an aggregate in the argument area, or the refusal.
-#[derive(Drop)]
+#[derive(Clone, Copy)]
 pub struct InMemory {
     pub refusal: u64,
     pub align: u64,
@@ -399,7 +399,7 @@ fn check_call(terms: Terms, call: Call) -> u64
 // ---- decide
 
 // A decision, with the classes that its slots stand in where they are those of eightbytes.
-#[derive(Drop)]
+#[derive(Clone, Copy)]
 struct Decided {
     decision: Decision,
     classes: [u8; 8],

@@ -27,7 +27,7 @@ const MOST_LIMIT: u64 = 64;
 
 // What the search comes back with, and beside it the class of each eightbyte of the shape: `slot_writing::put_eightbytes` writes the slots
 // from these.
-#[derive(Drop)]
+#[derive(Clone, Copy)]
 pub struct Classified {
     pub found: Found,
     pub classes: [u8; 8],

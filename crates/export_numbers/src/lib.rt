@@ -11,7 +11,7 @@ use spend::Left;
 
 // A refusal, or one number.
 #[repr(C)]
-#[derive(Drop)]
+#[derive(Clone, Copy)]
 pub struct Told {
     pub refusal: u64,
     pub value: u64,

@@ -10,7 +10,7 @@ use rows::WIDTH;
 
 // A refusal, or the fields of a description: banks, scalar rules, and the fields beside them; a field that came later stands last.
 #[repr(C)]
-#[derive(Drop)]
+#[derive(Clone, Copy)]
 pub struct Description {
     pub refusal: u64,
     pub integer: u64,
@@ -39,7 +39,7 @@ pub struct Description {
 // A refusal, or a rule: its test, the test's number, the way of travel, and what happens when short. All zeros past the end of a list: no test
 // has the number 0.
 #[repr(C)]
-#[derive(Drop)]
+#[derive(Clone, Copy)]
 pub struct RuleNumbers {
     pub refusal: u64,
     pub test: u64,

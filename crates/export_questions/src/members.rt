@@ -8,7 +8,7 @@ use export_numbers::Told;
 
 // A refusal, or the shape of a record.
 #[repr(C)]
-#[derive(Drop)]
+#[derive(Clone, Copy)]
 pub struct RecordNumbers {
     pub refusal: u64,
     pub size: u64,

@@ -12,7 +12,7 @@ use varargs::Offsets;
 
 // Where a scalar stands, or the refusal.
 #[repr(C)]
-#[derive(Drop)]
+#[derive(Clone, Copy)]
 pub struct Part {
     pub refusal: u64,
     pub area: u64,

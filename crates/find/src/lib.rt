@@ -17,7 +17,7 @@ use shape::Shape;
 use slots::{Found, Source};
 
 // What a test finds, with the slots beside it: where they stand, and the classes of eightbytes.
-#[derive(Drop)]
+#[derive(Clone, Copy)]
 pub struct Matched {
     pub found: Found,
     pub source: Source,

@@ -15,7 +15,7 @@ use types::{Entry, Row};
 
 // How many pieces were written, and the type's size and alignment; or the refusal.
 #[repr(C)]
-#[derive(Drop)]
+#[derive(Clone, Copy)]
 pub struct Flattened {
     pub refusal: u64,
     pub pieces: u64,

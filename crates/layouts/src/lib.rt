@@ -11,7 +11,7 @@ ghost use Rattle.layouts.specs.Record.{largest_align, furthest_end, recorded, re
 use shape::{Piece, Shape};
 
 // How many pieces were written, or the refusal.
-#[derive(Drop)]
+#[derive(Clone, Copy)]
 pub struct Placed {
     pub refusal: u64,
     pub count: u64,
@@ -58,7 +58,7 @@ pub fn pieces(members: &[u64], out: &mut [u64]) -> Placed
 }
 
 // The shape, or the refusal with an empty one.
-#[derive(Drop)]
+#[derive(Clone, Copy)]
 pub struct Recorded {
     pub refusal: u64,
     pub shape: Shape,

@@ -18,7 +18,7 @@ pub use fields::{
 
 // A list of rules as two numbers, the first rule lowest: two bytes for each test and its number, a byte for each way of travel with what
 // happens when short. A walk takes the first rule off until one decides; nothing is copied for it.
-#[derive(Drop)]
+#[derive(Clone, Copy)]
 pub struct Rules {
     pub tests: u64,
     pub ways: u64,

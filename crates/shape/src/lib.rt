@@ -60,7 +60,7 @@ pub const SCALAR: usize = 3;
 pub const PIECE: usize = 4;
 
 // What a scalar is, as numbers that anyone may hand in: a kind above 4 is refused, not impossible.
-#[derive(Drop)]
+#[derive(Clone, Copy)]
 pub struct Scalar {
     pub kind: u64,
     pub size: u64,
@@ -98,7 +98,7 @@ impl Scalar {
 }
 
 // One scalar inside an aggregate, at its offset.
-#[derive(Drop)]
+#[derive(Clone, Copy)]
 pub struct Piece {
     pub kind: u64,
     pub size: u64,
@@ -122,7 +122,7 @@ impl Piece {
 }
 
 // An aggregate; its pieces stand beside it, as words.
-#[derive(Drop)]
+#[derive(Clone, Copy)]
 pub struct Shape {
     pub size: u64,
     pub align: u64,
@@ -131,7 +131,7 @@ pub struct Shape {
 }
 
 // What a call is asked about: a return value or an argument. The pieces of an aggregate stand beside it, as words.
-#[derive(Drop)]
+#[derive(Clone, Copy)]
 pub enum Arg {
     Void,
     Scalar(Scalar),

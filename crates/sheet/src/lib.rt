@@ -17,14 +17,14 @@ use sheet_records::{Event, Operation, RECORD, read};
 pub const PIECES: usize = checks::MOST_PIECES * shape::PIECE;
 
 // The next state, and where the text ends now.
-#[derive(Drop)]
+#[derive(Clone, Copy)]
 pub struct Step {
     pub next: State,
     pub at: usize,
 }
 
 // The state behind some records, how many bytes they had, and where their text ends.
-#[derive(Drop)]
+#[derive(Clone, Copy)]
 pub struct Steps {
     pub next: State,
     pub used: usize,

@@ -10,14 +10,14 @@ use sheet_records::{Operation, Reader};
 use spend::Left;
 
 // What is known between two records: the call, and what the reader knows.
-#[derive(Drop)]
+#[derive(Clone, Copy)]
 pub struct State {
     pub call: Call,
     pub reader: Reader,
 }
 
 // The next state, and what the operation answered.
-#[derive(Drop)]
+#[derive(Clone, Copy)]
 pub struct Performed {
     pub next: State,
     pub answer: Answer,

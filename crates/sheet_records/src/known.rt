@@ -6,7 +6,7 @@ ghost use Rattle.sheet_records.specs.Known as spec;
 use shape::{Arg, Shape};
 
 // What is known between two records: whether a call is open, whether the sheet has stopped, and the aggregate whose pieces are due.
-#[derive(Drop)]
+#[derive(Clone, Copy)]
 pub struct Reader {
     pub opened: bool,
     pub stopped: bool,
@@ -14,7 +14,7 @@ pub struct Reader {
 }
 
 // An aggregate that is being read: the first word of its operation, its shape, how many pieces are still due, and the words of those read.
-#[derive(Drop)]
+#[derive(Clone, Copy)]
 pub struct Due {
     pub first: u64,
     pub shape: Shape,
@@ -22,7 +22,7 @@ pub struct Due {
     pub words: usize,
 }
 
-#[derive(Drop)]
+#[derive(Clone, Copy)]
 pub enum Operation {
     Fresh(u64),
     Mark,
@@ -32,7 +32,7 @@ pub enum Operation {
 }
 
 // What an operation is: a fresh call, the mark, or one on a value.
-#[derive(Drop)]
+#[derive(Clone, Copy)]
 pub enum Act {
     Fresh,
     Mark,

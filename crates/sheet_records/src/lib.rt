@@ -31,14 +31,14 @@ const FIRST_PIECE: u64 = 5;
 const MOST_FLAGS: u64 = 3;
 
 // Nothing that could be performed yet, an operation, or the end of all reading.
-#[derive(Drop)]
+#[derive(Clone, Copy)]
 pub enum Event {
     More,
     Ready(Operation),
     Stop,
 }
 
-#[derive(Drop)]
+#[derive(Clone, Copy)]
 pub struct Reading {
     pub next: Reader,
     pub event: Event,

@@ -7,7 +7,7 @@ use words::word_at;
 // Bytes of a record.
 pub const RECORD: usize = 48;
 
-#[derive(Drop)]
+#[derive(Clone, Copy)]
 pub struct Record {
     pub first: u64,
     pub second: u64,

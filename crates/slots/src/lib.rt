@@ -18,7 +18,7 @@ pub const MOST_SLOTS: usize = 8;
 pub const MOST_WORDS: usize = MOST_SLOTS * SLOT;
 
 // One register's worth of an aggregate, and which of its bytes go there.
-#[derive(Drop)]
+#[derive(Clone, Copy)]
 pub struct Slot {
     pub kind: u64,
     pub offset: u64,
@@ -36,7 +36,7 @@ impl Slot {
 
 // What a search inside a shape comes back with: how many slots it found and how many of them are floats, or nothing. The slots themselves
 // stand beside it.
-#[derive(Drop)]
+#[derive(Clone, Copy)]
 pub enum Found {
     Slots { count: u64, floats: u64 },
     Nothing,
@@ -44,7 +44,7 @@ pub enum Found {
 
 // Where the slots of a value that travels as Pieces stand: there are none, each piece of the shape is one, the classes of its eightbytes say
 // them for its size, a size is cut into integers, or there is the one that is given.
-#[derive(Drop)]
+#[derive(Clone, Copy)]
 pub enum Source {
     Empty,
     EachPiece,

@@ -14,7 +14,7 @@ use slots::Source;
 // What a call has left: registers in each bank, and the mark. Where the mark isn't 0, floats go in integer registers alone. It is a word, so
 // that whatever C hands in is a call.
 #[repr(C)]
-#[derive(Drop)]
+#[derive(Clone, Copy)]
 pub struct Left {
     pub integer: u64,
     pub float: u64,
@@ -26,7 +26,7 @@ pub const NO_MARK: u64 = 0;
 pub const MARK: u64 = 1;
 
 // How a value travels.
-#[derive(Drop)]
+#[derive(Clone, Copy)]
 pub enum Way {
     Ignore,
     Direct,
@@ -37,7 +37,7 @@ pub enum Way {
 
 // The registers that one operation passes over and gives, in each bank.
 #[repr(C)]
-#[derive(Drop)]
+#[derive(Clone, Copy)]
 pub struct Spent {
     pub integers_passed: u64,
     pub integers_given: u64,
@@ -46,7 +46,7 @@ pub struct Spent {
 }
 
 // How a value travels, where its slots stand and how many they are, and what it spends.
-#[derive(Drop)]
+#[derive(Clone, Copy)]
 pub struct Decision {
     pub way: Way,
     pub source: Source,
@@ -55,14 +55,14 @@ pub struct Decision {
 }
 
 // What a rule that matched comes to: a decision, or the rule ran short and the next one is tried.
-#[derive(Drop)]
+#[derive(Clone, Copy)]
 pub enum Tried {
     Decided(Decision),
     TryNextRule,
 }
 
 // The slots that a rule travels in: how many, how many of them floats, and where they stand.
-#[derive(Drop)]
+#[derive(Clone, Copy)]
 pub struct Wanted {
     pub count: u64,
     pub floats: u64,

@@ -41,7 +41,7 @@ fn packed_align(banks: Banks, arguments: Rules, shape: Shape, words: &[u64]) -> 
     }
 }
 
-#[derive(Drop)]
+#[derive(Clone, Copy)]
 enum Limit {
     Of(u64),
     Nothing,

@@ -22,7 +22,7 @@ const WIDE_ALIGN: u64 = 16;
 
 // What placing reads of a description: the width of an integer register, how its stack arguments sit, and whether the value is after the dots and
 // such a value always in memory.
-#[derive(Drop)]
+#[derive(Clone, Copy)]
 pub struct Area {
     pub width: u64,
     pub arguments: StackArgs,
@@ -31,14 +31,14 @@ pub struct Area {
 
 // A value's bytes on the stack: so many from an offset on; 0 and 0 where none of it is there.
 #[repr(C)]
-#[derive(Drop)]
+#[derive(Clone, Copy)]
 pub struct Stacked {
     pub at: u64,
     pub bytes: u64,
 }
 
 // A value's bytes, with the next offset; or NO_ROOM where that would pass the limit, with the offset as it was.
-#[derive(Drop)]
+#[derive(Clone, Copy)]
 pub struct Placed {
     pub refusal: u64,
     pub stacked: Stacked,

@@ -5,7 +5,7 @@ ghost use Rattle.targets.specs.Codes.{is_target, is_convention, architecture_of,
 // The answer where there is nothing to answer: no description, no convention, no attribute (REFERENCE 1.5).
 pub const NONE: u64 = 18446744073709551615;
 
-#[derive(Drop)]
+#[derive(Clone, Copy)]
 pub enum Architecture {
     X86,
     X86_64,
@@ -14,7 +14,7 @@ pub enum Architecture {
     Other,
 }
 
-#[derive(Drop)]
+#[derive(Clone, Copy)]
 pub enum System {
     Windows,
     MacOs,
@@ -22,7 +22,7 @@ pub enum System {
     Other,
 }
 
-#[derive(Drop)]
+#[derive(Clone, Copy)]
 pub enum Convention {
     Target,
     Ms,

@@ -13,7 +13,7 @@ const DIGITS: u64 = 20;
 pub const MOST_PART: usize = 1 + DIGITS as usize;
 
 // A refusal, or how many bytes were written. Who has no name to write answers none for the number.
-#[derive(Drop)]
+#[derive(Clone, Copy)]
 pub struct Written {
     pub refusal: u64,
     pub length: u64,

@@ -44,7 +44,7 @@ pub const LONG_TABLE: usize = ENTRY * MOST_ENTRIES;
 
 // An entry: of a scalar its size and alignment, of a record or a union its first member's place and their count, of an array its element and
 // their count.
-#[derive(Drop)]
+#[derive(Clone, Copy)]
 pub struct Entry {
     pub kind: u64,
     pub second: u64,
@@ -53,7 +53,7 @@ pub struct Entry {
 
 // What is asked of an entry's type: how far it moves the next member on, how far it reaches, its alignment, and its leaves, which are counted up
 // to one more than are accepted.
-#[derive(Drop)]
+#[derive(Clone, Copy)]
 pub struct Row {
     pub takes: u64,
     pub reach: u64,

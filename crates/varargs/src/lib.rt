@@ -25,14 +25,14 @@ const FLOAT_END: u64 = 176;
 const SAVE_BYTES: u64 = 176;
 
 // The next integer place and the next float place, counted from the save area's start, and the next byte of the overflow area.
-#[derive(Drop)]
+#[derive(Clone, Copy)]
 pub struct Offsets {
     pub integer: u64,
     pub float: u64,
     pub overflow: u64,
 }
 
-#[derive(Drop)]
+#[derive(Clone, Copy)]
 pub enum Area {
     Nowhere,
     Save,
@@ -40,7 +40,7 @@ pub enum Area {
 }
 
 // Where a scalar's own bytes stand, with the offsets after it; or the refusal, with those that were handed in.
-#[derive(Drop)]
+#[derive(Clone, Copy)]
 pub struct Located {
     pub refusal: u64,
     pub area: Area,
