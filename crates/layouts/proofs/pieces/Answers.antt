@@ -1,0 +1,80 @@
+use Prim.Native.Nat.{◌≤◌, ◌-◌, ◌+◌, ◌*◌, max}
+use mathlib.Core.Path.{◌≡◌, refl}
+use Rattle.shape.specs.Numbers.{accepted}
+use Rattle.shape.specs.Arithmetic.{round_up}
+use Rattle.shape.proofs.Rounding.{round_bound, round_within}
+use Rattle.shape.proofs.Words.{length_scalars}
+use Rattle.checks.proofs.Accepted.{Fits}
+use Rattle.layouts.proofs.Members.{pieces_refused, pieces_same, pieces_short, pieces_kept, pieces_count, pieces_start, pieces_few, pieces_ok, here_fits, later_ok, next_room, next_words, pieces_end}
+use native.Mathlib.Omega.{arith}
+use Rattle.layouts.proofs.pieces.Goals as goal
+
+loop-holds : goal.loop-at-init
+loop-holds c = (
+  omega arith,
+  search (pieces_few),
+  refl,
+  omega arith,
+  search (pieces_ok),
+  omega (arith, length_scalars c.args.members.now),
+  search (pieces_start),
+)
+
+-- a member that was accepted keeps its limits
+fitted : (c : goal.After-scalar_at-s) → Fits c.scalar_at-s.result
+fitted c =
+    let i = c.loop-at.invariant in
+    here_fits _ _ i.0 i.4 c.loop-at-test.true _ c.scalar_at-s.ensures
+
+-- the next end stays far below any wrap: at most 4,160 for each member
+bounded : (c : goal.After-round_up-offset) →
+    (c.round_up-offset.result ≡ round_up c.loop-at.end (max c.scalar_at-s.result.align 1))
+    × (3 * (c.round_up-offset.result + c.scalar_at-s.result.size) ≤ 4160 * (c.loop-at.at + 3))
+bounded c =
+    let f = fitted c in
+    let e = c.loop-at.end in
+    let a = c.scalar_at-s.result.align in
+    let r = round_within e a c.round_up-offset.result c.round_up-offset.ensures (omega (arith, f.align≤)) in
+    (r, omega (arith, f.size≤, f.align≤, r, round_bound e (max a 1) (omega arith)))
+
+loop-again : goal.loop-at-preserved
+loop-again c =
+    let p = c in
+    let r = p.before.before in
+    let s = r.before in
+    let i = s.before.before.loop.invariant in
+    let t = s.before.loop-test.true in (
+      omega arith,
+      omega arith,
+      omega arith,
+      omega (arith, (bounded r).1),
+      later_ok _ _ i.0 i.4 t _ s.scalar_at.ensures,
+      omega (arith, next_room _ _ i.0 i.4 t _ s.scalar_at.ensures s.before.before.loop.to s.before.before.loop.out i.5),
+      next_words _ _ i.0 i.4 t _ s.scalar_at.ensures _ _ _ _ i.6 i.5 _ (bounded r).0 _ p.put_piece.ensures.1,
+    )
+
+returns-3 : goal.returns
+returns-3 c =
+    let i = c.loop-at.invariant in
+    (search (pieces_count), pieces_end _ _ _ _ _ _ i.0 c.loop-at-test.false i.6 (omega arith))
+
+pub returns-then-refusal-ne-ACCEPTED : goal.returns-then-refusal-ne-ACCEPTED
+returns-then-refusal-ne-ACCEPTED c = (search (pieces_refused), search (pieces_same))
+
+pub returns-then-members-out : goal.returns-then-members-out
+returns-then-members-out c = (search (pieces_short), search (pieces_kept))
+
+pub loop-at-init : goal.loop-at-init
+loop-at-init = loop-holds
+
+pub overflow_add-end : goal.overflow_add-end
+overflow_add-end c = omega (arith, (bounded c).1)
+
+pub loop-at-preserved : goal.loop-at-preserved
+loop-at-preserved = loop-again
+
+pub shape_of-out : goal.shape_of-out
+shape_of-out c = omega arith
+
+pub returns : goal.returns
+returns = returns-3

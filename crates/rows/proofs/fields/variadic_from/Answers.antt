@@ -1,0 +1,30 @@
+-- `variadic_from` gives the case of each number, arm by arm; the last arm is past the end of the cases before it.
+use mathlib.Core.List.{[], ◌∷◌}
+use Rattle.describe.specs.declared.Variadic.TheVariants.{SameAsFixed, AlwaysMemory, BothBanks, IntegersOnly, UnnamedIntegers, UnnamedIntegersEven}
+use Rattle.rows.specs.Codes.{variadic_from}
+use Rattle.shape.proofs.Cases.{past_end}
+use Rattle.rows.proofs.fields.variadic_from.Goals as goal
+
+pub returns-in-0 : goal.returns-in-0
+unfolding variadic_from
+returns-in-0 c = rw c.in-0.is
+
+pub returns-in-1 : goal.returns-in-1
+unfolding variadic_from
+returns-in-1 c = rw c.in-1.is
+
+pub returns-in-2 : goal.returns-in-2
+unfolding variadic_from
+returns-in-2 c = rw c.in-2.is
+
+pub returns-in-3 : goal.returns-in-3
+unfolding variadic_from
+returns-in-3 c = rw c.in-3.is
+
+pub returns-in-4 : goal.returns-in-4
+unfolding variadic_from
+returns-in-4 c = rw c.in-4.is
+
+pub returns-in_default : goal.returns-in_default
+unfolding variadic_from
+returns-in_default c = past_end (SameAsFixed ∷ AlwaysMemory ∷ BothBanks ∷ IntegersOnly ∷ UnnamedIntegers ∷ []) c.args.code UnnamedIntegersEven c.in-0.rest
