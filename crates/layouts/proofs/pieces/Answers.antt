@@ -34,23 +34,20 @@ bounded c =
     let f = fitted c in
     let e = c.loop-at.end in
     let a = c.scalar_at-s.result.align in
-    let r = round_within e a c.round_up-offset.result c.round_up-offset.ensures (omega (arith, f.align≤)) in
-    (r, omega (arith, f.size≤, f.align≤, r, round_bound e (max a 1) (omega arith)))
+    let c = round_within e a c.round_up-offset.result c.round_up-offset.ensures (omega (arith, f.align≤)) in
+    (c, omega (arith, f.size≤, f.align≤, c, round_bound e (max a 1) (omega arith)))
 
 loop-again : goal.loop-at-preserved
 loop-again c =
-    let p = c in
-    let r = p.before.before in
-    let s = r.before in
-    let i = s.before.before.loop.invariant in
-    let t = s.before.loop-test.true in (
+    let i = c.loop-at.invariant in
+    let t = c.loop-at-test.true in (
       omega arith,
       omega arith,
       omega arith,
-      omega (arith, (bounded r).1),
-      later_ok _ _ i.0 i.4 t _ s.scalar_at.ensures,
-      omega (arith, next_room _ _ i.0 i.4 t _ s.scalar_at.ensures s.before.before.loop.to s.before.before.loop.out i.5),
-      next_words _ _ i.0 i.4 t _ s.scalar_at.ensures _ _ _ _ i.6 i.5 _ (bounded r).0 _ p.put_piece.ensures.1,
+      omega (arith, (bounded c).1),
+      later_ok _ _ i.0 i.4 t _ c.scalar_at-s.ensures,
+      omega (arith, next_room _ _ i.0 i.4 t _ c.scalar_at-s.ensures c.loop-at.to c.loop-at.out i.5),
+      next_words _ _ i.0 i.4 t _ c.scalar_at-s.ensures _ _ _ _ i.6 i.5 _ (bounded c).0 _ c.put_piece.ensures.1,
     )
 
 returns-3 : goal.returns

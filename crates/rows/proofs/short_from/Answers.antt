@@ -3,6 +3,7 @@ use mathlib.Core.List.{[], ◌∷◌}
 use Rattle.describe.specs.declared.Short.TheVariants.{Unchanged, Memory, MemoryAndDrain, TryNextRule, Split}
 use Rattle.rows.specs.Codes.{short_from}
 use Rattle.shape.proofs.Cases.{past_end}
+use Rattle.std.proofs.Common.{rules}
 use Rattle.rows.proofs.short_from.Goals as goal
 
 pub returns-in-0 : goal.returns-in-0
@@ -23,4 +24,4 @@ returns-in-3 c = rw c.in-3.is
 
 pub returns-in_default : goal.returns-in_default
 unfolding short_from
-returns-in_default c = past_end (Unchanged ∷ Memory ∷ MemoryAndDrain ∷ TryNextRule ∷ []) c.args.code Split c.in-0.rest
+returns-in_default c = past_end (Unchanged ∷ Memory ∷ MemoryAndDrain ∷ TryNextRule ∷ []) c.args.code Split (search rules)

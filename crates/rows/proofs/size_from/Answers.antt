@@ -2,6 +2,7 @@
 use mathlib.Core.List.{[], ◌∷◌}
 use Rattle.rows.specs.Codes.{size_from}
 use Rattle.shape.proofs.Cases.{past_end}
+use Rattle.std.proofs.Common.{rules}
 use Rattle.rows.proofs.size_from.Goals as goal
 
 pub returns-in-0 : goal.returns-in-0
@@ -18,4 +19,4 @@ returns-in-2 c = rw c.in-2.is
 
 pub returns-in_default : goal.returns-in_default
 unfolding size_from
-returns-in_default c = past_end (1 ∷ 2 ∷ 4 ∷ []) c.args.code 8 c.in-0.rest
+returns-in_default c = past_end (1 ∷ 2 ∷ 4 ∷ []) c.args.code 8 (search rules)

@@ -1,4 +1,5 @@
 -- `test_from` gives the test of each number, arm by arm; the last arm is past the end of the tests before it.
+use borrow.Author.Rules.{rules}
 use Rattle.describe.specs.declared.Test.TheVariants.{Eightbytes}
 use Rattle.rows.specs.Codes.{test_from, first_tests}
 use Rattle.shape.proofs.Cases.{past_end}
@@ -50,4 +51,4 @@ returns-in-10 c = rw c.in-10.is
 
 pub returns-in_default : goal.returns-in_default
 unfolding test_from
-returns-in_default c = let n = c.args.number in rw c.wide-in_default.ensures.0 (past_end (first_tests n) c.args.code (Eightbytes n) c.in-0.rest)
+returns-in_default c = let n = c.args.number in rw c.wide-in_default.ensures.0 (past_end (first_tests n) c.args.code (Eightbytes n) (search rules))

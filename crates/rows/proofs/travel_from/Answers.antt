@@ -3,6 +3,7 @@ use mathlib.Core.List.{[], ◌∷◌}
 use Rattle.describe.specs.declared.Travel.TheVariants.{Ignore, AsFound, AsIntegers, AsOneInteger, ByReference, InMemory, InMemoryAndSpend}
 use Rattle.rows.specs.Codes.{travel_from}
 use Rattle.shape.proofs.Cases.{past_end}
+use Rattle.std.proofs.Common.{rules}
 use Rattle.rows.proofs.travel_from.Goals as goal
 
 pub returns-in-0 : goal.returns-in-0
@@ -31,4 +32,4 @@ returns-in-5 c = rw c.in-5.is
 
 pub returns-in_default : goal.returns-in_default
 unfolding travel_from
-returns-in_default c = past_end (Ignore ∷ AsFound ∷ AsIntegers ∷ AsOneInteger ∷ ByReference ∷ InMemory ∷ []) c.args.code InMemoryAndSpend c.in-0.rest
+returns-in_default c = past_end (Ignore ∷ AsFound ∷ AsIntegers ∷ AsOneInteger ∷ ByReference ∷ InMemory ∷ []) c.args.code InMemoryAndSpend (search rules)

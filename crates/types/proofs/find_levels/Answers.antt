@@ -8,13 +8,11 @@ use Rattle.types.proofs.find_levels.Goals as goal
 
 loop-again : goal.loop-e-preserved
 loop-again c =
-    let x = c in
-    let l = x.before in
-    let i = l.before.loop.invariant in (
+    let i = c.loop-e.invariant in (
       omega arith,
       simp length-set (omega arith),
       search (levels_next),
-      levels_more _ _ _ _ _ l.loop-test.true i.2 i.3 _ x.entry_at.ensures _ c.level-level.ensures c.if-level-eq0.false (omega arith),
+      levels_more _ _ _ _ _ c.loop-e-test.true i.2 i.3 _ c.entry_at.ensures _ c.level-level.ensures c.if-level-eq0.false (omega arith),
     )
 
 pub loop-e-init : goal.loop-e-init

@@ -3,6 +3,7 @@ use mathlib.Core.List.{[], ◌∷◌}
 use Rattle.describe.specs.declared.ReturnPointer.TheVariants.{FirstArgument, FirstArgumentPopped, Dedicated}
 use Rattle.rows.specs.Codes.{return_pointer_from}
 use Rattle.shape.proofs.Cases.{past_end}
+use Rattle.std.proofs.Common.{rules}
 use Rattle.rows.proofs.fields.return_pointer_from.Goals as goal
 
 pub returns-in-0 : goal.returns-in-0
@@ -15,4 +16,4 @@ returns-in-1 c = rw c.in-1.is
 
 pub returns-in_default : goal.returns-in_default
 unfolding return_pointer_from
-returns-in_default c = past_end (FirstArgument ∷ FirstArgumentPopped ∷ []) c.args.code Dedicated c.in-0.rest
+returns-in_default c = past_end (FirstArgument ∷ FirstArgumentPopped ∷ []) c.args.code Dedicated (search rules)

@@ -3,6 +3,7 @@ use mathlib.Core.List.{[], ◌∷◌}
 use Rattle.describe.specs.declared.StackArgs.TheVariants.{RegisterSized, Packed}
 use Rattle.rows.specs.Codes.{stack_args_from}
 use Rattle.shape.proofs.Cases.{past_end}
+use Rattle.std.proofs.Common.{rules}
 use Rattle.rows.proofs.fields.stack_args_from.Goals as goal
 
 pub returns-in-0 : goal.returns-in-0
@@ -11,4 +12,4 @@ returns-in-0 c = rw c.in-0.is
 
 pub returns-in_default : goal.returns-in_default
 unfolding stack_args_from
-returns-in_default c = past_end (RegisterSized ∷ []) c.args.code Packed c.in-0.rest
+returns-in_default c = past_end (RegisterSized ∷ []) c.args.code Packed (search rules)

@@ -3,6 +3,7 @@ use mathlib.Core.List.{[], ◌∷◌}
 use Rattle.describe.specs.declared.Variadic.TheVariants.{SameAsFixed, AlwaysMemory, BothBanks, IntegersOnly, UnnamedIntegers, UnnamedIntegersEven}
 use Rattle.rows.specs.Codes.{variadic_from}
 use Rattle.shape.proofs.Cases.{past_end}
+use Rattle.std.proofs.Common.{rules}
 use Rattle.rows.proofs.fields.variadic_from.Goals as goal
 
 pub returns-in-0 : goal.returns-in-0
@@ -27,4 +28,4 @@ returns-in-4 c = rw c.in-4.is
 
 pub returns-in_default : goal.returns-in_default
 unfolding variadic_from
-returns-in_default c = past_end (SameAsFixed ∷ AlwaysMemory ∷ BothBanks ∷ IntegersOnly ∷ UnnamedIntegers ∷ []) c.args.code UnnamedIntegersEven c.in-0.rest
+returns-in_default c = past_end (SameAsFixed ∷ AlwaysMemory ∷ BothBanks ∷ IntegersOnly ∷ UnnamedIntegers ∷ []) c.args.code UnnamedIntegersEven (search rules)
