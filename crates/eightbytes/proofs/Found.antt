@@ -17,7 +17,7 @@ use Rattle.slots.specs.declared.Found.{Found}
 use Rattle.slots.specs.declared.Found.TheVariants.{Nothing}
 use Rattle.shape.specs.Numbers.{one_if}
 use Rattle.slots.specs.Search.{found, found_of}
-use Rattle.eightbytes.specs.Class.{Class, None, SseUp, code, class_of, same}
+use Rattle.eightbytes.specs.Class.{Class, None, SseUp, code, class_of, same, mended}
 use Rattle.eightbytes.specs.Eightbytes.{most_limit, eightbytes_in, mark, classes_after, spoiled, mend, settled, and_then, classified, slots_from, slots_found, eightbytes, codes, classes_of, coded_slots, slot_count}
 use Rattle.eightbytes.specs.Reach.{fits}
 use Rattle.eightbytes.proofs.Marks.{mark_length}
@@ -59,7 +59,7 @@ module _ (limit : ℕ) (shape : Shape) (ps : List Piece) (m : ℕ) (em : m ≡ m
 mend_length : (below : Class) (cs : List Class) → length (mend below cs) ≡ length cs
 unfolding mend
 mend_length below [] = refl
-mend_length below (c ∷ cs) = ap suc (mend_length _ cs)
+mend_length below (c ∷ cs) = ap suc (mend_length (mended below c) cs)
 
 marked_long : (cs ds : List Class) (ps : List Piece) → classes_after cs ps ≡ some ds → length ds ≡ length cs
 unfolding classes_after

@@ -67,7 +67,7 @@ cover_one xs at class last v h e ev =
 cover_length : (cs : List Class) (at : ℕ) (c : Class) (k : ℕ) → length (cover cs at c k) ≡ length cs
 unfolding cover
 cover_length cs at c zero = refl
-cover_length cs at c (suc k) = cover_length _ (at + 1) (later c) k ∙ length-set cs at _
+cover_length cs at c (suc k) = cover_length (set cs at (merge (get_or cs at None) c)) (at + 1) (later c) k ∙ length-set cs at _
 
 pub mark_length : (cs : List Class) (p : Piece) → length (mark cs p) ≡ length cs
 unfolding mark
@@ -87,7 +87,7 @@ unfolding cover
 cover_drop n cs at c zero h = refl
 cover_drop n cs at c (suc k) h =
     let l : at + suc k ≤ n = h (omega arith) in
-    cover_drop n _ (at + 1) (later c) k (λ _. omega arith) ∙ drop-set-lt n cs at _ (omega arith)
+    cover_drop n (set cs at (merge (get_or cs at None) c)) (at + 1) (later c) k (λ _. omega arith) ∙ drop-set-lt n cs at _ (omega arith)
 
 module _ (n : ℕ) (cs : List Class) (p : Piece) (h : last_of p < n) where
   pub mark_take : take n (mark cs p) ≡ mark (take n cs) p

@@ -36,7 +36,7 @@ returns-2 c =
     (found_by _ _ _ _ e _ (nothing_by _ _ c.nothing-then-not-fits.ensures.0), classes_by _ _ _ _ e _ c.nothing-then-not-fits.ensures.1)
 
 mark_requires : goal.mark-next-requires
-mark_requires c κs =
+mark_requires c =
     let s = c.args.shape.size in
     let n = c.parts-n.result in
     let en : n ≡ eightbytes_in s = omega (arith, length_cut s 8) in
@@ -57,11 +57,11 @@ loop-again c =
       coded_is _ (mark (map class_of l.classes) c.piece_at-p.result) c.mark-next.ensures,
       omega arith,
       d ∙ l.invariant.3,
-      marked_turn _ _ _ n l.classes l.invariant.4 l.invariant.0 (omega arith) k _ c.piece_at-p.ensures _ c.fits2.ensures c.if-not-fits.false-raw _ c.mark-next.ensures,
+      marked_turn _ _ _ n l.classes l.invariant.4 l.invariant.0 (omega arith) k _ c.piece_at-p.ensures _ c.fits.ensures c.if-not-fits.false-raw _ c.mark-next.ensures,
     )
 
 settle_requires : goal.settle-requires
-settle_requires c κs =
+settle_requires c =
     let s = c.args.shape.size in
     let en : c.parts-n.result ≡ eightbytes_in s = omega (arith, length_cut s 8) in
     (c.loop-at.invariant.1, omega arith, c.loop-at.invariant.3, en)

@@ -9,8 +9,8 @@ returns-4 c =
     let a = c.args in
     let p = c.requires in
     let two : a.n ≤ 2 = omega arith in (
-      pair_found a.n a.t1 two (omega arith) (omega arith) (omega arith) p.2 a.size _ _ c.one_if.ensures.0 c.one_if-2.ensures.0,
-      pair_classes a.n a.t1 two (omega arith) (omega arith) (omega arith) p.2 p.0,
+      pair_found a.n a.classes two (omega arith) (omega arith) (omega arith) p.2 a.size _ _ c.one_if.ensures.0 c.one_if-2.ensures.0,
+      pair_classes a.n a.classes two (omega arith) (omega arith) (omega arith) p.2 p.0,
     )
 
 pub returns-then-size-gt-PAIR : goal.returns-then-size-gt-PAIR

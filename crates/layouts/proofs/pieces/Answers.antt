@@ -1,7 +1,9 @@
-use Prim.Native.Nat.{◌≤◌, ◌-◌, ◌+◌, ◌*◌, max}
+use Prim.Native.Nat.{ℕ, ◌≤◌, ◌-◌, ◌+◌, ◌*◌, ◌/◌, max}
+use lib.ListN.{length}
+use Rattle.shape.specs.declared.Scalar.{Scalar}
 use mathlib.Core.Path.{◌≡◌, refl}
-use Rattle.shape.specs.Numbers.{accepted}
-use Rattle.shape.specs.Arithmetic.{round_up}
+use Rattle.shape.specs.Numbers.{accepted, most_pieces}
+use Rattle.shape.specs.Arithmetic.{round_up, rounded}
 use Rattle.shape.proofs.Rounding.{round_bound, round_within}
 use Rattle.shape.proofs.Words.{length_scalars}
 use Rattle.checks.proofs.Accepted.{Fits}
@@ -20,34 +22,25 @@ loop-holds c = (
   search (pieces_start),
 )
 
--- a member that was accepted keeps its limits
-fitted : (c : goal.After-scalar_at-s) → Fits c.scalar_at-s.result
-fitted c =
-    let i = c.loop-at.invariant in
-    here_fits _ _ i.0 i.4 c.loop-at-test.true _ c.scalar_at-s.ensures
-
 -- the next end stays far below any wrap: at most 4,160 for each member
-bounded : (c : goal.After-round_up-offset) →
-    (c.round_up-offset.result ≡ round_up c.loop-at.end (max c.scalar_at-s.result.align 1))
-    × (3 * (c.round_up-offset.result + c.scalar_at-s.result.size) ≤ 4160 * (c.loop-at.at + 3))
-bounded c =
-    let f = fitted c in
-    let e = c.loop-at.end in
-    let a = c.scalar_at-s.result.align in
-    let c = round_within e a c.round_up-offset.result c.round_up-offset.ensures (omega (arith, f.align≤)) in
-    (c, omega (arith, f.size≤, f.align≤, c, round_bound e (max a 1) (omega arith)))
+module _ (words at end r : ℕ) (inside : at ≤ words) (few : words / 3 ≤ most_pieces) (near : 3 * end ≤ 4160 * at) (s : Scalar) (f : Fits s) (e : r ≡ rounded end s.align) where
+  bounded : (r ≡ round_up end (max s.align 1)) × (3 * (r + s.size) ≤ 4160 * (at + 3))
+  bounded =
+      let w = round_within end s.align r e (omega (arith, f.align≤)) in
+      (w, omega (arith, f.size≤, f.align≤, w, round_bound end (max s.align 1) (omega arith)))
 
 loop-again : goal.loop-at-preserved
 loop-again c =
     let i = c.loop-at.invariant in
-    let t = c.loop-at-test.true in (
+    let t = c.loop-at-test.true in
+    let b = bounded (length c.args.members.now) c.loop-at.at c.loop-at.end c.round_up-offset.result i.0 i.1 i.3 _ (here_fits _ _ i.0 i.4 t _ c.scalar_at-s.ensures) c.round_up-offset.ensures in (
       omega arith,
       omega arith,
       omega arith,
-      omega (arith, (bounded c).1),
+      omega (arith, b.1),
       later_ok _ _ i.0 i.4 t _ c.scalar_at-s.ensures,
       omega (arith, next_room _ _ i.0 i.4 t _ c.scalar_at-s.ensures c.loop-at.to c.loop-at.out i.5),
-      next_words _ _ i.0 i.4 t _ c.scalar_at-s.ensures _ _ _ _ i.6 i.5 _ (bounded c).0 _ c.put_piece.ensures.1,
+      next_words _ _ i.0 i.4 t _ c.scalar_at-s.ensures _ _ _ _ i.6 i.5 _ b.0 _ c.put_piece.ensures.1,
     )
 
 returns-3 : goal.returns
@@ -65,7 +58,10 @@ pub loop-at-init : goal.loop-at-init
 loop-at-init = loop-holds
 
 pub overflow_add-end : goal.overflow_add-end
-overflow_add-end c = omega (arith, (bounded c).1)
+overflow_add-end c =
+    let i = c.loop-at.invariant in
+    let b = bounded (length c.args.members.now) c.loop-at.at c.loop-at.end c.round_up-offset.result i.0 i.1 i.3 _ (here_fits _ _ i.0 i.4 c.loop-at-test.true _ c.scalar_at-s.ensures) c.round_up-offset.ensures in
+    omega (arith, b.1)
 
 pub loop-at-preserved : goal.loop-at-preserved
 loop-at-preserved = loop-again
