@@ -57,7 +57,7 @@ use Rattle.export_questions.proofs.barkpaddle_version.Reads as entry_version
 use Rattle.export_varargs.specs.declared.Part.{Part}
 use Rattle.export_varargs.specs.Numbers.{offsets_from, part_numbers, area_from}
 use Rattle.export_varargs.proofs.barkpaddle_read_scalar.Reads as entry_read_scalar
-use Rattle.demands.specs.Contracts.{Answers, AnswersAlone}
+use Rattle.demands.specs.Answering.{Answers, AnswersAlone}
 use Rattle.demands.specs.Performed.{handed}
 use Rattle.demands.specs.Refusals.{number_refusals, in_memory_refusals, member_refusals, record_refusals, name_refusals, attribute_refusals, question_refusals, read_refusals, IsRefusal, RefusedTold, RefusedAs, no_record, no_rule, no_part}
 use Rattle.demands.specs.Extent.{Extent}
