@@ -10,7 +10,7 @@ use Rattle.classify.specs.Classify.{counts}
 use Rattle.classify.specs.Spending.{Chosen, scalar_by, return_choice, argument_choice, variadic_argument_choice}
 use Rattle.classify.proofs.Agree.{slots_for}
 use Rattle.riscv.specs.Riscv.{State, Passing, state, named, unnamed, result}
-use Rattle.riscv.specs.Reading.{value_of, size_of_arg, reads, reads_result}
+use Rattle.riscv.specs.Reading.{value_by_offset, size_of_arg, reads, reads_result}
 use Rattle.riscv.proofs.Words.{unspent}
 use Rattle.riscv.proofs.Enough.{Enough}
 use Rattle.riscv.proofs.Scalars.{riscv, board, reads_as, named_scalar, unnamed_scalar}
@@ -26,10 +26,10 @@ module _ (name : List ℕ) (fr fw I F : ℕ) (few : I ≤ 8) (floats : F ≤ fr)
     reads_argument k = reads_as name fr fw (counts I F) (size_of_arg arg) k.decision (slots_for k arg ps)
 
     abbrev Named : Type 0
-    Named = reads_argument (argument_choice (riscv name fr fw) (counts I F) arg ps) ≡ named (board name fr fw) at (value_of arg ps).type
+    Named = reads_argument (argument_choice (riscv name fr fw) (counts I F) arg ps) ≡ named (board name fr fw) at (value_by_offset arg ps).type
 
     abbrev Unnamed : Type 0
-    Unnamed = reads_argument (variadic_argument_choice (riscv name fr fw) (counts I F) arg ps) ≡ unnamed at (value_of arg ps)
+    Unnamed = reads_argument (variadic_argument_choice (riscv name fr fw) (counts I F) arg ps) ≡ unnamed at (value_by_offset arg ps)
 
   pub named_is_riscv : (arg : args.Arg) (ps : List Piece) → Enough arg ps → Named arg ps
   unfolding argument_choice scalar_by settled_for source_slots reads named
@@ -45,7 +45,7 @@ module _ (name : List ℕ) (fr fw I F : ℕ) (few : I ≤ 8) (floats : F ≤ fr)
 
   module _ (two_floats : 0 < fw → 2 ≤ fr) where
     abbrev Comes : args.Arg → List Piece → Type 0
-    Comes arg ps = comes name fr fw two_floats I F few floats arg ps (return_choice (riscv name fr fw) (counts I F) arg ps) ≡ result (board name fr fw) at (value_of arg ps).type
+    Comes arg ps = comes name fr fw two_floats I F few floats arg ps (return_choice (riscv name fr fw) (counts I F) arg ps) ≡ result (board name fr fw) at (value_by_offset arg ps).type
 
     pub result_is_riscv : (arg : args.Arg) (ps : List Piece) → Enough arg ps → Comes arg ps
     unfolding return_choice source_slots reads_result result named
