@@ -1,11 +1,10 @@
 -- The rows of RISC-V's own book are the standard for boards with their float registers: of what the operations are defined to answer.
 use Prim.Native.Nat.{ℕ, ◌≤◌, ◌<◌}
 use mathlib.Core.Path.{◌≡◌, refl, sym, ap, subst, ◌∙◌}
-use mathlib.Core.List.{List, map}
+use mathlib.Core.List.{List}
 use mathlib.Core.Bool.{true}
 use native.Mathlib.Omega.{arith}
 use Rattle.shape.specs.declared.Arg.{Arg}
-use Rattle.shape.specs.declared.Arg.TheVariants.{Void, Scalar, Aggregate}
 use Rattle.shape.specs.declared.Piece.{Piece}
 use Rattle.describe.specs.Description.{Description}
 use Rattle.abis.specs.Abis.{described, descriptions, riscv_with}
@@ -14,13 +13,12 @@ use Rattle.abis.proofs.Apart.{each_among, riscv_described}
 use Rattle.classify.specs.Classify.{counts, call, argument, variadic_argument}
 use Rattle.classify.specs.Spending.{argument_choice, variadic_argument_choice}
 use Rattle.classify.proofs.Agree.{returns_agrees, argument_agrees, variadic_argument_agrees}
-use Rattle.riscv.specs.Riscv.{LP64, LP64F, LP64D, Inside, fields, aggregate, Value, stack_bytes, start, Passing, named, unnamed}
-use Rattle.riscv.specs.Reading.{board_of, field_of, inside_of, value, value_of, value_by_offset, state_of, reads_passed, Asked, as_named, as_unnamed, as_result, answered, standard}
+use Rattle.riscv.specs.Riscv.{LP64, LP64F, LP64D, Value, stack_bytes, start, Passing, named, unnamed}
+use Rattle.riscv.specs.Reading.{board_of, value_of, state_of, reads_passed, Asked, as_named, as_unnamed, as_result, answered, standard}
 use Rattle.riscv.specs.Domain.{Domain}
 use Rattle.riscv.proofs.Enough.{Enough, enough}
-use Rattle.riscv.proofs.Aggregates.{flattened}
 use Rattle.riscv.proofs.Lengths.{length_on, SameLength, same_length}
-use Rattle.riscv.proofs.Agrees.{named_is_riscv, unnamed_is_riscv, result_is_riscv}
+use Rattle.riscv.proofs.Agrees.{listed, named_same, unnamed_same, result_is_riscv}
 
 abbrev pub Same : Asked → ℕ → ℕ → Arg → List Piece → Description → Type 0
 Same asked I F arg ps D = answered asked D (counts I F) arg ps ≡ standard asked D.banks (counts I F) arg ps
@@ -30,10 +28,10 @@ Same asked I F arg ps D = answered asked D (counts I F) arg ps ≡ standard aske
 same : (name : List ℕ) (fr fw I F : ℕ) → I ≤ 8 → F ≤ fr → (0 < fw → 2 ≤ fr) → (arg : Arg) (ps : List Piece) → Enough arg ps → (asked : Asked) → Same asked I F arg ps (riscv_with name fr fw)
 same name fr fw I F few floats two_floats arg ps d as_named =
     let k = argument_agrees (riscv_with name fr fw) (counts I F) arg ps in
-    rw (k.way, k.slots, k.left_is) (named_is_riscv name fr fw I F few floats arg ps d)
+    rw (k.way, k.slots, k.left_is) (named_same name fr fw I F few floats arg ps d)
 same name fr fw I F few floats two_floats arg ps d as_unnamed =
     let k = variadic_argument_agrees (riscv_with name fr fw) (counts I F) arg ps (λ e. refl) in
-    rw (k.way, k.slots, k.left_is) (unnamed_is_riscv name fr fw I F few floats arg ps d)
+    rw (k.way, k.slots, k.left_is) (unnamed_same name fr fw I F few floats arg ps d)
 same name fr fw I F few floats two_floats arg ps d as_result =
     let k = returns_agrees (riscv_with name fr fw) (counts I F) arg ps in
     rw (k.way, k.slots, k.left_is) (result_is_riscv name fr fw I F few floats two_floats arg ps d)
@@ -73,13 +71,6 @@ length_is_riscv d is I F few floats arg ps e asked =
     ∙ ap (λ (p : Passing). stack_bytes p.place) (is_riscv d is I F few floats arg ps e asked)
 
 -- ---- arguments, with the value as its pieces are listed: on the domain that is their order
-
-listed : (arg : Arg) (ps : List Piece) → Enough arg ps → value_by_offset arg ps ≡ value_of arg ps
-listed Void ps e = refl
-listed (Scalar s) ps e = refl
-listed (Aggregate shape) ps e =
-    let inside : inside_of ps ≡ fields (map field_of ps) = rw e.no_overlap in
-    ap (λ (i : Inside). value (aggregate shape.size i) shape.align) (flattened shape ps e ∙ sym inside)
 
 -- every row that follows the book
 module _ (d : ℕ) (is : is_riscv_psabi d ≡ true) (I F : ℕ) (arg : Arg) (ps : List Piece) where
