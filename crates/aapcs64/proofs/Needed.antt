@@ -1,7 +1,7 @@
 -- Which clauses of the domain are needed: for each of six a shape that breaks it alone, with both answers, computed, which differ. Nonzero sizes, no
 -- holes and the end at the size are not needed: `argument_agrees` and `returns_agrees` do without them, since a member that isn't of the one
 -- floating-point type and a size that isn't that many times the type's make no HFA on either side.
-use Prim.Native.Nat.{ℕ, zero, suc, ◌+◌, ◌*◌, ◌-◌}
+use Prim.Native.Nat.{ℕ, zero, suc, ◌+◌, ◌*◌}
 use mathlib.Core.Path.{◌≡◌, refl, ap}
 use mathlib.Core.List.{List, [], ◌∷◌}
 use mathlib.Core.Bool.{Bool, true, false, ◌&&◌, not}
