@@ -1,6 +1,6 @@
 -- On description 0 the stack offset stays in eightbytes, in every history whose aggregates are aligned to 0 or to a power of two. (To 12 is another thing:
 -- from 8 on a record of 24 bytes that is aligned so stands at 12, and the next offset is 36.)
-use Prim.Native.Nat.{ℕ, zero, suc, ◌+◌, ◌*◌, ◌/◌, ◌%◌, ◌≤◌, ◌<◌, max}
+use Prim.Native.Nat.{ℕ, zero, suc, ◌+◌, ◌*◌, ◌/◌, ◌%◌, ◌<◌, max}
 use mathlib.Core.Path.{◌≡◌, refl, sym, ◌∙◌, ap}
 use mathlib.Core.Bool.{Bool, true, false, cond}
 use mathlib.Core.List.{List, [], ◌∷◌}
@@ -10,7 +10,6 @@ use lib.Dec.{eqb, ltb}
 use Rattle.shape.specs.declared.Arg.{Arg}
 use Rattle.shape.specs.declared.Arg.TheVariants.{Void, Scalar, Aggregate}
 use Rattle.shape.specs.declared.Piece.{Piece}
-use Rattle.shape.specs.declared.Scalar as scalars
 use Rattle.shape.specs.Arithmetic.{round_up}
 use Rattle.shape.specs.Words.{pieces_of}
 use Rattle.describe.specs.declared.Dots.{Dots}

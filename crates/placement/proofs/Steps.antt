@@ -31,7 +31,7 @@ use Rattle.varargs.specs.declared.Located.{Located}
 use Rattle.varargs.specs.declared.Area.TheVariants.{Overflow}
 use Rattle.varargs.specs.Lists.{unnamed_refusal, is_save_area, overflow_start, in_overflow, standing, located, part_of, shown_at, reads_as}
 use Rattle.varargs.proofs.Lists.{lies_there, ends_within, nowhere_part}
-use Rattle.varargs.proofs.Scalars.{Listed, listed, sized, integer_1, integer_2, integer_4, integer_8, integer_16, a_single, a_double, an_x87, a_quad}
+use Rattle.varargs.proofs.Scalars.{Listed, listed, integer_1, integer_2, integer_4, integer_8, integer_16, a_single, a_double, an_x87, a_quad}
 use Rattle.placement.specs.Caller.{Registers, Machine, Whole, Value, State, behind_dots, spread, to_front, stored, saved, placed_by, place}
 use Rattle.placement.specs.Back.{Ready, IsValue, is_stacked, stack_start, stack_end, offsets_at, offsets_of, Keeps, too_short}
 use Rattle.placement.proofs.Stored.{part_within, same_part, length_of_put, put_keeps, put_read, front_registers, spread_registers, front_keeps, spread_keeps, stored_same, front_read, pair_read, length_stored}
