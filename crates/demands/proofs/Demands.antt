@@ -416,31 +416,31 @@ riscv_starts = rows_30_to_32.fresh_is_start
 -- and equal that standard on its domain, scalars and aggregates, for named arguments, unnamed ones and results: `SaysRiscv` (`Says` in riscv/specs) reads the
 -- answer and the buffer in its words, a and fa registers by number, what of the value is on the stack and how long that is, and the call handed back as the
 -- next registers
-pub argument_is_riscv : (c : Call) → is_riscv_psabi c.abi ≡ true → (arg : Arg) (words out : List ℕ) → riscv.Domain arg (pieces_of words)
+pub argument_is_riscv : (c : Call) → is_riscv_psabi c.abi ≡ true → (arg : Arg) (words out : List ℕ) → riscv.WithVoid arg (pieces_of words)
     → (answer_for (argument arg words out) c).outcome.refusal ≡ accepted
     → SaysRiscv as_named c arg (pieces_of words) (answer_for (argument arg words out) c) (written_for (argument arg words out) c)
 argument_is_riscv = rows_30_to_32_answered.argument_says
 
-pub variadic_argument_is_riscv : (c : Call) → is_riscv_psabi c.abi ≡ true → (arg : Arg) (words out : List ℕ) → riscv.Domain arg (pieces_of words)
+pub variadic_argument_is_riscv : (c : Call) → is_riscv_psabi c.abi ≡ true → (arg : Arg) (words out : List ℕ) → riscv.WithVoid arg (pieces_of words)
     → (answer_for (variadic_argument arg words out) c).outcome.refusal ≡ accepted
     → SaysRiscv as_unnamed c arg (pieces_of words) (answer_for (variadic_argument arg words out) c) (written_for (variadic_argument arg words out) c)
 variadic_argument_is_riscv = rows_30_to_32_answered.variadic_says
 
-pub result_is_riscv : (c : Call) → is_riscv_psabi c.abi ≡ true → (arg : Arg) (words out : List ℕ) → riscv.Domain arg (pieces_of words)
+pub result_is_riscv : (c : Call) → is_riscv_psabi c.abi ≡ true → (arg : Arg) (words out : List ℕ) → riscv.WithVoid arg (pieces_of words)
     → (answer_for (return arg words out) c).outcome.refusal ≡ accepted
     → SaysRiscv as_result c arg (pieces_of words) (answer_for (return arg words out) c) (written_for (return arg words out) c)
 result_is_riscv = rows_30_to_32_answered.result_says
 
 -- the same, whichever function performed it
-pub performed_argument_is_riscv : (c : Call) (arg : Arg) (words out : List ℕ) (a : Answer) (after : List ℕ) → is_riscv_psabi c.abi ≡ true → riscv.Domain arg (pieces_of words)
+pub performed_argument_is_riscv : (c : Call) (arg : Arg) (words out : List ℕ) (a : Answer) (after : List ℕ) → is_riscv_psabi c.abi ≡ true → riscv.WithVoid arg (pieces_of words)
     → Performed c (argument arg words out) a after → a.outcome.refusal ≡ accepted → SaysRiscv as_named c arg (pieces_of words) a after
 performed_argument_is_riscv = performing.argument_riscv
 
-pub performed_variadic_argument_is_riscv : (c : Call) (arg : Arg) (words out : List ℕ) (a : Answer) (after : List ℕ) → is_riscv_psabi c.abi ≡ true → riscv.Domain arg (pieces_of words)
+pub performed_variadic_argument_is_riscv : (c : Call) (arg : Arg) (words out : List ℕ) (a : Answer) (after : List ℕ) → is_riscv_psabi c.abi ≡ true → riscv.WithVoid arg (pieces_of words)
     → Performed c (variadic_argument arg words out) a after → a.outcome.refusal ≡ accepted → SaysRiscv as_unnamed c arg (pieces_of words) a after
 performed_variadic_argument_is_riscv = performing.variadic_argument_riscv
 
-pub performed_result_is_riscv : (c : Call) (arg : Arg) (words out : List ℕ) (a : Answer) (after : List ℕ) → is_riscv_psabi c.abi ≡ true → riscv.Domain arg (pieces_of words)
+pub performed_result_is_riscv : (c : Call) (arg : Arg) (words out : List ℕ) (a : Answer) (after : List ℕ) → is_riscv_psabi c.abi ≡ true → riscv.WithVoid arg (pieces_of words)
     → Performed c (return arg words out) a after → a.outcome.refusal ≡ accepted → SaysRiscv as_result c arg (pieces_of words) a after
 performed_result_is_riscv = performing.result_riscv
 

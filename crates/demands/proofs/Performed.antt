@@ -181,7 +181,7 @@ module _ (c : Call) (shape : Shape) (words out : List ℕ) (a : Answer) (after :
         (row_1.returns_answered c e shape words out d natural n)
 
 -- and of any values
-module _ (c : Call) (arg : Arg) (words out : List ℕ) (a : Answer) (after : List ℕ) (row : is_riscv_psabi c.abi ≡ true) (d : riscv.Domain arg (pieces_of words)) where
+module _ (c : Call) (arg : Arg) (words out : List ℕ) (a : Answer) (after : List ℕ) (row : is_riscv_psabi c.abi ≡ true) (d : riscv.WithVoid arg (pieces_of words)) where
   abbrev IfAccepted : Asked → Answer → List ℕ → Type 0
   IfAccepted asked a after = a.outcome.refusal ≡ accepted → SaysRiscv asked c arg (pieces_of words) a after
 

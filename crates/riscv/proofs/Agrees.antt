@@ -13,7 +13,7 @@ use Rattle.riscv.specs.Riscv.{State, Inside, fields, aggregate, Value, Passing, 
 use Rattle.riscv.specs.Reading.{field_of, inside_of, value, value_of, value_by_offset, size_of_arg, reads, reads_result}
 use Rattle.riscv.specs.Domain.{Domain}
 use Rattle.riscv.proofs.Words.{unspent}
-use Rattle.riscv.proofs.Enough.{Enough, enough}
+use Rattle.riscv.proofs.Enough.{Enough, enough, with_void}
 use Rattle.riscv.proofs.Scalars.{riscv, board, reads_as, named_scalar, unnamed_scalar}
 use Rattle.riscv.proofs.Aggregates.{flattened, named_aggregate, unnamed_aggregate}
 use Rattle.riscv.proofs.Results.{comes, scalar_comes, aggregate_comes}
@@ -61,12 +61,12 @@ module _ (name : List ℕ) (fr fw I F : ℕ) (few : I ≤ 8) (floats : F ≤ fr)
 
   pub named_is_riscv : (arg : args.Arg) (ps : List Piece) → Domain arg ps → Named arg ps
   named_is_riscv arg ps d =
-      let e : Enough arg ps = enough arg ps d in
+      let e : Enough arg ps = enough arg ps (with_void arg ps d) in
       named_same arg ps e ∙ ap (λ (v : Value). named (board name fr fw) at v.type) (listed arg ps e)
 
   pub unnamed_is_riscv : (arg : args.Arg) (ps : List Piece) → Domain arg ps → Unnamed arg ps
   unnamed_is_riscv arg ps d =
-      let e : Enough arg ps = enough arg ps d in
+      let e : Enough arg ps = enough arg ps (with_void arg ps d) in
       unnamed_same arg ps e ∙ ap (λ (v : Value). unnamed at v) (listed arg ps e)
 
   module _ (two_floats : 0 < fw → 2 ≤ fr) where

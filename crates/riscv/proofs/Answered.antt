@@ -24,7 +24,7 @@ use Rattle.classify.proofs.Agree.{returns_agrees, argument_agrees, variadic_argu
 use Rattle.classify.proofs.Stacking.{stacked_stands}
 use Rattle.classify.proofs.Accepted.{Sound, sound, call_checked, unmarked, accepted_so}
 use Rattle.riscv.specs.Reading.{Asked, as_named, as_unnamed, as_result, reads_passed_by, answered, Says}
-use Rattle.riscv.specs.Domain.{Domain}
+use Rattle.riscv.specs.Domain.{WithVoid}
 use Rattle.riscv.proofs.Enough.{enough}
 use Rattle.riscv.proofs.Lengths.{length_on}
 use Rattle.riscv.proofs.Rows.{is_riscv, length_is_riscv}
@@ -41,7 +41,7 @@ good c row s =
     let z : Sound D c = subst (λ (D : Description). Sound D c) (riscv_described c.abi row) s in
     record { integers = z.integers; floats = z.floats; no_mark_is = unmarked D c z refl }
 
-module _ (c : Call) (row : is_riscv_psabi c.abi ≡ true) (arg : Arg) (ws out : List ℕ) (d : Domain arg (pieces_of ws)) where
+module _ (c : Call) (row : is_riscv_psabi c.abi ≡ true) (arg : Arg) (ws out : List ℕ) (d : WithVoid arg (pieces_of ws)) where
   abbrev D : Description
   D = described c.abi
 

@@ -14,7 +14,7 @@ use Rattle.shape.specs.declared.Scalar.{Scalar}
 use Rattle.shape.specs.declared.Shape.{Shape}
 use Rattle.shape.specs.Numbers.{integer, single, double, quad}
 use Rattle.shape.proofs.Bools.{both_true}
-use Rattle.riscv.specs.Domain.{is_integer_size, is_usual, are_usual, Domain, in_order, apart}
+use Rattle.riscv.specs.Domain.{is_integer_size, is_usual, are_usual, Domain, WithVoid, in_order, apart}
 
 pub record EnoughScalar (s : Scalar) : Type 0 where
   pub some : 0 < s.size
@@ -62,9 +62,14 @@ usual_size kind n u =
 
 -- ---- the domain has them
 
-pub enough : (arg : args.Arg) (ps : List Piece) → Domain arg ps → Enough arg ps
-enough args.TheVariants.Void ps d = absurd d
+pub enough : (arg : args.Arg) (ps : List Piece) → WithVoid arg ps → Enough arg ps
+enough args.TheVariants.Void ps d = tt
 enough (args.TheVariants.Scalar s) ps d =
     let sized = usual_size s.kind s.size d.usual in
     record { some = sized.0; small = sized.1 }
 enough (args.TheVariants.Aggregate shape) ps d = record { usual = d.usual; order = d.order; no_overlap = d.no_overlap }
+
+pub with_void : (arg : args.Arg) (ps : List Piece) → Domain arg ps → WithVoid arg ps
+with_void args.TheVariants.Void ps d = absurd d
+with_void (args.TheVariants.Scalar s) ps d = d
+with_void (args.TheVariants.Aggregate shape) ps d = d

@@ -21,7 +21,7 @@ use Rattle.classify.specs.Classify as rust
 use Rattle.classify.specs.Classify.{argument, variadic_argument, returns}
 use Rattle.classify.specs.Spending.{argument_choice, variadic_argument_choice, return_choice, scalar_by, aggregate_by, by_rules}
 use Rattle.riscv.specs.Riscv.{Holder, a, fa, stack, Part, part, parts, address, state, Passing, passing, by_integers, by_fields, named, unnamed, result}
-use Rattle.riscv.specs.Domain.{Domain, in_order, apart}
+use Rattle.riscv.specs.Domain.{WithVoid, in_order, apart}
 use Rattle.riscv.specs.Reading.{insert, by_offset, parts_of, reads, reads_result, as_named, as_unnamed, as_result}
 use Rattle.riscv.proofs.Case.{Case, by_row, by_standard, lone, several, clauses_of, all, of_domain}
 
@@ -116,7 +116,7 @@ in_domain = refl
 pub record Shown (e : Example) : Type 0 where
   pub row : by_row e.case ≡ e.both
   pub standard : by_standard e.case ≡ e.both
-  pub domain : Domain e.case.arg e.case.pieces
+  pub domain : WithVoid e.case.arg e.case.pieces
 
 pub shown : (n : ℕ) → Shown (get_or examples n a_single)
 shown n =

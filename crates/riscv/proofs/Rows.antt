@@ -16,7 +16,7 @@ use Rattle.classify.proofs.Agree.{returns_agrees, argument_agrees, variadic_argu
 use Rattle.riscv.specs.Riscv.{LP64, LP64F, LP64D, Value, stack_bytes, start, Passing, named, unnamed}
 use Rattle.riscv.specs.Reading.{board_of, value_of, state_of, reads_passed, Asked, as_named, as_unnamed, as_result, answered, standard}
 use Rattle.riscv.specs.Domain.{Domain}
-use Rattle.riscv.proofs.Enough.{Enough, enough}
+use Rattle.riscv.proofs.Enough.{Enough, enough, with_void}
 use Rattle.riscv.proofs.Lengths.{length_on, SameLength, same_length}
 use Rattle.riscv.proofs.Agrees.{listed, named_same, unnamed_same, result_is_riscv}
 
@@ -89,12 +89,12 @@ module _ (d : ℕ) (is : is_riscv_psabi d ≡ true) (I F : ℕ) (arg : Arg) (ps 
 
   pub argument_is_riscv : Domain arg ps → I ≤ 8 → F ≤ D.banks.float → NamedSame D
   argument_is_riscv domain few floats =
-      let e : Enough arg ps = enough arg ps domain in
+      let e : Enough arg ps = enough arg ps (with_void arg ps domain) in
       is_riscv d is I F few floats arg ps e as_named
       ∙ ap (λ (v : Value). named (board_of D.banks) (state_of D.banks (counts I F)) v.type) (listed arg ps e)
 
   pub variadic_is_riscv : Domain arg ps → I ≤ 8 → F ≤ D.banks.float → UnnamedSame D
   variadic_is_riscv domain few floats =
-      let e : Enough arg ps = enough arg ps domain in
+      let e : Enough arg ps = enough arg ps (with_void arg ps domain) in
       is_riscv d is I F few floats arg ps e as_unnamed
       ∙ ap (λ (v : Value). unnamed (state_of D.banks (counts I F)) v) (listed arg ps e)

@@ -59,3 +59,9 @@ abbrev pub Domain : args.Arg → List Piece → Type 0
 Domain args.TheVariants.Void ps = ⊥
 Domain (args.TheVariants.Scalar s) ps = ScalarDomain s
 Domain (args.TheVariants.Aggregate shape) ps = ShapeDomain shape ps
+
+-- and void, of which nothing travels and nothing is spent
+abbrev pub WithVoid : args.Arg → List Piece → Type 0
+WithVoid args.TheVariants.Void ps = Unit {0}
+WithVoid (args.TheVariants.Scalar s) ps = ScalarDomain s
+WithVoid (args.TheVariants.Aggregate shape) ps = ShapeDomain shape ps
