@@ -1,14 +1,14 @@
 // The attribute's name that asks for a convention, written into a lent buffer (REFERENCE 6.4).
 ghost use Rattle.std.specs.Prelude.{◌≡◌, length, get_or};
 ghost use Rattle.text.specs.Text.{bytes};
-ghost use Rattle.attributes.specs.Spellings.{regparm_names, spelling_answer, spelling_written, attribute as attributeOf};
+ghost use Rattle.attributes.specs.Spellings.{regparm_names, spelling_answer, spelling_written, attribute as attribute_of};
 
 use targets::{Convention, NONE};
 use text::{Written, put};
 
 // The name that asks for a convention, written to the front of `out`.
 pub fn write_attribute(convention: Convention, out: &mut [u8]) -> Written
-    ensures { (result ≡ spelling_answer (attributeOf convention) (length out.old)) × (out.new ≡ spelling_written (attributeOf convention) out.old) }
+    ensures { (result ≡ spelling_answer (attribute_of convention) (length out.old)) × (out.new ≡ spelling_written (attribute_of convention) out.old) }
 {
     match convention {
         Convention::Target => Written {

@@ -4,14 +4,14 @@ ghost use Rattle.std.specs.Prelude.{◌≡◌, ◌*◌, ◌<◌, ◌≤◌, leng
 ghost use Rattle.shape.specs.Words.{pieces_of};
 ghost use Rattle.slots.specs.Search.{found_of};
 ghost use Rattle.find.specs.Find.{all_same};
-ghost use Rattle.find.specs.Find.{homogeneous as homogeneousOf};
+ghost use Rattle.find.specs.Find.{homogeneous as homogeneous_of};
 
 use shape::{Piece, Shape};
 use slots::Found;
 
 // Floats of one format, size and alignment, at most `limit`, that fill the shape.
 pub fn homogeneous(shape: Shape, words: &[u64], limit: u64) -> Found
-    ensures { result ≡ found_of (homogeneousOf limit shape (pieces_of words.now)) }
+    ensures { result ≡ found_of (homogeneous_of limit shape (pieces_of words.now)) }
 {
     let count = (words.len() / shape::PIECE) as u64;
     if count == 0 {

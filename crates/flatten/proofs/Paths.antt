@@ -148,6 +148,7 @@ often_found p (q ∷ ps) h = here (same_path p q) refl (λ (r : 1 ≤ how_often 
 
 often_listed : (p : List ℕ) (ps : List (List ℕ)) → Memᴰ p ps → 1 ≤ how_often p ps
 unfolding how_often
+often_listed p [] x' = elim x' [ ]
 often_listed p (q ∷ ps) (Memᴰ.head e) = rw (e, path_self q) (omega arith)
 often_listed p (q ∷ ps) (Memᴰ.tail m) = let h : 1 ≤ how_often p ps = often_listed p ps m in omega arith
 

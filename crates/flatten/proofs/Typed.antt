@@ -94,7 +94,7 @@ module _ (tb : List ℕ) (T : ℕ → Tree) (e levels : ℕ) (is : (m : ℕ) →
       let far : last_reach (size_of t) (reach_of t) (suc n) ≤ reach_of (array t (suc n)) = round_least (last_reach (size_of t) (reach_of t) (suc n)) (align_of t) (align_some t) in
       let w : size_of t ≤ reach_of (array t (suc n)) = omega (arith, array_size t (suc n), suc-mul n (size_of t)) in
       let s : step_of tb m ≡ size_of t = ap (λ (q : Row). rounded q.reach q.align) (is m lt) ∙ rw (a, ← size_reach t) (omega arith) in
-      rw s (elements_typed (f m) (tree_pieces t) (size_of t) (reach_of t) base (λ b q. right m b lt (omega arith) q) (suc n) 0 (omega arith)
+      ap (λ (st : ℕ). over_elements (f m) st base 0 (suc n)) s ∙ (elements_typed (f m) (tree_pieces t) (size_of t) (reach_of t) base (λ b q. right m b lt (omega arith) q) (suc n) 0 (omega arith)
       ∙ ap (λ (b : ℕ). element_pieces (tree_pieces t) (size_of t) b (suc n)) z)
 
   spread_typed : (x : Meaning) → refers_back e x ≡ true → levels_of (tree_of T x) ≤ suc levels → (base : ℕ) → base + reach_of (tree_of T x) ≤ most_word

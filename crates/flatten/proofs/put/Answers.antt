@@ -1,16 +1,13 @@
 -- `put` writes a piece where it fits, and no other word.
 use native.Mathlib.Omega.{arith}
+use Rattle.std.proofs.Common.{rules}
 use Rattle.flatten.proofs.Pour.{next_fits, next_short, next_within}
-use borrow.Author.Rules.{rules}
 use Rattle.flatten.proofs.put.Goals as goal
 
-add_result : goal.Need-overflow-add-result
-add_result c =
+pub overflow_add-result : goal.overflow_add-result
+overflow_add-result c =
     let a = c.args in
     omega (arith, next_within a.out.now a.at _ c.put_piece.ensures.0 c.if-put_piece.true)
-
-pub overflow_add-result : goal.overflow_add-result
-overflow_add-result = add_result
 
 pub returns-then-put_piece : goal.returns-then-put_piece
 returns-then-put_piece c = (search (next_fits), search rules)

@@ -2,7 +2,6 @@
 use native.Mathlib.Omega.{arith}
 use Rattle.targets.specs.Codes.{architecture_of}
 use Rattle.targets.proofs.CodeLaws.{other_architecture}
-use Rattle.std.proofs.Common.{rules}
 use Rattle.targets.proofs.codes.architecture_of.Goals as goal
 
 pub returns-in-0 : goal.returns-in-0
@@ -23,4 +22,4 @@ returns-in-3 c = rw c.in-3.is
 
 pub returns-in_default : goal.returns-in_default
 unfolding architecture_of
-returns-in_default c = other_architecture c.args.code (omega (arith, (search rules)))
+returns-in_default c = other_architecture c.args.code (omega arith)

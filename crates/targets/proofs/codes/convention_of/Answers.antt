@@ -5,11 +5,6 @@ use Rattle.targets.specs.Codes.{convention_of}
 use Rattle.targets.proofs.CodeLaws.{regparm_convention}
 use Rattle.targets.proofs.codes.convention_of.Goals as goal
 
-above : (c : goal.In_default) → 7 ≤ c.args.code
-above c =
-    let four : 4 ≤ c.args.code = omega (arith, c.in-0.rest.0.0.0) in
-    omega (arith, c.in-0.rest.1, c.in-0.rest.0.1, c.in-0.rest.0.0.1)
-
 pub returns-in-0 : goal.returns-in-0
 unfolding convention_of
 returns-in-0 c = rw c.in-0.is
@@ -40,4 +35,5 @@ returns-in-6 c = rw c.in-6.is
 
 pub returns-in_default : goal.returns-in_default
 unfolding convention_of
-returns-in_default c = rw c.minus.ensures (regparm_convention c.args.code (above c))
+returns-in_default c =
+    let above : 7 ≤ c.args.code = omega arith in rw c.minus.ensures (regparm_convention c.args.code above)

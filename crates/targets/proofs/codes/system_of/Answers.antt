@@ -2,7 +2,6 @@
 use native.Mathlib.Omega.{arith}
 use Rattle.targets.specs.Codes.{system_of}
 use Rattle.targets.proofs.CodeLaws.{other_system}
-use Rattle.std.proofs.Common.{rules}
 use Rattle.targets.proofs.codes.system_of.Goals as goal
 
 pub returns-in-0 : goal.returns-in-0
@@ -19,4 +18,4 @@ returns-in-2 c = rw c.in-2.is
 
 pub returns-in_default : goal.returns-in_default
 unfolding system_of
-returns-in_default c = other_system c.args.code (omega (arith, (search rules)))
+returns-in_default c = other_system c.args.code (omega arith)

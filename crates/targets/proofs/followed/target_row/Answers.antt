@@ -2,4 +2,4 @@
 use Rattle.targets.proofs.followed.target_row.Goals as goal
 
 pub returns-in-X86 : goal.returns-in-X86
-returns-in-X86 c = rw c.in-X86.is.1 c.by_runtime.ensures
+returns-in-X86 c = rw c.in-X86.is c.by_runtime.ensures
