@@ -1,4 +1,7 @@
-// How the return value of a call comes back (REFERENCE 13.2).
+// How the return value of a call comes back (REFERENCE 13.2), for C: each function hands on what it is handed to the one of its name in export_returns, and states its clauses
+// again. It is a crate of its own since what the entries of one archive share isn't inlined into any of them (docs/DECISIONS.md).
+#![tactic(auto)]
+
 ghost use Rattle.std.specs.Prelude.{[]};
 ghost use Rattle.export_numbers.specs.Numbers.{call_from, void_arg, scalar_from, aggregate_from};
 ghost use Rattle.classify.specs.Answers.{Returns};
