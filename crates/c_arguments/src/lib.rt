@@ -1,6 +1,5 @@
 // The start of a call, the mark, and how its fixed arguments travel (REFERENCE 13.2), for C: each function hands on what it is handed to the
-// one of its name in export_arguments, and states its clauses again. It is a crate of its own since what the entries of one archive share
-// isn't inlined into any of them (docs/DECISIONS.md).
+// one of its name in export_arguments, and states its clauses again (docs/DECISIONS.md, "A crate for each operation").
 #![tactic(auto)]
 
 ghost use Rattle.std.specs.Prelude.{◌≡◌, []};

@@ -1,6 +1,5 @@
 // A call's operations over a call that is lent (REFERENCE 14), for C: each function hands on what it is handed to the one of its name in
-// bridge, and states its clauses again. It is a crate of its own since what the entries of one archive share isn't inlined into any of them
-// (docs/DECISIONS.md).
+// bridge, and states its clauses again (docs/DECISIONS.md, "A crate for each operation").
 #![tactic(auto)]
 
 ghost use Rattle.std.specs.Prelude.{◌≡◌};

@@ -1,6 +1,5 @@
 // How the return value of a call comes back (REFERENCE 13.2), for C: each function hands on what it is handed to the one of its name in
-// export_returns, and states its clauses again. It is a crate of its own since what the entries of one archive share isn't inlined into any of
-// them (docs/DECISIONS.md).
+// export_returns, and states its clauses again (docs/DECISIONS.md, "A crate for each operation").
 #![tactic(auto)]
 
 ghost use Rattle.std.specs.Prelude.{[]};
