@@ -11,7 +11,7 @@ use lib.ListN.{get_or}
 use Rattle.shape.proofs.Bools.{and_left, and_right, or_cases}
 use Rattle.shape.specs.Numbers.{one_if}
 use Rattle.shape.specs.Lists.{any}
-use Rattle.describe.specs.declared.Variadic.TheVariants.{AlwaysMemory, IntegersOnly, UnnamedIntegers, UnnamedIntegersEven}
+use Rattle.describe.specs.declared.Variadic.TheVariants.{AlwaysMemory, IntegersOnly, UnnamedIntegers}
 use Rattle.describe.specs.declared.StackArgs.TheVariants.{Packed}
 use Rattle.describe.specs.Description.{Description}
 use Rattle.rows.specs.Codes.{variadic_code, stack_args_code}

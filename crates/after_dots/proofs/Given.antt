@@ -1,6 +1,6 @@
 -- What travels as Memory is given nothing (REFERENCE 9.1), also behind an even start and where nothing is spent.
 use Prim.Native.Nat.{ℕ}
-use mathlib.Core.Path.{◌≡◌, refl}
+use mathlib.Core.Path.{refl}
 use mathlib.Core.Bool.{Bool, true, false, cond}
 use Rattle.describe.specs.declared.Dots.{Dots}
 use Rattle.spend.specs.declared.Decision.{Decision}

@@ -28,8 +28,7 @@ const NO_KIND: u64 = 5;
 // ---- over a call that is lent
 
 // The same call, to a function whose parameters end in dots.
-#[unsafe(no_mangle)]
-pub extern "C" fn barkpaddle_bridge_variadic(call: &mut Call) -> Outcome
+pub fn barkpaddle_bridge_variadic(call: &mut Call) -> Outcome
     ensures { (result ≡ (variadic_answer call.old).outcome) × (call.new ≡ (variadic_answer call.old).next) }
 {
     let answer = variadic_of(*call);
@@ -38,8 +37,7 @@ pub extern "C" fn barkpaddle_bridge_variadic(call: &mut Call) -> Outcome
 }
 
 // How the return value comes back.
-#[unsafe(no_mangle)]
-pub extern "C" fn barkpaddle_bridge_returns(
+pub fn barkpaddle_bridge_returns(
     call: &mut Call,
     what: What,
     words: &[u64],
@@ -53,8 +51,7 @@ pub extern "C" fn barkpaddle_bridge_returns(
 }
 
 // How the next fixed argument travels.
-#[unsafe(no_mangle)]
-pub extern "C" fn barkpaddle_bridge_argument(
+pub fn barkpaddle_bridge_argument(
     call: &mut Call,
     what: What,
     words: &[u64],
@@ -68,8 +65,7 @@ pub extern "C" fn barkpaddle_bridge_argument(
 }
 
 // How the next argument after the dots travels.
-#[unsafe(no_mangle)]
-pub extern "C" fn barkpaddle_bridge_variadic_argument(
+pub fn barkpaddle_bridge_variadic_argument(
     call: &mut Call,
     what: What,
     words: &[u64],

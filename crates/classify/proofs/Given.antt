@@ -32,7 +32,7 @@ use Rattle.classify.specs.declared.Call.{Call}
 use Rattle.classify.specs.declared.Answer.{Answer}
 use Rattle.classify.specs.Pass.{way_of}
 use Rattle.classify.specs.Classify.{Passed}
-use Rattle.classify.specs.Spending.{Chosen, chosen, wanted_by, or_next, decide_by, by_rules, scalar_by, aggregate_by, choice, return_choice, argument_choice, variadic_argument_choice}
+use Rattle.classify.specs.Spending.{Chosen, wanted_by, or_next, decide_by, by_rules, scalar_by, aggregate_by, choice, return_choice, argument_choice, variadic_argument_choice}
 use Rattle.classify.specs.Answers.{returns_account, argument_account, variadic_argument_account, answer_to, returns_answer_by, argument_answer_by, variadic_argument_answer_by}
 use Rattle.classify.proofs.Accepted.{by_cases}
 use Rattle.classify.proofs.Agree.{argument_agrees, returns_agrees}

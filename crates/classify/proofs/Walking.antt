@@ -26,7 +26,6 @@ use Rattle.spend.specs.Ways.{marked}
 use Rattle.spend.specs.Spending.{travel_of}
 use Rattle.find.specs.declared.Matched.{Matched}
 use Rattle.find.specs.Matches.{matches, source_of, classes_by, matched_by}
-use Rattle.classify.specs.declared.Decided.{Decided}
 use Rattle.classify.specs.Spending.{wanted_by, by_rules}
 use Rattle.classify.specs.Parts.{decided, walked}
 use Rattle.classify.proofs.Ends.{decides_found, decides_step}

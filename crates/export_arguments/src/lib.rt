@@ -11,16 +11,14 @@ use classify::{Answer, Call};
 use shape::Scalar;
 
 // The start of a call on a description.
-#[unsafe(no_mangle)]
-pub extern "C" fn barkpaddle_fresh(abi: u64) -> Answer
+pub fn barkpaddle_fresh(abi: u64) -> Answer
     ensures { result ≡ fresh_answer abi }
 {
     Call::fresh(abi)
 }
 
 // The same call, to a function whose parameters end in dots.
-#[unsafe(no_mangle)]
-pub extern "C" fn barkpaddle_variadic(
+pub fn barkpaddle_variadic(
     abi: u64,
     integer: u64,
     float: u64,
@@ -34,8 +32,7 @@ pub extern "C" fn barkpaddle_variadic(
 }
 
 // How the next fixed argument travels: nothing travels.
-#[unsafe(no_mangle)]
-pub extern "C" fn barkpaddle_argument_void(
+pub fn barkpaddle_argument_void(
     abi: u64,
     integer: u64,
     float: u64,
@@ -50,8 +47,7 @@ pub extern "C" fn barkpaddle_argument_void(
 }
 
 // How the next fixed argument travels: a scalar.
-#[unsafe(no_mangle)]
-pub extern "C" fn barkpaddle_argument_scalar(
+pub fn barkpaddle_argument_scalar(
     abi: u64,
     integer: u64,
     float: u64,
@@ -69,8 +65,7 @@ pub extern "C" fn barkpaddle_argument_scalar(
 }
 
 // How the next fixed argument travels: an aggregate, its pieces as words.
-#[unsafe(no_mangle)]
-pub extern "C" fn barkpaddle_argument_aggregate(
+pub fn barkpaddle_argument_aggregate(
     abi: u64,
     integer: u64,
     float: u64,

@@ -7,8 +7,7 @@ ghost use Rattle.flatten.specs.Flattened.{flatten_answer, flatten_written};
 use flatten::Flattened;
 
 // The pieces of the last type of the list, and its size and alignment.
-#[unsafe(no_mangle)]
-pub extern "C" fn barkpaddle_flatten(
+pub fn barkpaddle_flatten(
     types: &[u64],
     members: &[u64],
     pieces: &mut [u64],

@@ -7,8 +7,7 @@ ghost use Rattle.export_questions.specs.Answers.{align_told};
 use export_numbers::Told;
 
 // What a fixed argument that travels as Memory is aligned to in the argument area.
-#[unsafe(no_mangle)]
-pub extern "C" fn barkpaddle_in_memory(
+pub fn barkpaddle_in_memory(
     abi: u64,
     integer: u64,
     float: u64,

@@ -49,8 +49,7 @@ pub struct RuleNumbers {
 }
 
 // The fields of a description.
-#[unsafe(no_mangle)]
-pub extern "C" fn barkpaddle_description(abi: u64) -> Description
+pub fn barkpaddle_description(abi: u64) -> Description
     ensures { result ≡ description_answer abi }
 {
     if abi >= abis::DESCRIPTIONS {
@@ -60,8 +59,7 @@ pub extern "C" fn barkpaddle_description(abi: u64) -> Description
 }
 
 // Rule `index` of a description's list for returns.
-#[unsafe(no_mangle)]
-pub extern "C" fn barkpaddle_return_rule(abi: u64, index: u64) -> RuleNumbers
+pub fn barkpaddle_return_rule(abi: u64, index: u64) -> RuleNumbers
     ensures { result ≡ return_rule_answer abi index }
 {
     if abi >= abis::DESCRIPTIONS {
@@ -71,8 +69,7 @@ pub extern "C" fn barkpaddle_return_rule(abi: u64, index: u64) -> RuleNumbers
 }
 
 // Rule `index` of a description's list for arguments.
-#[unsafe(no_mangle)]
-pub extern "C" fn barkpaddle_argument_rule(abi: u64, index: u64) -> RuleNumbers
+pub fn barkpaddle_argument_rule(abi: u64, index: u64) -> RuleNumbers
     ensures { result ≡ argument_rule_answer abi index }
 {
     if abi >= abis::DESCRIPTIONS {
@@ -82,8 +79,7 @@ pub extern "C" fn barkpaddle_argument_rule(abi: u64, index: u64) -> RuleNumbers
 }
 
 // A description's name, at the front of the buffer; how many bytes.
-#[unsafe(no_mangle)]
-pub extern "C" fn barkpaddle_name(abi: u64, name: &mut [u8]) -> Told
+pub fn barkpaddle_name(abi: u64, name: &mut [u8]) -> Told
     ensures { (result ≡ length_told (name_answer abi (length name.old))) × (name.new ≡ name_written abi name.old) }
 {
     let written = abis::name(abi, name);
@@ -94,24 +90,21 @@ pub extern "C" fn barkpaddle_name(abi: u64, name: &mut [u8]) -> Told
 }
 
 // Whether a scalar of this size travels as the address of a copy.
-#[unsafe(no_mangle)]
-pub extern "C" fn barkpaddle_scalar_is_by_reference(abi: u64, size: u64) -> Told
+pub fn barkpaddle_scalar_is_by_reference(abi: u64, size: u64) -> Told
     ensures { result ≡ yes_told (is_by_reference_answer abi size) }
 {
     yes_or_no(abis::scalar_is_by_reference(abi, size))
 }
 
 // Whether a scalar of this size comes back through the address that the caller passes.
-#[unsafe(no_mangle)]
-pub extern "C" fn barkpaddle_scalar_returns_by_reference(abi: u64, size: u64) -> Told
+pub fn barkpaddle_scalar_returns_by_reference(abi: u64, size: u64) -> Told
     ensures { result ≡ yes_told (returns_by_reference_answer abi size) }
 {
     yes_or_no(abis::scalar_returns_by_reference(abi, size))
 }
 
 // The format in which an integer of this size comes back where it is by reference otherwise, or 0 for none.
-#[unsafe(no_mangle)]
-pub extern "C" fn barkpaddle_wide_integer_returns_in(abi: u64, size: u64) -> Told
+pub fn barkpaddle_wide_integer_returns_in(abi: u64, size: u64) -> Told
     ensures { result ≡ format_told (wide_returns_in_answer abi size) }
 {
     let asked = abis::wide_integer_returns_in(abi, size);

@@ -9,16 +9,14 @@ ghost use Rattle.export_questions.specs.Answers.{length_told};
 use export_numbers::Told;
 
 // The description that a target follows, or none.
-#[unsafe(no_mangle)]
-pub extern "C" fn barkpaddle_for_target(architecture: u64, system: u64, msvc: u64) -> u64
+pub fn barkpaddle_for_target(architecture: u64, system: u64, msvc: u64) -> u64
     ensures { result ≡ target_answer architecture system (is_set msvc) }
 {
     targets::for_target(architecture, system, msvc != 0)
 }
 
 // The description that a function of a convention follows on a target, or none.
-#[unsafe(no_mangle)]
-pub extern "C" fn barkpaddle_for_convention(
+pub fn barkpaddle_for_convention(
     architecture: u64,
     system: u64,
     msvc: u64,
@@ -30,16 +28,14 @@ pub extern "C" fn barkpaddle_for_convention(
 }
 
 // The convention that an attribute's name asks for on a target, or none.
-#[unsafe(no_mangle)]
-pub extern "C" fn barkpaddle_asked(architecture: u64, system: u64, msvc: u64, name: &[u8]) -> u64
+pub fn barkpaddle_asked(architecture: u64, system: u64, msvc: u64, name: &[u8]) -> u64
     ensures { result ≡ asked_answer architecture system (is_set msvc) name.now }
 {
     attributes::asked(architecture, system, msvc != 0, name)
 }
 
 // The name of the attribute that asks for a convention, at the front of the buffer; how many bytes, or none.
-#[unsafe(no_mangle)]
-pub extern "C" fn barkpaddle_attribute(convention: u64, name: &mut [u8]) -> Told
+pub fn barkpaddle_attribute(convention: u64, name: &mut [u8]) -> Told
     ensures { (result ≡ length_told (attribute_answer convention (length name.old))) × (name.new ≡ attribute_written convention name.old) }
 {
     let written = attributes::attribute(convention, name);
@@ -50,8 +46,7 @@ pub extern "C" fn barkpaddle_attribute(convention: u64, name: &mut [u8]) -> Told
 }
 
 // Whether the callee of a convention takes its arguments off the stack.
-#[unsafe(no_mangle)]
-pub extern "C" fn barkpaddle_callee_pops(convention: u64) -> u64
+pub fn barkpaddle_callee_pops(convention: u64) -> u64
     ensures { result ≡ one_if (pops_answer convention) }
 {
     shape::one_if(targets::callee_pops(convention))

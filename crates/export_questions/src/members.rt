@@ -18,8 +18,7 @@ pub struct RecordNumbers {
 }
 
 // Each member, three words of a scalar, at the next offset that it fits, as pieces at the front of the buffer; how many.
-#[unsafe(no_mangle)]
-pub extern "C" fn barkpaddle_pieces(members: &[u64], pieces: &mut [u64]) -> Told
+pub fn barkpaddle_pieces(members: &[u64], pieces: &mut [u64]) -> Told
     ensures { (result ≡ count_told (pieces_answer members.now pieces.old)) × (pieces.new ≡ pieces_written members.now pieces.old) }
 {
     let answer = layouts::pieces(members, pieces);
@@ -30,8 +29,7 @@ pub extern "C" fn barkpaddle_pieces(members: &[u64], pieces: &mut [u64]) -> Told
 }
 
 // The record that these pieces make.
-#[unsafe(no_mangle)]
-pub extern "C" fn barkpaddle_record(words: &[u64]) -> RecordNumbers
+pub fn barkpaddle_record(words: &[u64]) -> RecordNumbers
     ensures { result ≡ record_numbers (record_answer words.now) }
 {
     let answer = layouts::record(words);

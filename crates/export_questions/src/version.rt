@@ -6,8 +6,7 @@ ghost use Rattle.export_questions.specs.Answers.{header_version};
 const HEADER_VERSION: u64 = 7;
 
 // The version of the header that this library was built with: a program compares it with that of the header that it was compiled with.
-#[unsafe(no_mangle)]
-pub extern "C" fn barkpaddle_version() -> u64
+pub fn barkpaddle_version() -> u64
     ensures { result ≡ header_version }
 {
     HEADER_VERSION

@@ -10,8 +10,7 @@ use classify::Answer;
 use shape::Scalar;
 
 // How the return value comes back: nothing travels.
-#[unsafe(no_mangle)]
-pub extern "C" fn barkpaddle_return_void(
+pub fn barkpaddle_return_void(
     abi: u64,
     integer: u64,
     float: u64,
@@ -26,8 +25,7 @@ pub extern "C" fn barkpaddle_return_void(
 }
 
 // How the return value comes back: a scalar.
-#[unsafe(no_mangle)]
-pub extern "C" fn barkpaddle_return_scalar(
+pub fn barkpaddle_return_scalar(
     abi: u64,
     integer: u64,
     float: u64,
@@ -45,8 +43,7 @@ pub extern "C" fn barkpaddle_return_scalar(
 }
 
 // How the return value comes back: an aggregate, its pieces as words.
-#[unsafe(no_mangle)]
-pub extern "C" fn barkpaddle_return_aggregate(
+pub fn barkpaddle_return_aggregate(
     abi: u64,
     integer: u64,
     float: u64,

@@ -24,8 +24,7 @@ pub struct Part {
 }
 
 // The next scalar of a list whose save area and overflow area are lent.
-#[unsafe(no_mangle)]
-pub extern "C" fn barkpaddle_read_scalar<'a>(
+pub fn barkpaddle_read_scalar<'a>(
     save: &'a [u8],
     overflow: &'a [u8],
     gp_offset: u64,

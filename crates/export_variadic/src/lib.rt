@@ -10,8 +10,7 @@ use classify::Answer;
 use shape::Scalar;
 
 // How the next argument after the dots travels: nothing travels.
-#[unsafe(no_mangle)]
-pub extern "C" fn barkpaddle_variadic_argument_void(
+pub fn barkpaddle_variadic_argument_void(
     abi: u64,
     integer: u64,
     float: u64,
@@ -26,8 +25,7 @@ pub extern "C" fn barkpaddle_variadic_argument_void(
 }
 
 // How the next argument after the dots travels: a scalar.
-#[unsafe(no_mangle)]
-pub extern "C" fn barkpaddle_variadic_argument_scalar(
+pub fn barkpaddle_variadic_argument_scalar(
     abi: u64,
     integer: u64,
     float: u64,
@@ -45,8 +43,7 @@ pub extern "C" fn barkpaddle_variadic_argument_scalar(
 }
 
 // How the next argument after the dots travels: an aggregate, its pieces as words.
-#[unsafe(no_mangle)]
-pub extern "C" fn barkpaddle_variadic_argument_aggregate(
+pub fn barkpaddle_variadic_argument_aggregate(
     abi: u64,
     integer: u64,
     float: u64,

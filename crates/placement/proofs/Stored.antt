@@ -54,6 +54,8 @@ put_read ws at vs h =
 
 pub front_registers : (b n : ℕ) (rs : List Register) → Registers b n rs → (r : ℕ) (bytes : List ℕ) → Registers b n (to_front rs r bytes)
 unfolding to_front
+front_registers b zero (x ∷ rs) x3 r bytes = elim x3 [ ]
+front_registers b (suc n) [] x3 r bytes = elim x3 [ ]
 front_registers b zero [] no_more r bytes = no_more
 front_registers b (suc n) (x ∷ rs) (and_then l more) zero bytes = and_then (length_of_put x 0 bytes ∙ l) more
 front_registers b (suc n) (x ∷ rs) (and_then l more) (suc r) bytes = and_then l (front_registers b n rs more r bytes)
@@ -81,6 +83,8 @@ one_more b k x l = rw (mul-suc b k, l) (add_comm (b * k) b)
 
 pub stored_before : (b n : ℕ) (rs : List Register) → Registers b n rs → (k : ℕ) → k ≤ n → (rest : List ℕ) → take (b * k) (stored rs ++ rest) ≡ stored (take k rs)
 unfolding stored
+stored_before b zero (x ∷ rs) is (suc k) h rest = elim is [ ]
+stored_before b (suc n) [] is (suc k) h rest = elim is [ ]
 stored_before b n rs is zero h rest = rw (mul-zero b)
 stored_before b zero [] no_more (suc k) h rest = absurd (omega arith)
 stored_before b (suc n) (x ∷ rs) (and_then l more) (suc k) h rest =
@@ -96,6 +100,8 @@ stored_same b n rs qs is are k h e size at inside rest last =
 pub front_read : (b n : ℕ) (rs : List Register) → Registers b n rs → (r : ℕ) → r < n → (bytes : List ℕ) → length bytes ≤ b → (rest : List ℕ)
     → take (length bytes) (drop (b * r) (stored (to_front rs r bytes) ++ rest)) ≡ bytes
 unfolding to_front stored
+front_read b zero (x ∷ rs) x7 r h bytes fits rest = elim x7 [ ]
+front_read b (suc n) [] x5 r h bytes fits rest = elim x5 [ ]
 front_read b zero [] no_more r h bytes fits rest = absurd (omega arith)
 front_read b (suc n) (x ∷ rs) (and_then l more) zero h bytes fits rest =
     rw (mul-zero b, put_fits x 0 bytes (omega (arith, l)))
@@ -127,12 +133,16 @@ pair_read n rs is r h bytes l rest =
 -- all of them take b bytes each
 pub length_stored : (b n : ℕ) (rs : List Register) → Registers b n rs → length (stored rs) ≡ b * n
 unfolding stored
+length_stored b zero (x ∷ rs) x3 = elim x3 [ ]
+length_stored b (suc n) [] x3 = elim x3 [ ]
 length_stored b zero [] no_more = sym (mul-zero b)
 length_stored b (suc n) (x ∷ rs) (and_then l more) = length-append x (stored rs) ∙ ap (λ (k : ℕ). length x + k) (length_stored b n rs more) ∙ sym (one_more b n x l)
 
 -- register k stands at b times k
 pub register_at : (b n : ℕ) (rs : List Register) → Registers b n rs → (k : ℕ) → k < n → (rest : List ℕ) → take b (drop (b * k) (stored rs ++ rest)) ≡ get_or rs k []
 unfolding stored
+register_at b zero (x ∷ rs) x5 k h rest = elim x5 [ ]
+register_at b (suc n) [] x4 k h rest = elim x4 [ ]
 register_at b zero [] no_more k h rest = absurd (omega arith)
 register_at b (suc n) (x ∷ rs) (and_then l more) zero h rest = rw (mul-zero b) (ap (take b) (append_assoc x (stored rs) rest) ∙ take_at x (stored rs ++ rest) b l)
 register_at b (suc n) (x ∷ rs) (and_then l more) (suc k) h rest =

@@ -6,7 +6,7 @@ use mathlib.Core.List.{List, [], ◌∷◌, map}
 use Prim.Native.Nat.{ℕ, zero, suc, ◌+◌, ◌-◌, ◌*◌, ◌/◌, ◌%◌, ◌≤◌, ◌<◌}
 use native.Mathlib.Omega.{arith}
 use borrow.Author.Tests.{eq-eqb, ne_eqb, eqb-false}
-use lib.Dec.{T, eqb, ltb, leb, ltb→lt, leb→le, lit<}
+use lib.Dec.{T, eqb, leb, ltb→lt, leb→le, lit<}
 use lib.ListN.{length, get_or}
 use Rattle.shape.proofs.Bools.{and_left, and_right}
 use Rattle.describe.specs.declared.Rule.{Rule}

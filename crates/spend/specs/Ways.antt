@@ -1,6 +1,5 @@
 -- Ways, their numbers, and the parts that a decision is made of (REFERENCE 9).
 use Rattle.std.specs.Prelude.{ℕ, ◌-◌, ◌≡◌, Bool, not, [], ◌∷◌, eqb, length, get_or}
-use Rattle.shape.specs.Numbers.{integer}
 use Rattle.slots.specs.Cut.{cut}
 use Rattle.spend.specs.declared.Way.{Way}
 use Rattle.spend.specs.declared.Way.TheVariants.{Ignore, Direct, Pieces, Reference, Memory}

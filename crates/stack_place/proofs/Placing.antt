@@ -1,5 +1,5 @@
 -- The laws of the placing: each way out of the code is one line of a definition. Sums that stop at 64 bits have passed the limit before.
-use Prim.Native.Nat.{ℕ, suc, ◌+◌, ◌*◌, ◌-◌, ◌≤◌, ◌<◌, min, max}
+use Prim.Native.Nat.{ℕ, ◌+◌, ◌*◌, ◌-◌, ◌≤◌, ◌<◌, min, max}
 use mathlib.Core.Path.{◌≡◌, refl, sym, subst, ◌∙◌}
 use mathlib.Core.Bool.{Bool, true, false, ◌&&◌, not, cond}
 use mathlib.Core.Logic.{⊎_elim}
@@ -8,9 +8,9 @@ use native.Mathlib.Omega.{arith}
 use borrow.Author.Tests.{lt-ltb, le-ltb, eq-eqb, ne_eqb, eqb-true}
 use lib.Dec.{T, eqb}
 use Rattle.shape.specs.declared.Scalar.{Scalar}
-use Rattle.shape.specs.Numbers.{most_word, accepted, no_room}
+use Rattle.shape.specs.Numbers.{most_word, accepted}
 use Rattle.shape.specs.Arithmetic.{plus, times, round_up, rounded}
-use Rattle.shape.proofs.Rounding.{at_most, round_least, round_zero}
+use Rattle.shape.proofs.Rounding.{at_most, round_zero}
 use Rattle.describe.specs.declared.ReturnPointer.{ReturnPointer}
 use Rattle.describe.specs.declared.ReturnPointer.TheVariants.{FirstArgument, FirstArgumentPopped}
 use Rattle.describe.specs.declared.StackArgs.{StackArgs}
@@ -21,7 +21,7 @@ use Rattle.spend.specs.declared.Way.TheVariants.{Ignore, Direct, Pieces, Referen
 use Rattle.stack_place.specs.declared.Area.{Area}
 use Rattle.stack_place.specs.declared.Placed.{Placed}
 use Rattle.stack_place.proofs.Standing.{length_least}
-use Rattle.stack_place.specs.Stacked.{most_stack, pointer_bytes, address_bytes, return_bytes, scalar_rest, scalar_bytes, slots_beyond, aggregate_bytes, is_held, value_rounding, wide_or, scalar_rounding, aggregate_rounding, rounding_of, in_words, length_of, stands, nowhere, without_room, from, behind, placed_of, return_placed, scalar_placed}
+use Rattle.stack_place.specs.Stacked.{most_stack, pointer_bytes, address_bytes, return_bytes, scalar_rest, scalar_bytes, slots_beyond, aggregate_bytes, is_held, value_rounding, wide_or, scalar_rounding, aggregate_rounding, rounding_of, in_words, length_of, stands, nowhere, without_room, behind, placed_of, return_placed, scalar_placed}
 
 -- ---- how many bytes
 

@@ -1,6 +1,6 @@
 -- The callee's side of a variable argument list on description 0 (REFERENCE 15), from the psABI, 3.5.7: what is refused, in which area and where
 -- a scalar's own bytes stand, and the offsets after it.
-use Rattle.std.specs.Prelude.{ℕ, ◌≤◌, ◌+◌, ◌-◌, ◌%◌, Bool, ◌&&◌, ◌||◌, not, cond, List, [], ltb, leb, eqb, length, take, drop}
+use Rattle.std.specs.Prelude.{ℕ, ◌≤◌, ◌+◌, ◌%◌, Bool, ◌&&◌, ◌||◌, not, cond, List, [], ltb, leb, eqb, length, take, drop}
 use Rattle.shape.specs.declared.Scalar.{Scalar}
 use Rattle.shape.specs.Numbers.{integer, single, double, x87_extended, quad, accepted, bad_kind, bad_size, bad_align, bad_area, most_size, most_align}
 use Rattle.checks.specs.Check.{refuse}

@@ -1,4 +1,3 @@
-use Prim.Native.Nat.{◌-◌}
 use Rattle.checks.proofs.Accepted.{end_fits}
 use Rattle.checks.proofs.Check.{reach_none, reach_start, reach_refused, reach_next, reach_past, reach_inside}
 use borrow.Author.Rules.{rules}

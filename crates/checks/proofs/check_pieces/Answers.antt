@@ -1,4 +1,3 @@
-use Prim.Native.Nat.{◌-◌}
 use mathlib.Core.Path.{refl}
 use Rattle.shape.proofs.Words.{pieces, loop_end}
 use Rattle.checks.proofs.Check.{pieces_by_first, refused_here, refused_later}

@@ -1,6 +1,5 @@
 -- `apply` answers the first rule that decides. The invariant: the rules that are left decide what all decide, and end with one that decides; so
 -- there is no way past their end.
-use borrow.Author.Rules.{rules}
 use Rattle.shape.specs.Words.{pieces_of}
 use Rattle.classify.proofs.Walking.{Remaining}
 use Rattle.classify.proofs.apply.Given as goal

@@ -45,18 +45,18 @@ write_members-loop-i-preserved t c =
     let f = if_leaves c.row_at-row.result.leaves (entry_pieces a.types.now a.members.now a.table.now a.levels c.member_at-m.result c.sum-start.result) in
     -- where a member that has leaves and one that has none meet again
     let g : (c.if-row-gt0.to ≡ pour_at f c.loop-i.out c.loop-i.to) × (c.if-row-gt0.out ≡ pour_words f c.loop-i.out c.loop-i.to) × (length c.if-row-gt0.out ≡ length c.loop-i.out) =
-      elim c.if-row-gt0.branch [
-        write_members-then-row-gt0 w ↦ (
-          some_at _ _ _ _ w.if-row-gt0.true _ _ w.to-is w.write_type-to.ensures.0,
-          some_words _ _ _ _ w.if-row-gt0.true _ _ w.out-is w.write_type-to.ensures.1,
-          ap length w.out-is ∙ w.write_type-to.auto.out
-        )
-        | write_members-else-row-gt0 w ↦ (
-          none_at _ _ _ _ w.if-row-gt0.false _ w.to-is,
-          none_words _ _ _ _ w.if-row-gt0.false _ w.out-is,
-          ap length w.out-is
-        )
-      ] in
+    elim c.if-row-gt0.branch [
+      | write_members-then-row-gt0 w ↦ (
+        some_at _ _ _ _ w.if-row-gt0.true _ _ w.to-is w.write_type-to.ensures.0,
+        some_words _ _ _ _ w.if-row-gt0.true _ _ w.out-is w.write_type-to.ensures.1,
+        ap length w.out-is ∙ w.write_type-to.auto.out,
+      )
+      | write_members-else-row-gt0 w ↦ (
+        none_at _ _ _ _ w.if-row-gt0.false _ w.to-is,
+        none_words _ _ _ _ w.if-row-gt0.false _ w.out-is,
+        ap length w.out-is,
+      )
+    ] in
     let e = members_turn _ _ _ _ _ _ _ _ _ c.loop-i-test.true _ c.member_at-m.ensures _ c.row_at-row.ensures _ c.place-offset.ensures _ c.sum-start.ensures _ c.sum-end.ensures in (
       omega arith,
       omega (arith, g.2, i.1),

@@ -1,4 +1,3 @@
-use Prim.Native.Nat.{◌-◌}
 use Rattle.shape.proofs.Words.{scalars, loop_end}
 use Rattle.checks.proofs.Check.{refused_here, refused_later}
 use Rattle.layouts.proofs.Members.{members_parts, members_many, by_scalars, scalars_by_first}

@@ -1,4 +1,3 @@
-use Prim.Native.Nat.{◌-◌}
 use Rattle.shape.specs.Questions.{end_of}
 use Rattle.layouts.proofs.Making.{max_end, max_next}
 use native.Mathlib.Omega.{arith}

@@ -1,8 +1,8 @@
-use Prim.Native.Nat.{ℕ, ◌≤◌, ◌-◌, ◌+◌, ◌*◌, ◌/◌, max}
+use Prim.Native.Nat.{ℕ, ◌≤◌, ◌+◌, ◌*◌, ◌/◌, max}
 use lib.ListN.{length}
 use Rattle.shape.specs.declared.Scalar.{Scalar}
 use mathlib.Core.Path.{◌≡◌, refl}
-use Rattle.shape.specs.Numbers.{accepted, most_pieces}
+use Rattle.shape.specs.Numbers.{most_pieces}
 use Rattle.shape.specs.Arithmetic.{round_up, rounded}
 use Rattle.shape.proofs.Rounding.{round_bound, round_within}
 use Rattle.shape.proofs.Words.{length_scalars}

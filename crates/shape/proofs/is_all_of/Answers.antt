@@ -1,4 +1,3 @@
-use Prim.Native.Nat.{◌-◌}
 use Rattle.shape.proofs.Questions.{all_none, all_start, kind_by_first}
 use Rattle.shape.proofs.Words.{pieces, test_end, test_broken, test_next}
 use native.Mathlib.Omega.{arith}

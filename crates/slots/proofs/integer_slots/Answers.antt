@@ -1,4 +1,4 @@
-use Prim.Native.Nat.{◌<◌, ◌-◌, ◌*◌}
+use Prim.Native.Nat.{◌<◌, ◌*◌}
 use mathlib.Core.Path.{refl}
 use Rattle.slots.proofs.Cut.{run_none, cut_inside, cut_done, cut_short, cut_next}
 use native.Mathlib.Omega.{arith}

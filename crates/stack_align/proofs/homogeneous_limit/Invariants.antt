@@ -1,6 +1,5 @@
 -- `homogeneous_limit` answers the first such limit of a list. The invariant: the rules that are left decide it.
 use mathlib.Core.Path.{◌≡◌}
-use borrow.Author.Rules.{rules}
 use Rattle.rows.specs.Row.{listed}
 use Rattle.stack_align.specs.Limits.{list_limit}
 use Rattle.stack_align.proofs.homogeneous_limit.Given as goal

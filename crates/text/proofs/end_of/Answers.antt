@@ -1,4 +1,3 @@
-use Prim.Native.Nat.{◌-◌}
 use mathlib.Core.Path.{refl}
 use Rattle.text.proofs.Dots.{end_dot, end_next, end_last}
 use Rattle.text.proofs.end_of.Goals as goal

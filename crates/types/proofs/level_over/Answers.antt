@@ -1,4 +1,3 @@
-use Prim.Native.Nat.{◌-◌}
 use native.Mathlib.Omega.{arith}
 use Rattle.types.proofs.Rows.{level_start, level_late, level_turn, level_end}
 use Rattle.types.proofs.level_over.Goals as goal

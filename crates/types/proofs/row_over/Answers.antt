@@ -1,4 +1,3 @@
-use Prim.Native.Nat.{◌-◌}
 use native.Mathlib.Omega.{arith}
 use Rattle.types.proofs.Rows.{row_start, row_turn, row_end}
 use Rattle.types.proofs.row_over.Goals as goal

@@ -1,4 +1,3 @@
-use Prim.Native.Nat.{◌-◌}
 use mathlib.Core.Path.{refl}
 use Rattle.shape.proofs.Words.{pieces, test_end, test_broken, test_next}
 use Rattle.find.proofs.AllAlike.{same_by_first}

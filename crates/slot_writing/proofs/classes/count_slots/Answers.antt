@@ -1,4 +1,3 @@
-use Prim.Native.Nat.{◌-◌}
 use mathlib.Core.Path.{sym}
 use native.Mathlib.Nat.{zero-add}
 use Rattle.slot_writing.proofs.Put.{count_end, count_turn}

@@ -1,4 +1,3 @@
-use Prim.Native.Nat.{◌-◌}
 use mathlib.Core.Path.{refl}
 use Rattle.slot_writing.proofs.Put.{put_short, put_start, room_start, room_turn, put_turn, put_end}
 use native.Mathlib.Omega.{arith}

@@ -1,4 +1,3 @@
-use Prim.Native.Nat.{◌-◌}
 use mathlib.Core.Path.{refl}
 use Rattle.slot_writing.proofs.EachPiece.{each_short, each_room, each_start, each_end, each_left, each_next}
 use native.Mathlib.Omega.{arith}
