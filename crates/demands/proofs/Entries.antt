@@ -57,7 +57,7 @@ use Rattle.export_questions.proofs.barkpaddle_version.Reads as entry_version
 use Rattle.export_varargs.specs.declared.Part.{Part}
 use Rattle.export_varargs.specs.Numbers.{offsets_from, part_numbers, area_from}
 use Rattle.export_varargs.proofs.barkpaddle_read_scalar.Reads as entry_read_scalar
-use Rattle.demands.specs.Contracts.{Answers, AnswersAlone}
+use Rattle.demands.specs.Answering.{Answers, AnswersAlone}
 use Rattle.demands.specs.Performed.{handed}
 use Rattle.demands.specs.Refusals.{number_refusals, in_memory_refusals, member_refusals, record_refusals, name_refusals, attribute_refusals, question_refusals, read_refusals, IsRefusal, RefusedTold, RefusedAs, no_record, no_rule, no_part}
 use Rattle.demands.specs.Extent.{Extent}
@@ -102,7 +102,7 @@ in_memory_entry κs c size align complex floating words r s p =
 
 -- ---- pieces and records
 
-pub pieces_entry : (κs : Lfts 2) (members out : Bor (List ℕ))
+pub pieces_entry : (κs : Lfts 2) (members : Bor (List ℕ)) (out : MutBor (List ℕ))
     → Answers (entry_pieces.Post κs) (λ s. s.1.0.now) (members, (out, tt))
     (λ (r : Told) (after : List ℕ). (IsRefusal r.refusal → RefusedTold member_refusals r out.now after)
     × (members_refusal members.now ≡ accepted → length (scalars_of members.now) ≤ length out.now / piece_size
@@ -183,7 +183,7 @@ pub asked_entry : (κs : Lfts 1) (architecture system msvc : ℕ) (name : Bor (L
     (λ (r : ℕ). r ≡ cond (is_target architecture system) (code_of (asked (architecture_of architecture) (system_of system) name.now)) none_number)
 asked_entry κs architecture system msvc name r s p = p ∙ answering.asked_as_rust architecture system (is_set msvc) name.now
 
-pub attribute_entry : (κs : Lfts 1) (convention : ℕ) (out : Bor (List ℕ))
+pub attribute_entry : (κs : Lfts 1) (convention : ℕ) (out : MutBor (List ℕ))
     → Answers (entry_attribute.Post κs) (λ s. s.1.0.now) (convention, (out, tt))
     (λ (r : Told) (after : List ℕ). (IsRefusal r.refusal → RefusedTold attribute_refusals r out.now after)
     × ((name : List ℕ) → is_convention convention ≡ true → attribute (convention_of convention) ≡ some name → length name ≤ length out.now

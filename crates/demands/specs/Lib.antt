@@ -2,7 +2,7 @@ pub mod Refusals
 pub mod Rust
 pub mod Standards
 pub mod Performed
-pub mod Contracts
+pub mod Answering
 pub mod Lists
 pub mod Fastcall
 pub mod Extent

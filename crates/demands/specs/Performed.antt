@@ -3,7 +3,7 @@
 -- numbers; an entry of a bridge is lent the call and updates it where it stands.
 use Rattle.std.specs.Prelude.{ℕ, ◌≡◌, List, [], ◌∷◌}
 use contract.Lifetimes.{Lfts}
-use Rattle.std.specs.Borrow.{Bor}
+use Rattle.std.specs.Borrow.{Bor, MutBor}
 use denote.Triple.Clauses.{AtExit}
 use Rattle.shape.specs.declared.Arg.{Arg}
 use Rattle.shape.specs.declared.Arg.TheVariants.{Void, Scalar, Aggregate}
@@ -84,62 +84,62 @@ pub data Takes (shape : Shape) (words : List ℕ) : Operation → Type 0 where
 pub data Performed (c : Call) : Operation → Answer → List ℕ → Type 0 where
   -- the methods of a call
   variadic : (κs : Lfts 0) (a : Answer) → MetAlone (call_variadic.Post κs) (c, tt) a → Performed c asks.mark a []
-  returns : (κs : Lfts 2) (arg : Arg) (w o : Bor (List ℕ)) (a : Answer) (after : List ℕ)
+  returns : (κs : Lfts 2) (arg : Arg) (w : Bor (List ℕ)) (o : MutBor (List ℕ)) (a : Answer) (after : List ℕ)
       → Met (call_returns.Post κs) (λ s. s.1.1.1.0.now) (c, (arg, (w, (o, tt)))) a after → Performed c (asks.return arg w.now o.now) a after
-  argument : (κs : Lfts 2) (arg : Arg) (w o : Bor (List ℕ)) (a : Answer) (after : List ℕ)
+  argument : (κs : Lfts 2) (arg : Arg) (w : Bor (List ℕ)) (o : MutBor (List ℕ)) (a : Answer) (after : List ℕ)
       → Met (call_argument.Post κs) (λ s. s.1.1.1.0.now) (c, (arg, (w, (o, tt)))) a after → Performed c (asks.argument arg w.now o.now) a after
-  variadic_argument : (κs : Lfts 2) (arg : Arg) (w o : Bor (List ℕ)) (a : Answer) (after : List ℕ)
+  variadic_argument : (κs : Lfts 2) (arg : Arg) (w : Bor (List ℕ)) (o : MutBor (List ℕ)) (a : Answer) (after : List ℕ)
       → Met (call_variadic_argument.Post κs) (λ s. s.1.1.1.0.now) (c, (arg, (w, (o, tt)))) a after → Performed c (asks.variadic_argument arg w.now o.now) a after
   -- those of a value whose form is known: nothing is lent where nothing travels
   returns_nothing : (κs : Lfts 0) (out : List ℕ) (a : Answer) → MetAlone (call_nothing.Post κs) (c, tt) a → Performed c (asks.return Void [] out) a out
   argument_nothing : (κs : Lfts 0) (out : List ℕ) (a : Answer) → MetAlone (call_nothing.Post κs) (c, tt) a → Performed c (asks.argument Void [] out) a out
   variadic_argument_nothing : (κs : Lfts 0) (out : List ℕ) (a : Answer) → MetAlone (call_nothing.Post κs) (c, tt) a → Performed c (asks.variadic_argument Void [] out) a out
-  returns_scalar : (κs : Lfts 1) (s : scalars.Scalar) (o : Bor (List ℕ)) (a : Answer) (after : List ℕ)
+  returns_scalar : (κs : Lfts 1) (s : scalars.Scalar) (o : MutBor (List ℕ)) (a : Answer) (after : List ℕ)
       → Met (call_returns_scalar.Post κs) (λ s. s.1.1.0.now) (c, (s, (o, tt))) a after → Performed c (asks.return (Scalar s) [] o.now) a after
-  argument_scalar : (κs : Lfts 1) (s : scalars.Scalar) (o : Bor (List ℕ)) (a : Answer) (after : List ℕ)
+  argument_scalar : (κs : Lfts 1) (s : scalars.Scalar) (o : MutBor (List ℕ)) (a : Answer) (after : List ℕ)
       → Met (call_argument_scalar.Post κs) (λ s. s.1.1.0.now) (c, (s, (o, tt))) a after → Performed c (asks.argument (Scalar s) [] o.now) a after
-  variadic_argument_scalar : (κs : Lfts 1) (s : scalars.Scalar) (o : Bor (List ℕ)) (a : Answer) (after : List ℕ)
+  variadic_argument_scalar : (κs : Lfts 1) (s : scalars.Scalar) (o : MutBor (List ℕ)) (a : Answer) (after : List ℕ)
       → Met (call_variadic_argument_scalar.Post κs) (λ s. s.1.1.0.now) (c, (s, (o, tt))) a after → Performed c (asks.variadic_argument (Scalar s) [] o.now) a after
-  returns_aggregate : (κs : Lfts 2) (shape : Shape) (w o : Bor (List ℕ)) (a : Answer) (after : List ℕ)
+  returns_aggregate : (κs : Lfts 2) (shape : Shape) (w : Bor (List ℕ)) (o : MutBor (List ℕ)) (a : Answer) (after : List ℕ)
       → Met (call_returns_aggregate.Post κs) (λ s. s.1.1.1.0.now) (c, (shape, (w, (o, tt)))) a after → Performed c (asks.return (Aggregate shape) w.now o.now) a after
-  argument_aggregate : (κs : Lfts 2) (shape : Shape) (w o : Bor (List ℕ)) (a : Answer) (after : List ℕ)
+  argument_aggregate : (κs : Lfts 2) (shape : Shape) (w : Bor (List ℕ)) (o : MutBor (List ℕ)) (a : Answer) (after : List ℕ)
       → Met (call_argument_aggregate.Post κs) (λ s. s.1.1.1.0.now) (c, (shape, (w, (o, tt)))) a after → Performed c (asks.argument (Aggregate shape) w.now o.now) a after
-  variadic_argument_aggregate : (κs : Lfts 2) (shape : Shape) (w o : Bor (List ℕ)) (a : Answer) (after : List ℕ)
+  variadic_argument_aggregate : (κs : Lfts 2) (shape : Shape) (w : Bor (List ℕ)) (o : MutBor (List ℕ)) (a : Answer) (after : List ℕ)
       → Met (call_variadic_argument_aggregate.Post κs) (λ s. s.1.1.1.0.now) (c, (shape, (w, (o, tt)))) a after → Performed c (asks.variadic_argument (Aggregate shape) w.now o.now) a after
   -- the exported entries, which are handed the call's five numbers and the value's
   barkpaddle_variadic : (κs : Lfts 0) (a : Answer) → MetAlone (entry_variadic.Post κs) (handed c tt) a → Performed c asks.mark a []
-  barkpaddle_return_void : (κs : Lfts 1) (o : Bor (List ℕ)) (a : Answer) (after : List ℕ)
+  barkpaddle_return_void : (κs : Lfts 1) (o : MutBor (List ℕ)) (a : Answer) (after : List ℕ)
       → Met (entry_return_void.Post κs) (λ s. s.1.1.1.1.1.0.now) (handed c (o, tt)) a after → Performed c (asks.return void_arg [] o.now) a after
-  barkpaddle_return_scalar : (κs : Lfts 1) (kind size align : ℕ) (o : Bor (List ℕ)) (a : Answer) (after : List ℕ)
+  barkpaddle_return_scalar : (κs : Lfts 1) (kind size align : ℕ) (o : MutBor (List ℕ)) (a : Answer) (after : List ℕ)
       → Met (entry_return_scalar.Post κs) (λ s. s.1.1.1.1.1.1.1.1.0.now) (handed c (kind, (size, (align, (o, tt))))) a after
       → Performed c (asks.return (scalar_from kind size align) [] o.now) a after
-  barkpaddle_return_aggregate : (κs : Lfts 2) (size align complex floating : ℕ) (w o : Bor (List ℕ)) (a : Answer) (after : List ℕ)
+  barkpaddle_return_aggregate : (κs : Lfts 2) (size align complex floating : ℕ) (w : Bor (List ℕ)) (o : MutBor (List ℕ)) (a : Answer) (after : List ℕ)
       → Met (entry_return_aggregate.Post κs) (λ s. s.1.1.1.1.1.1.1.1.1.1.0.now) (handed c (size, (align, (complex, (floating, (w, (o, tt))))))) a after
       → Performed c (asks.return (aggregate_from size align complex floating) w.now o.now) a after
-  barkpaddle_argument_void : (κs : Lfts 1) (o : Bor (List ℕ)) (a : Answer) (after : List ℕ)
+  barkpaddle_argument_void : (κs : Lfts 1) (o : MutBor (List ℕ)) (a : Answer) (after : List ℕ)
       → Met (entry_argument_void.Post κs) (λ s. s.1.1.1.1.1.0.now) (handed c (o, tt)) a after → Performed c (asks.argument void_arg [] o.now) a after
-  barkpaddle_argument_scalar : (κs : Lfts 1) (kind size align : ℕ) (o : Bor (List ℕ)) (a : Answer) (after : List ℕ)
+  barkpaddle_argument_scalar : (κs : Lfts 1) (kind size align : ℕ) (o : MutBor (List ℕ)) (a : Answer) (after : List ℕ)
       → Met (entry_argument_scalar.Post κs) (λ s. s.1.1.1.1.1.1.1.1.0.now) (handed c (kind, (size, (align, (o, tt))))) a after
       → Performed c (asks.argument (scalar_from kind size align) [] o.now) a after
-  barkpaddle_argument_aggregate : (κs : Lfts 2) (size align complex floating : ℕ) (w o : Bor (List ℕ)) (a : Answer) (after : List ℕ)
+  barkpaddle_argument_aggregate : (κs : Lfts 2) (size align complex floating : ℕ) (w : Bor (List ℕ)) (o : MutBor (List ℕ)) (a : Answer) (after : List ℕ)
       → Met (entry_argument_aggregate.Post κs) (λ s. s.1.1.1.1.1.1.1.1.1.1.0.now) (handed c (size, (align, (complex, (floating, (w, (o, tt))))))) a after
       → Performed c (asks.argument (aggregate_from size align complex floating) w.now o.now) a after
-  barkpaddle_variadic_argument_void : (κs : Lfts 1) (o : Bor (List ℕ)) (a : Answer) (after : List ℕ)
+  barkpaddle_variadic_argument_void : (κs : Lfts 1) (o : MutBor (List ℕ)) (a : Answer) (after : List ℕ)
       → Met (entry_variadic_argument_void.Post κs) (λ s. s.1.1.1.1.1.0.now) (handed c (o, tt)) a after → Performed c (asks.variadic_argument void_arg [] o.now) a after
-  barkpaddle_variadic_argument_scalar : (κs : Lfts 1) (kind size align : ℕ) (o : Bor (List ℕ)) (a : Answer) (after : List ℕ)
+  barkpaddle_variadic_argument_scalar : (κs : Lfts 1) (kind size align : ℕ) (o : MutBor (List ℕ)) (a : Answer) (after : List ℕ)
       → Met (entry_variadic_argument_scalar.Post κs) (λ s. s.1.1.1.1.1.1.1.1.0.now) (handed c (kind, (size, (align, (o, tt))))) a after
       → Performed c (asks.variadic_argument (scalar_from kind size align) [] o.now) a after
-  barkpaddle_variadic_argument_aggregate : (κs : Lfts 2) (size align complex floating : ℕ) (w o : Bor (List ℕ)) (a : Answer) (after : List ℕ)
+  barkpaddle_variadic_argument_aggregate : (κs : Lfts 2) (size align complex floating : ℕ) (w : Bor (List ℕ)) (o : MutBor (List ℕ)) (a : Answer) (after : List ℕ)
       → Met (entry_variadic_argument_aggregate.Post κs) (λ s. s.1.1.1.1.1.1.1.1.1.1.0.now) (handed c (size, (align, (complex, (floating, (w, (o, tt))))))) a after
       → Performed c (asks.variadic_argument (aggregate_from size align complex floating) w.now o.now) a after
   -- the entries of a bridge: `c` stands behind the call's reference before, and the answer's next call afterwards
-  barkpaddle_bridge_variadic : (κs : Lfts 1) (b : Bor Call) (r : Outcome) (e : AtExit on_mark.ended κs)
+  barkpaddle_bridge_variadic : (κs : Lfts 1) (b : MutBor Call) (r : Outcome) (e : AtExit on_mark.ended κs)
       → b.now ≡ c → Marks κs (b, tt) r e → Performed c asks.mark (leaving e.0.now r) []
-  barkpaddle_bridge_returns : (κs : Lfts 3) (b : Bor Call) (what : What) (w o : Bor (List ℕ)) (r : Outcome) (e : AtExit on_value.ended κs)
+  barkpaddle_bridge_returns : (κs : Lfts 3) (b : MutBor Call) (what : What) (w : Bor (List ℕ)) (o : MutBor (List ℕ)) (r : Outcome) (e : AtExit on_value.ended κs)
       → b.now ≡ c → Returns κs (b, (what, (w, (o, tt)))) r e → Performed c (asks.return (arg_of what) w.now o.now) (leaving e.0.now r) e.1.1.1.0.now
-  barkpaddle_bridge_argument : (κs : Lfts 3) (b : Bor Call) (what : What) (w o : Bor (List ℕ)) (r : Outcome) (e : AtExit on_value.ended κs)
+  barkpaddle_bridge_argument : (κs : Lfts 3) (b : MutBor Call) (what : What) (w : Bor (List ℕ)) (o : MutBor (List ℕ)) (r : Outcome) (e : AtExit on_value.ended κs)
       → b.now ≡ c → Passes κs (b, (what, (w, (o, tt)))) r e → Performed c (asks.argument (arg_of what) w.now o.now) (leaving e.0.now r) e.1.1.1.0.now
-  barkpaddle_bridge_variadic_argument : (κs : Lfts 3) (b : Bor Call) (what : What) (w o : Bor (List ℕ)) (r : Outcome) (e : AtExit on_value.ended κs)
+  barkpaddle_bridge_variadic_argument : (κs : Lfts 3) (b : MutBor Call) (what : What) (w : Bor (List ℕ)) (o : MutBor (List ℕ)) (r : Outcome) (e : AtExit on_value.ended κs)
       → b.now ≡ c → PassesVariadic κs (b, (what, (w, (o, tt)))) r e
       → Performed c (asks.variadic_argument (arg_of what) w.now o.now) (leaving e.0.now r) e.1.1.1.0.now
 

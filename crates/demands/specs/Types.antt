@@ -2,7 +2,7 @@
 -- function, as the checker reads it. And when each refusal is given, from the request that types inside types be flattened.
 use Rattle.std.specs.Prelude.{ℕ, ◌/◌, ◌<◌, ◌≤◌, ◌≡◌, true, false, List, [], ◌∷◌, length}
 use contract.Lifetimes.{Lfts}
-use Rattle.std.specs.Borrow.{Bor}
+use Rattle.std.specs.Borrow.{Bor, MutBor}
 use Rattle.shape.specs.Numbers.{accepted, bad_list, bad_kind, bad_size, bad_align, no_room, bad_type, too_deep, most_pieces}
 use Rattle.shape.specs.Words.{piece_size, scalars_of}
 use Rattle.layouts.specs.Record.{is_floating, recorded, record_answer}
@@ -22,9 +22,9 @@ use Rattle.demands.specs.Performed.{Met}
 
 -- a function that is lent these lists and this buffer answers so, and leaves the buffer so
 pub data IsFlattened (types members out : List ℕ) (r : Flattened) (after : List ℕ) : Type 0 where
-  flatten : (κs : Lfts 3) (ts ms pieces : Bor (List ℕ)) → ts.now ≡ types → ms.now ≡ members → pieces.now ≡ out
+  flatten : (κs : Lfts 3) (ts ms : Bor (List ℕ)) (pieces : MutBor (List ℕ)) → ts.now ≡ types → ms.now ≡ members → pieces.now ≡ out
       → Met (on_flatten.Post κs) (λ s. s.1.1.0.now) (ts, (ms, (pieces, tt))) r after → IsFlattened types members out r after
-  barkpaddle_flatten : (κs : Lfts 3) (ts ms pieces : Bor (List ℕ)) → ts.now ≡ types → ms.now ≡ members → pieces.now ≡ out
+  barkpaddle_flatten : (κs : Lfts 3) (ts ms : Bor (List ℕ)) (pieces : MutBor (List ℕ)) → ts.now ≡ types → ms.now ≡ members → pieces.now ≡ out
       → Met (entry_flatten.Post κs) (λ s. s.1.1.0.now) (ts, (ms, (pieces, tt))) r after → IsFlattened types members out r after
 
 -- ---- refused
