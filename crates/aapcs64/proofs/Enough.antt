@@ -8,8 +8,7 @@ use lib.Dec.{leb}
 use Rattle.shape.specs.declared.Piece.{Piece}
 use Rattle.shape.specs.declared.Shape.{Shape}
 use Rattle.shape.specs.Lists.{every}
-use Rattle.shape.specs.Spans.{in_order, apart}
-use Rattle.aapcs64.specs.Domain.{is_usual, Domain}
+use Rattle.aapcs64.specs.Domain.{is_usual, in_order, apart, Domain}
 
 pub record Enough (shape : Shape) (ps : List Piece) : Type 0 where
   pub some : 0 < shape.size

@@ -8,7 +8,6 @@ use Rattle.shape.specs.declared.Arg.TheVariants as args
 use Rattle.shape.specs.declared.Scalar.{Scalar}
 use Rattle.shape.specs.Lists.{every, any}
 use Rattle.shape.specs.Numbers.{integer, single, double}
-use Rattle.shape.specs.Spans.{in_order, apart}
 use Rattle.shape.specs.Words.{piece, scalar}
 use Rattle.slots.specs.Words.{integer_slot, float_slot}
 use Rattle.slots.specs.Search.{floats_in}
@@ -23,7 +22,7 @@ use Rattle.classify.specs.Classify as classify
 use Rattle.aapcs64.specs.Aapcs64.{Fundamental, integral, floating, fundamental, v, x, part, registers, stack, copy, copy_on_stack, state, Passing, passing, all_of, insert, addressable, count, is_hfa_of, is_hfa, member_parts, word_parts, stage_c, parameter, comes, through_x8, Returning, returning, result}
 use Rattle.aapcs64.specs.Aapcs64 as precision
 use Rattle.aapcs64.specs.Reading.{most_align, state_of, parts_of, reads, reads_result}
-use Rattle.aapcs64.specs.Domain.{furthest, below, Domain}
+use Rattle.aapcs64.specs.Domain.{in_order, apart, furthest, below, Domain}
 use Rattle.aapcs64.proofs.Case.{Case, on, shaped, row_argument, row_result, standard_argument, standard_result, Same, SameResult, Allowed}
 use Rattle.aapcs64.proofs.Needed.{tests, all, tests_are_domain}
 

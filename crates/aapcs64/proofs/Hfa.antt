@@ -14,15 +14,14 @@ use Rattle.shape.specs.declared.Piece.{Piece}
 use Rattle.shape.specs.declared.Shape.{Shape}
 use Rattle.shape.specs.Lists.{every}
 use Rattle.shape.specs.Words.{piece}
-use Rattle.shape.specs.Questions.{is_float, format_bytes}
-use Rattle.shape.specs.Spans.{span_end, in_order, apart}
+use Rattle.shape.specs.Questions.{is_float}
 use Rattle.slots.specs.declared.Slot.{Slot}
 use Rattle.slots.specs.Search.{found, nothing, floats_in}
 use Rattle.find.specs.Find.{found_if, floats_at, all_same, is_homogeneous, homogeneous}
 use Rattle.find.proofs.Each.{length_at, floats_at_lem}
 use Rattle.aapcs64.specs.Aapcs64.{Precision, single, double, bytes_of, Fundamental, integral, floating, size_of, Composite, is_of, all_of, insert, addressable, count, is_hfa_of, is_hfa, member_parts}
-use Rattle.aapcs64.specs.Reading.{type_of, member_of, composite, parts_of}
-use Rattle.aapcs64.specs.Domain.{is_usual}
+use Rattle.aapcs64.specs.Reading.{type_of, member_of, composite, format_bytes, parts_of}
+use Rattle.aapcs64.specs.Domain.{is_usual, end, in_order, apart}
 use Rattle.aapcs64.proofs.Enough.{Enough}
 
 -- ---- the pieces' scalars
@@ -103,8 +102,8 @@ module _ (kind : ℕ) (p : Precision) (st : Stands kind p) where
   -- of two that follow one another, the second starts behind the first
   behind : (q r : Piece) → Usual q.kind q.size q.align → Usual r.kind r.size r.align
       → is_of p (type_of q.kind q.size) ≡ true → is_of p (type_of r.kind r.size) ≡ true
-      → q.offset ≤ r.offset → leb (span_end q) r.offset || leb (span_end r) q.offset ≡ true → q.offset < r.offset
-  behind q r uq ur tq tr l e = go (leb (span_end q) r.offset) refl e
+      → q.offset ≤ r.offset → leb (end q) r.offset || leb (end r) q.offset ≡ true → q.offset < r.offset
+  behind q r uq ur tq tr l e = go (leb (end q) r.offset) refl e
     where
       sq : q.size ≡ bytes_of p
       sq = st.sized q.kind q.size q.align uq tq
@@ -112,9 +111,9 @@ module _ (kind : ℕ) (p : Precision) (st : Stands kind p) where
       sr : r.size ≡ bytes_of p
       sr = st.sized r.kind r.size r.align ur tr
 
-      go : (b : Bool) → leb (span_end q) r.offset ≡ b → b || leb (span_end r) q.offset ≡ true → q.offset < r.offset
-      go true t e = let h : span_end q ≤ r.offset = leb-true _ _ t in omega (arith, sq, st.some)
-      go false t e = let h : span_end r ≤ q.offset = leb-true _ _ e in omega (arith, sr, st.some)
+      go : (b : Bool) → leb (end q) r.offset ≡ b → b || leb (end r) q.offset ≡ true → q.offset < r.offset
+      go true t e = let h : end q ≤ r.offset = leb-true _ _ t in omega (arith, sq, st.some)
+      go false t e = let h : end r ≤ q.offset = leb-true _ _ e in omega (arith, sr, st.some)
 
   by_address : (ps : List Piece) → every is_usual ps ≡ true → in_order ps ≡ true → apart ps ≡ true → all_of p (map member_of ps) ≡ true
       → addressable (map member_of ps) ≡ map member_of ps
@@ -127,7 +126,7 @@ module _ (kind : ℕ) (p : Precision) (st : Stands kind p) where
       let iq = both_true _ (in_order (r ∷ ps)) i in
       let ir = both_true (leb q.offset r.offset) _ iq.0 in
       let aq = both_true _ (apart (r ∷ ps)) a in
-      let ar = both_true (leb (span_end q) r.offset || leb (span_end r) q.offset) _ aq.0 in
+      let ar = both_true (leb (end q) r.offset || leb (end r) q.offset) _ aq.0 in
       let tq = both_true (is_of p (type_of q.kind q.size)) (all_of p (map member_of (r ∷ ps))) t in
       let tr = both_true (is_of p (type_of r.kind r.size)) (all_of p (map member_of ps)) tq.1 in
       let h : q.offset < r.offset = behind q r (usual q uq.0) (usual r ur.0) tq.0 tr.0 (leb-true _ _ ir.0) ar.0 in

@@ -1,7 +1,7 @@
 -- Which clauses of the domain are needed: for each of six a shape that breaks it alone, with both answers, computed, which differ. Nonzero sizes, no
 -- holes and the end at the size are not needed: `argument_agrees` and `returns_agrees` do without them, since a member that isn't of the one
 -- floating-point type and a size that isn't that many times the type's make no HFA on either side.
-use Prim.Native.Nat.{ℕ, zero, suc, ◌+◌, ◌*◌, ◌-◌}
+use Prim.Native.Nat.{ℕ, zero, suc, ◌+◌, ◌*◌}
 use mathlib.Core.Path.{◌≡◌, refl, ap}
 use mathlib.Core.List.{List, [], ◌∷◌}
 use mathlib.Core.Bool.{Bool, true, false, ◌&&◌, not}
@@ -14,7 +14,6 @@ use Rattle.shape.specs.declared.Piece.{Piece}
 use Rattle.shape.specs.declared.Shape.{Shape}
 use Rattle.shape.specs.Lists.{every, any}
 use Rattle.shape.specs.Numbers.{integer, single, x87_extended, quad}
-use Rattle.shape.specs.Spans.{in_order, apart}
 use Rattle.shape.specs.Words.{piece}
 use Rattle.slots.specs.Words.{integer_slot, float_slot}
 use Rattle.slots.specs.Search.{floats_in}
@@ -26,7 +25,7 @@ use Rattle.classify.specs.Pass.{ignore, pieces}
 use Rattle.classify.specs.Classify.{Passed, passed, counts, short_of, slots_in_registers, travel, apply, argument}
 use Rattle.aapcs64.specs.Aapcs64.{Register, v, x, part, Place, registers, stack, copy, copy_on_stack, state, Passing, passing, all_of, insert, addressable, count, is_hfa_of, is_hfa, member_parts, word_parts, stage_c, parameter}
 use Rattle.aapcs64.specs.Reading.{most_align, parts_of, reads, reads_passed}
-use Rattle.aapcs64.specs.Domain.{is_usual, furthest, below, covered, Domain}
+use Rattle.aapcs64.specs.Domain.{is_usual, in_order, apart, furthest, below, covered, Domain}
 use Rattle.aapcs64.proofs.Case.{Case, on, shaped, row_argument, standard_argument, Same, Allowed}
 
 -- ---- the clauses as a list of tests, in the domain's order

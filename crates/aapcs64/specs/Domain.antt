@@ -1,10 +1,9 @@
 -- The aggregates for which description 1 is held against AAPCS64 (REFERENCE 12), clause by clause: each is a test on a shape and its pieces.
-use Rattle.std.specs.Prelude.{ℕ, zero, suc, ◌<◌, ◌≤◌, max, ◌≡◌, List, [], ◌∷◌, Bool, true, ◌&&◌, ◌||◌, leb, ltb, eqb}
+use Rattle.std.specs.Prelude.{ℕ, zero, suc, ◌+◌, ◌<◌, ◌≤◌, max, ◌≡◌, List, [], ◌∷◌, Bool, true, ◌&&◌, ◌||◌, leb, ltb, eqb}
 use Rattle.shape.specs.declared.Piece.{Piece}
 use Rattle.shape.specs.declared.Shape.{Shape}
 use Rattle.shape.specs.Lists.{every, any}
 use Rattle.shape.specs.Numbers.{integer, single, double}
-use Rattle.shape.specs.Spans.{span_end, in_order, apart}
 
 -- floats only Single, of size and alignment 4, and Double, of size and alignment 8
 abbrev pub is_scalar : ℕ → ℕ → Piece → Bool
@@ -13,14 +12,28 @@ is_scalar kind size p = eqb p.kind kind && eqb p.size size && eqb p.align size
 abbrev pub is_usual : Piece → Bool
 is_usual p = eqb p.kind integer || is_scalar single 4 p || is_scalar double 8 p
 
+-- one past a piece's last byte, where its size isn't 0
+abbrev pub end : Piece → ℕ
+end p = p.offset + p.size
+
+-- no piece starts before one that stands before it
+unfoldable pub in_order : List Piece → Bool
+in_order [] = true
+in_order (p ∷ ps) = every (λ (q : Piece). leb p.offset q.offset) ps && in_order ps
+
+-- of two pieces one ends before the other starts
+unfoldable pub apart : List Piece → Bool
+apart [] = true
+apart (p ∷ ps) = every (λ (q : Piece). leb (end p) q.offset || leb (end q) p.offset) ps && apart ps
+
 -- where the pieces end
 unfoldable pub furthest : List Piece → ℕ
 furthest [] = 0
-furthest (p ∷ ps) = max (span_end p) (furthest ps)
+furthest (p ∷ ps) = max (end p) (furthest ps)
 
 -- every byte up to there is a piece's
 abbrev pub holds : ℕ → Piece → Bool
-holds byte p = leb p.offset byte && ltb byte (span_end p)
+holds byte p = leb p.offset byte && ltb byte (end p)
 
 unfoldable pub below : ℕ → (ℕ → Bool) → Bool
 below zero f = true

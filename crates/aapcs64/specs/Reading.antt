@@ -5,7 +5,7 @@ use Rattle.std.proofs.Math.Option.{Option}
 use Rattle.std.proofs.Math.Option.Option.{none, some}
 use Rattle.shape.specs.declared.Piece.{Piece}
 use Rattle.shape.specs.declared.Shape.{Shape}
-use Rattle.shape.specs.Questions.{is_float, format_bytes}
+use Rattle.shape.specs.Questions.{is_float}
 use Rattle.slots.specs.declared.Slot.{Slot}
 use Rattle.describe.specs.declared.ReturnPointer.{ReturnPointer}
 use Rattle.describe.specs.declared.ReturnPointer.TheVariants.{FirstArgument, FirstArgumentPopped, Dedicated}
@@ -44,6 +44,10 @@ most_natural shape ps = max shape.align (most_align ps)
 -- the numbers of the next registers, of eight each
 abbrev pub state_of : Left → State
 state_of left = state (8 - left.integer) (8 - left.float)
+
+-- how many bytes a float of a format has; an x87 value has ten
+abbrev pub format_bytes : ℕ → ℕ
+format_bytes kind = get_or (0 ∷ 4 ∷ 8 ∷ 10 ∷ 16 ∷ []) kind 0
 
 -- slots go to the next registers of their bank, in order. A float slot has size 0: one of another size would hold nothing
 unfoldable pub parts_of : ℕ → ℕ → List Slot → List Part

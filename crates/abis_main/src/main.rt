@@ -3,17 +3,19 @@
 #![tactic(auto)]
 
 use describe::{Rule, Short, Test, Travel};
-use libc::STDOUT_FILENO;
+use std::io;
+use std::io::Stdout;
 use text::{append, append_number};
 
-fn main() {
+fn main(rt: HostRuntime) -> io::Result<()> {
     for d in 0..abis::DESCRIPTIONS {
-        description(d);
+        description(rt.stdout(), d)?;
     }
+    Ok(())
 }
 
-fn description(d: u64) {
-    let mut space = io::buffer();
+fn description(stdout: Stdout, d: u64) -> io::Result<()> {
+    let mut space = [0u8; 4096];
     let out: &mut [u8] = &mut space;
     let a = name(out, d);
     let b = banks(out, a, d);
@@ -22,7 +24,7 @@ fn description(d: u64) {
     let f = rules(out, e, d, true);
     let g = rules(out, f, d, false);
     let h = questions(out, g, d);
-    flush(out, h);
+    flush(stdout, out, h)
 }
 
 fn name(out: &mut [u8], d: u64) -> usize {
@@ -227,8 +229,9 @@ fn line(out: &mut [u8], from: usize, numbers: &[u64]) -> usize {
     append(out, at, b"\n")
 }
 
-fn flush(out: &[u8], at: usize) {
+fn flush(stdout: Stdout, out: &[u8], at: usize) -> io::Result<()> {
     if at <= out.len() {
-        io::write_all(STDOUT_FILENO, &out[..at]);
+        stdout.write_all(&out[..at])?;
     }
+    Ok(())
 }

@@ -3,17 +3,17 @@
 // above it, and every refusal, which the line that is printed counts.
 #![tactic(auto)]
 
-ghost use Rattle.std.specs.Prelude.{◌≡◌};
-ghost use Rattle.io.specs.Counts.{IsPrefixLen};
+ghost use Rattle.std.specs.Prelude.{◌≡◌, ◌≤◌, length};
 ghost use Rattle.classify.specs.Answers.{variadic_answer};
 ghost use Rattle.bridge.specs.Lent.{LentReturns, LentPasses, LentPassesVariadic};
 
 use bridge::What;
 use classify::{Answer, Call, Outcome};
-use libc::STDOUT_FILENO;
 use shape::{Arg, Scalar, Shape};
 use spend::Left;
 use stack_place::Stacked;
+use std::io;
+use std::io::Stdout;
 
 const OPERATIONS: u64 = 60000;
 
@@ -44,10 +44,10 @@ struct Turn {
     place: usize,
 }
 
-fn main() {
+fn main(rt: HostRuntime) -> io::Result<()> {
     let mut tally = [0u64; TALLY];
     let done = agreed(&mut tally);
-    say(done, &tally);
+    say(rt.stdout(), done, &tally)
 }
 
 // How many operations agree before one doesn't.
@@ -294,7 +294,7 @@ fn room_of(c: u64) -> u64 {
 
 // So many words, or all where there are fewer.
 fn among(n: u64, words: &[u64]) -> usize
-    ensures { IsPrefixLen result words.now }
+    ensures { result ≤ length words.now }
 {
     if n > words.len() as u64 {
         return words.len();
@@ -493,38 +493,42 @@ fn same_words(first: &[u64], second: &[u64]) -> bool {
 
 // ---- the line
 
-fn say(done: u64, tally: &[u64]) {
-    io::print_decimal(STDOUT_FILENO, done);
-    say_how(done);
-    say_counts(b"; refused with 1 to 7 and 9:", tally, 1, 8);
-    say_counts(b"", tally, 9, REFUSALS);
-    say_counts(b"; ways 0 to 4:", tally, REFUSALS, TALLY);
-    io::write_all(STDOUT_FILENO, b"\n");
+fn say(stdout: Stdout, done: u64, tally: &[u64]) -> io::Result<()> {
+    stdout.print(done)?;
+    say_how(stdout, done)?;
+    say_counts(stdout, b"; refused with 1 to 7 and 9:", tally, 1, 8)?;
+    say_counts(stdout, b"", tally, 9, REFUSALS)?;
+    say_counts(stdout, b"; ways 0 to 4:", tally, REFUSALS, TALLY)?;
+    stdout.write_all(b"\n")
 }
 
-fn say_how(done: u64) {
+fn say_how(stdout: Stdout, done: u64) -> io::Result<()> {
     if done < OPERATIONS {
-        io::write_all(
-            STDOUT_FILENO,
-            b" operations agree, and the next one differs",
-        );
-        return;
+        return stdout.write_all(b" operations agree, and the next one differs");
     }
-    io::write_all(STDOUT_FILENO, b" operations agree, by value and lent");
+    stdout.write_all(b" operations agree, by value and lent")
 }
 
-fn say_counts(words: &[u8], tally: &[u64], first: usize, end: usize) {
-    io::write_all(STDOUT_FILENO, words);
+fn say_counts(
+    stdout: Stdout,
+    words: &[u8],
+    tally: &[u64],
+    first: usize,
+    end: usize,
+) -> io::Result<()> {
+    stdout.write_all(words)?;
     let mut i = first;
     while i < end {
-        say_count(tally, i);
+        say_count(stdout, tally, i)?;
         i += 1;
     }
+    Ok(())
 }
 
-fn say_count(tally: &[u64], i: usize) {
-    io::write_all(STDOUT_FILENO, b" ");
+fn say_count(stdout: Stdout, tally: &[u64], i: usize) -> io::Result<()> {
+    stdout.write_all(b" ")?;
     if i < tally.len() {
-        io::print_decimal(STDOUT_FILENO, tally[i]);
+        stdout.print(tally[i])?;
     }
+    Ok(())
 }

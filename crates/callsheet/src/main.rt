@@ -2,10 +2,12 @@
 // front of the buffer for the rest of it.
 #![tactic(auto)]
 
-ghost use Rattle.std.specs.Prelude.{◌≤◌, length};
+ghost use Rattle.std.specs.Prelude.{◌+◌, ◌≤◌, length, IfOk};
 
-use libc::{STDIN_FILENO, STDOUT_FILENO};
 use sheet_perform::State;
+use std::io::{Read, Stdin, Stdout};
+use std::process::ExitCode;
+use std::{fmt, io};
 
 // The records that are held at once. Each has room for a line, so that none of them is left over.
 const RECORDS: usize = 1024;
@@ -18,112 +20,159 @@ struct Turn {
     on: bool,
 }
 
-fn main() {
+// What ends a run before its sheet does.
+#[derive(Drop)]
+enum Failure {
+    Reading(io::Error),
+    Writing(io::Error),
+}
+
+impl fmt::Display for Failure {
+    fn fmt<W: fmt::Write>(&self, f: &mut fmt::Formatter<W>) -> fmt::Result {
+        match self {
+            Failure::Reading(why) => write!(f, "callsheet: reading: {why}"),
+            Failure::Writing(why) => write!(f, "callsheet: writing: {why}"),
+        }
+    }
+}
+
+// A failure is said on standard error, where nothing else is said, and ends with a status that isn't 0.
+fn main(rt: HostRuntime) -> ExitCode {
+    let mut stdin = rt.stdin();
     let mut input = [0u8; RECORDS * sheet_records::RECORD];
     let mut pieces = [0u64; sheet::PIECES];
     let mut slots = [0u64; slots::MOST_WORDS];
     let mut out = [0u8; RECORDS * sheet_lines::LONGEST];
-    run(&mut input, &mut pieces, &mut slots, &mut out);
+    let outcome = run(
+        &mut stdin,
+        rt.stdout(),
+        &mut input,
+        &mut pieces,
+        &mut slots,
+        &mut out,
+    );
+    if let Err(failure) = outcome {
+        let _ = rt.eprintln(failure);
+        return ExitCode::FAILURE;
+    }
+    ExitCode::SUCCESS
 }
 
-// A proved loop has to end, and nothing says that the input does. So the turns are counted down from a number that no run uses up.
-fn run(input: &mut [u8], pieces: &mut [u64], slots: &mut [u64], out: &mut [u8]) {
+// A proved loop has to end, and nothing says that the input does. So the turns are counted up to a number that no run comes to.
+fn run(
+    stdin: &mut Stdin,
+    stdout: Stdout,
+    input: &mut [u8],
+    pieces: &mut [u64],
+    slots: &mut [u64],
+    out: &mut [u8],
+) -> Result<(), Failure> {
     let mut turn = Turn {
         state: State::start(),
         waiting: 0,
         on: true,
     };
-    let mut turns = u64::MAX;
-    while turns > 0 {
-        let next = one_turn(turn, input, pieces, slots, out);
+    for _ in 0..u64::MAX {
+        let next = one_turn(stdin, stdout, turn, input, pieces, slots, out)?;
         if !next.on {
-            return;
+            break;
         }
         turn = next;
-        turns -= 1;
     }
+    Ok(())
 }
 
 // Reads once, and prints the lines of the records that are whole.
 fn one_turn(
+    stdin: &mut Stdin,
+    stdout: Stdout,
     turn: Turn,
     input: &mut [u8],
     pieces: &mut [u64],
     slots: &mut [u64],
     out: &mut [u8],
-) -> Turn {
+) -> Result<Turn, Failure> {
     let state = turn.state;
     let waiting = turn.waiting;
     if waiting >= input.len() {
-        return ended(state);
+        return Ok(ended(state));
     }
-    let got = read_behind(input, waiting);
-    if got < 0 {
-        os::fail(b"callsheet: reading");
-        return ended(state);
-    }
+    let got = read_behind(stdin, input, waiting)?;
     if got == 0 {
-        end_sheet(state, &input[..waiting], pieces, slots, out);
-        return ended(state);
+        end_sheet(stdout, state, &input[..waiting], pieces, slots, out)?;
+        return Ok(ended(state));
     }
-    let have = waiting + io::count(got, &input[waiting..]);
-    take_in(state, input, have, pieces, slots, out)
+    let have = waiting + got;
+    take_in(stdout, state, input, have, pieces, slots, out)
 }
 
 // Prints the lines of the records that are whole among the first so many bytes, and moves the bytes behind them to the front.
 fn take_in(
+    stdout: Stdout,
     state: State,
     input: &mut [u8],
     have: usize,
     pieces: &mut [u64],
     slots: &mut [u64],
     out: &mut [u8],
-) -> Turn
+) -> Result<Turn, Failure>
     requires { have ≤ length input.old }
 {
     let steps = sheet::take_records(state, &input[..have], pieces, slots, out);
     let next = steps.next;
     let used = steps.used;
     let reader = next.reader;
-    if !write(out, steps.at) | reader.stopped {
-        return ended(next);
+    let went = write(stdout, out, steps.at)?;
+    if !went | reader.stopped {
+        return Ok(ended(next));
     }
     let waiting = to_front(input, used, have);
-    Turn {
+    Ok(Turn {
         state: next,
         waiting,
         on: true,
-    }
+    })
 }
 
-// One read into the bytes from a place on.
-fn read_behind(input: &mut [u8], from: usize) -> isize
+// One read into the bytes from a place on; how many came.
+fn read_behind(stdin: &mut Stdin, input: &mut [u8], from: usize) -> Result<usize, Failure>
     requires { from ≤ length input.old }
+    ensures { IfOk result (λ n. from + n ≤ length input.old) }
 {
-    libc::read(STDIN_FILENO, &mut input[from..])
+    match stdin.read(&mut input[from..]) {
+        Ok(n) => Ok(n),
+        Err(why) => Err(Failure::Reading(why)),
+    }
 }
 
 // The end of the input: bytes that wait are a short record, and a piece that is due is missing.
-fn end_sheet(state: State, rest: &[u8], pieces: &mut [u64], slots: &mut [u64], out: &mut [u8]) {
+fn end_sheet(
+    stdout: Stdout,
+    state: State,
+    rest: &[u8],
+    pieces: &mut [u64],
+    slots: &mut [u64],
+    out: &mut [u8],
+) -> Result<(), Failure> {
     if rest.len() > 0 {
         let short = sheet::take_record(state, rest, pieces, slots, out, 0);
-        write(out, short.at);
-        return;
+        write(stdout, out, short.at)?;
+        return Ok(());
     }
     let end = sheet::finish(state, out, 0);
-    write(out, end.at);
+    write(stdout, out, end.at)?;
+    Ok(())
 }
 
-// Writes so many bytes; whether they went.
-fn write(out: &[u8], n: usize) -> bool {
+// Writes so many bytes; whether the buffer has them.
+fn write(stdout: Stdout, out: &[u8], n: usize) -> Result<bool, Failure> {
     if n > out.len() {
-        return false;
+        return Ok(false);
     }
-    let went = io::write_all(STDOUT_FILENO, &out[..n]);
-    if !went {
-        os::fail(b"callsheet: writing");
+    match stdout.write_all(&out[..n]) {
+        Ok(()) => Ok(true),
+        Err(why) => Err(Failure::Writing(why)),
     }
-    went
 }
 
 // Moves the bytes from one place up to another to the front; how many there are.

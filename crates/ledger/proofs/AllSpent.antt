@@ -11,7 +11,6 @@ use Rattle.shape.specs.declared.Arg as args
 use Rattle.shape.specs.declared.Piece.{Piece}
 use Rattle.shape.specs.declared.Scalar.{Scalar}
 use Rattle.shape.specs.declared.Shape.{Shape}
-use Rattle.shape.specs.Numbers.{integer}
 use Rattle.describe.specs.declared.Short.TheVariants.{TryNextRule, Split}
 use Rattle.describe.specs.declared.ReturnPointer.TheVariants.{FirstArgument}
 use Rattle.describe.specs.declared.Variadic.TheVariants.{UnnamedIntegersEven}

@@ -1,5 +1,6 @@
 -- An aggregate argument on a description of RISC-V's own book, whatever its float bank: what is decided of it, read in the standard's terms, is the
 -- standard's.
+use Rattle.riscv.specs.Domain.{in_order}
 use Prim.Native.Nat.{ℕ, ◌+◌, ◌-◌, ◌≤◌, ◌<◌, min}
 use mathlib.Core.Path.{◌≡◌, refl, sym}
 use mathlib.Core.List.{List, [], ◌∷◌, map}
@@ -13,7 +14,6 @@ use Rattle.shape.specs.declared.Arg.TheVariants.{Aggregate}
 use Rattle.shape.specs.declared.Piece.{Piece}
 use Rattle.shape.specs.declared.Shape.{Shape}
 use Rattle.shape.specs.Lists.{every}
-use Rattle.shape.specs.Spans.{in_order}
 use Rattle.shape.proofs.Bools.{both_true}
 use Rattle.find.specs.Find.{each_piece}
 use Rattle.slot_writing.specs.Sources.{source_slots}
@@ -27,7 +27,7 @@ use Rattle.classify.specs.Classify.{counts}
 use Rattle.classify.specs.Spending.{Chosen, chosen, aggregate_by, argument_choice, variadic_argument_choice}
 use Rattle.classify.proofs.Agree.{slots_for}
 use Rattle.riscv.specs.Riscv.{fields, State, Passing, state, by_integers, by_fields, named, unnamed}
-use Rattle.riscv.specs.Reading.{field_of, insert, by_offset, inside_of, value_of, reads}
+use Rattle.riscv.specs.Reading.{field_of, insert, by_offset, inside_by_offset, value_by_offset, reads}
 use Rattle.riscv.proofs.Words.{unspent}
 use Rattle.riscv.proofs.Scalars.{riscv, board, reads_as, words_pieces, words_memory, address_read, skipped, evened_state}
 use Rattle.riscv.proofs.Rules as rules
@@ -158,7 +158,7 @@ in_place (p ∷ q ∷ ps) o =
     let next = both_true (leb p.offset q.offset) _ later.0 in
     rw (in_place (q ∷ ps) later.1, next.0)
 
-pub flattened : (shape : Shape) (ps : List Piece) → EnoughShape shape ps → inside_of ps ≡ fields (map field_of ps)
+pub flattened : (shape : Shape) (ps : List Piece) → EnoughShape shape ps → inside_by_offset ps ≡ fields (map field_of ps)
 flattened shape ps d = rw (d.no_overlap, in_place ps d.order)
 
 -- ---- an argument
@@ -171,10 +171,10 @@ module _ (name : List ℕ) (fr fw I F : ℕ) (few : I ≤ 8) (floats : F ≤ fr)
   reads_argument k = reads_as name fr fw (counts I F) shape.size k.decision (slots_for k arg ps)
 
   abbrev Named : Type 0
-  Named = reads_argument (argument_choice (riscv name fr fw) (counts I F) arg ps) ≡ named (board name fr fw) (state (8 - I) (fr - F)) (value_of arg ps).type
+  Named = reads_argument (argument_choice (riscv name fr fw) (counts I F) arg ps) ≡ named (board name fr fw) (state (8 - I) (fr - F)) (value_by_offset arg ps).type
 
   abbrev Unnamed : Type 0
-  Unnamed = reads_argument (variadic_argument_choice (riscv name fr fw) (counts I F) arg ps) ≡ unnamed (state (8 - I) (fr - F)) (value_of arg ps)
+  Unnamed = reads_argument (variadic_argument_choice (riscv name fr fw) (counts I F) arg ps) ≡ unnamed (state (8 - I) (fr - F)) (value_by_offset arg ps)
 
   -- what one after the dots finds left
   abbrev behind_start : Left

@@ -23,7 +23,7 @@ use Rattle.classify.specs.Answers.{row_refusal, refusal_of, Account, slots_of, r
 use Rattle.classify.proofs.Agree.{returns_agrees, argument_agrees, variadic_argument_agrees}
 use Rattle.classify.proofs.Stacking.{stacked_stands}
 use Rattle.classify.proofs.Accepted.{Sound, sound, call_checked, unmarked, accepted_so}
-use Rattle.riscv.specs.Reading.{Asked, as_named, as_unnamed, as_result, reads_passed, answered, Says}
+use Rattle.riscv.specs.Reading.{Asked, as_named, as_unnamed, as_result, reads_passed_by, answered, Says}
 use Rattle.riscv.specs.Domain.{Domain}
 use Rattle.riscv.proofs.Enough.{enough}
 use Rattle.riscv.proofs.Lengths.{length_on}
@@ -47,7 +47,7 @@ module _ (c : Call) (row : is_riscv_psabi c.abi ≡ true) (arg : Arg) (ws out : 
 
   -- what is said of an account is said of the accepted answer
   says : (asked : Asked) (account : Account) → (answer_to (refusal_of c arg ws) c account out).outcome.refusal ≡ accepted
-      → reads_passed asked D.banks arg c.left account.passed account.spent ≡ answered asked D c.left arg (pieces_of ws)
+      → reads_passed_by asked D.banks arg c.left account.passed account.spent ≡ answered asked D c.left arg (pieces_of ws)
       → (account.placed.refusal ≡ accepted → account.placed.stacked.bytes ≡ length_on asked D c.left arg (pieces_of ws))
       → (c.left.integers_only ≡ no_mark → account.passed.left.integers_only ≡ no_mark)
       → Says asked c arg (pieces_of ws) (answer_to (refusal_of c arg ws) c account out) (written_to (refusal_of c arg ws) account out)

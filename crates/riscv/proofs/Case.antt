@@ -2,20 +2,19 @@
 use Prim.Native.Nat.{ℕ, ◌%◌}
 use mathlib.Core.Path.{◌≡◌}
 use mathlib.Core.List.{List, [], ◌∷◌}
-use mathlib.Core.Bool.{Bool, true, false, ◌&&◌}
+use mathlib.Core.Bool.{Bool, true, false, ◌&&◌, false≢true}
 use borrow.Author.Tests.{ltb-true, leb-true, eqb-true}
 use lib.Dec.{leb, ltb, eqb}
 use Rattle.shape.specs.declared.Arg as args
 use Rattle.shape.specs.declared.Piece.{Piece}
 use Rattle.shape.specs.declared.Scalar.{Scalar}
 use Rattle.shape.specs.declared.Shape.{Shape}
-use Rattle.shape.specs.Spans.{in_order, apart}
 use Rattle.shape.specs.Words as words
 use Rattle.shape.proofs.Bools.{both_true}
 use Rattle.abis.specs.Abis.{described}
 use Rattle.classify.specs.Classify.{counts}
 use Rattle.riscv.specs.Riscv.{Passing}
-use Rattle.riscv.specs.Domain.{is_usual, are_usual, are_inside, Domain}
+use Rattle.riscv.specs.Domain.{is_usual, are_usual, are_inside, Domain, in_order, apart}
 use Rattle.riscv.specs.Reading.{Asked, answered, standard}
 
 -- on a row, with so many integer and float registers left
@@ -67,7 +66,7 @@ shape_clauses shape ps =
     ∷ []
 
 abbrev pub clauses_of : args.Arg → List Piece → List Bool
-clauses_of args.TheVariants.Void ps = []
+clauses_of args.TheVariants.Void ps = false ∷ []
 clauses_of (args.TheVariants.Scalar s) ps = scalar_clauses s
 clauses_of (args.TheVariants.Aggregate shape) ps = shape_clauses shape ps
 
@@ -76,7 +75,7 @@ all [] = true
 all (b ∷ bs) = b && all bs
 
 pub of_domain : (arg : args.Arg) (ps : List Piece) → all (clauses_of arg ps) ≡ true → Domain arg ps
-of_domain args.TheVariants.Void ps e = tt
+of_domain args.TheVariants.Void ps e = absurd (false≢true e)
 of_domain (args.TheVariants.Scalar s) ps e =
     let a = both_true (is_usual s.kind s.size) _ e in
     let b = both_true (eqb s.align s.size) _ a.1 in

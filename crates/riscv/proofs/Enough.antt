@@ -13,9 +13,8 @@ use Rattle.shape.specs.declared.Piece.{Piece}
 use Rattle.shape.specs.declared.Scalar.{Scalar}
 use Rattle.shape.specs.declared.Shape.{Shape}
 use Rattle.shape.specs.Numbers.{integer, single, double, quad}
-use Rattle.shape.specs.Spans.{in_order, apart}
 use Rattle.shape.proofs.Bools.{both_true}
-use Rattle.riscv.specs.Domain.{is_integer_size, is_usual, are_usual, Domain}
+use Rattle.riscv.specs.Domain.{is_integer_size, is_usual, are_usual, Domain, in_order, apart}
 
 pub record EnoughScalar (s : Scalar) : Type 0 where
   pub some : 0 < s.size
@@ -64,7 +63,7 @@ usual_size kind n u =
 -- ---- the domain has them
 
 pub enough : (arg : args.Arg) (ps : List Piece) → Domain arg ps → Enough arg ps
-enough args.TheVariants.Void ps d = tt
+enough args.TheVariants.Void ps d = absurd d
 enough (args.TheVariants.Scalar s) ps d =
     let sized = usual_size s.kind s.size d.usual in
     record { some = sized.0; small = sized.1 }

@@ -7,7 +7,6 @@ use lib.ListN.{get_or}
 use Rattle.shape.specs.declared.Piece.{Piece}
 use Rattle.shape.specs.Lists.{every}
 use Rattle.shape.specs.Numbers as kinds
-use Rattle.shape.specs.Spans.{in_order, apart}
 use Rattle.shape.specs.Words.{piece}
 use Rattle.shape.proofs.Lists.{same_at}
 use Rattle.slots.specs.Cut.{up_to, cut}
@@ -22,7 +21,7 @@ use Rattle.classify.specs.Classify as rust
 use Rattle.classify.specs.Classify.{argument, variadic_argument, returns}
 use Rattle.classify.specs.Spending.{argument_choice, variadic_argument_choice, return_choice, scalar_by, aggregate_by, by_rules}
 use Rattle.riscv.specs.Riscv.{Holder, a, fa, stack, Part, part, parts, address, state, Passing, passing, by_integers, by_fields, named, unnamed, result}
-use Rattle.riscv.specs.Domain.{Domain}
+use Rattle.riscv.specs.Domain.{Domain, in_order, apart}
 use Rattle.riscv.specs.Reading.{insert, by_offset, parts_of, reads, reads_result, as_named, as_unnamed, as_result}
 use Rattle.riscv.proofs.Case.{Case, by_row, by_standard, lone, several, clauses_of, all, of_domain}
 

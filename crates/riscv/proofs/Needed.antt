@@ -10,7 +10,6 @@ use lib.ListN.{get_or}
 use borrow.Author.Tests.{eqb-false}
 use Rattle.shape.specs.Lists.{every}
 use Rattle.shape.specs.Numbers.{integer, single, double, x87_extended}
-use Rattle.shape.specs.Spans.{in_order, apart}
 use Rattle.shape.specs.Words.{piece}
 use Rattle.shape.proofs.Lists.{same_at}
 use Rattle.slots.specs.Cut.{up_to, cut}
@@ -24,6 +23,7 @@ use Rattle.after_dots.specs.AfterDots.{skipped_for, settled_for}
 use Rattle.classify.specs.Classify as rust
 use Rattle.classify.specs.Classify.{argument, variadic_argument, returns}
 use Rattle.classify.specs.Spending.{argument_choice, variadic_argument_choice, return_choice, scalar_by, aggregate_by, by_rules}
+use Rattle.riscv.specs.Domain.{in_order, apart}
 use Rattle.riscv.specs.Riscv.{Holder, a, fa, stack, part, Place, ignored, parts, address, state, Passing, passing, by_integers, by_fields, named, unnamed, result}
 use Rattle.riscv.specs.Reading.{insert, by_offset, parts_of, reads, reads_result, as_named, as_unnamed, as_result}
 use Rattle.riscv.proofs.Case.{Case, by_row, by_standard, lone, several, clauses_of, all}

@@ -11,13 +11,13 @@ use lib.ListN.{length}
 use Rattle.shape.specs.declared.Piece.{Piece}
 use Rattle.shape.specs.Lists.{every}
 use Rattle.shape.specs.Numbers.{integer, single, double, quad}
-use Rattle.shape.specs.Questions.{is_float, format_bytes}
+use Rattle.shape.specs.Questions.{is_float}
 use Rattle.shape.proofs.Bools.{both_true}
 use Rattle.slots.specs.Search.{found, nothing, floats_in}
 use Rattle.find.specs.Find.{found_if, float_pair, fits_one, piece_slot, each_piece}
 use Rattle.riscv.specs.Riscv.{XLEN, integer_registers, Board, integral, floating, State, state, Passing, passing, parts, is_real, is_whole, by_fields}
 use Rattle.riscv.specs.Domain.{is_usual, are_usual}
-use Rattle.riscv.specs.Reading.{field_of, parts_of}
+use Rattle.riscv.specs.Reading.{field_of, parts_of, format_bytes}
 
 -- ---- a float has the bytes of its format, which are some
 
@@ -115,19 +115,19 @@ module _ (b : Board) where
 
   -- what no register of its bank holds is neither a float nor an integer of a pair
   module _ (p : Piece) (e : fits_one XLEN b.FLEN p ≡ false) where
-    not_real : is_real b (field_of p).type ≡ false
+    not_real : is_real b (state 0 0) (field_of p).type ≡ false
     unfolding fits_one
     not_real = go (is_float p.kind) refl
       where
-        go : (f : Bool) → is_float p.kind ≡ f → is_real b (cond (is_float p.kind) (floating p.size) (integral p.size)) ≡ false
+        go : (f : Bool) → is_float p.kind ≡ f → is_real b (state 0 0) (cond (is_float p.kind) (floating p.size) (integral p.size)) ≡ false
         go true f = rw f (rw f at e)
         go false f = rw f
 
-    not_whole : is_whole (field_of p).type ≡ false
+    not_whole : is_whole b (state 0 0) (field_of p).type ≡ false
     unfolding fits_one
     not_whole = go (is_float p.kind) refl
       where
-        go : (f : Bool) → is_float p.kind ≡ f → is_whole (cond (is_float p.kind) (floating p.size) (integral p.size)) ≡ false
+        go : (f : Bool) → is_float p.kind ≡ f → is_whole b (state 0 0) (cond (is_float p.kind) (floating p.size) (integral p.size)) ≡ false
         go true f = rw f
         go false f = rw f (rw f at e)
 

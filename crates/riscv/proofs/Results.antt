@@ -23,7 +23,7 @@ use Rattle.classify.specs.Spending.{Chosen, return_choice, scalar_by, aggregate_
 use Rattle.after_dots.specs.AfterDots.{settled_for}
 use Rattle.classify.proofs.Agree.{slots_for}
 use Rattle.riscv.specs.Riscv.{Passing, parts, Inside, fields, aggregate, scalar, State, state, start, by_integers, by_reference, by_fields, named, result}
-use Rattle.riscv.specs.Reading.{basic_of, field_of, inside_of, parts_of, reads, reads_result}
+use Rattle.riscv.specs.Reading.{basic_of, field_of, inside_by_offset, parts_of, reads, reads_result}
 use Rattle.riscv.proofs.Words.{unspent, cut_one, cut_two}
 use Rattle.riscv.proofs.Scalars.{riscv, board, address_read}
 use Rattle.riscv.proofs.Rules as rules
@@ -144,7 +144,7 @@ module _ (name : List ℕ) (fr fw : ℕ) (two_floats : 0 < fw → 2 ≤ fr) (I F
           go (yes h) = words_come u h
           go (no h) = address_comes u (omega arith)
 
-    pub aggregate_comes : EnoughShape shape ps → ComesAs (inside_of ps)
+    pub aggregate_comes : EnoughShape shape ps → ComesAs (inside_by_offset ps)
     aggregate_comes d =
         rw (flattened shape ps d)
         (by_size shape Flattened (λ z. empty_comes z) (λ some filled. filled_comes some filled (judged (board name fr fw) ps d.usual)))

@@ -10,13 +10,15 @@ use Rattle.describe.specs.Description.{Description}
 use Rattle.abis.specs.Abis.{described, descriptions, riscv_with}
 use Rattle.abis.specs.Apart.{riscv_psabi_rows, is_riscv_psabi}
 use Rattle.abis.proofs.Apart.{each_among, riscv_described}
-use Rattle.classify.specs.Classify.{counts, call}
+use Rattle.classify.specs.Classify.{counts, call, argument, variadic_argument}
+use Rattle.classify.specs.Spending.{argument_choice, variadic_argument_choice}
 use Rattle.classify.proofs.Agree.{returns_agrees, argument_agrees, variadic_argument_agrees}
-use Rattle.riscv.specs.Riscv.{LP64, LP64F, LP64D, stack_bytes, start, Passing}
-use Rattle.riscv.specs.Reading.{board_of, state_of, Asked, as_named, as_unnamed, as_result, answered, standard}
-use Rattle.riscv.proofs.Enough.{Enough}
+use Rattle.riscv.specs.Riscv.{LP64, LP64F, LP64D, Value, stack_bytes, start, Passing, named, unnamed}
+use Rattle.riscv.specs.Reading.{board_of, value_of, state_of, reads_passed, Asked, as_named, as_unnamed, as_result, answered, standard}
+use Rattle.riscv.specs.Domain.{Domain}
+use Rattle.riscv.proofs.Enough.{Enough, enough}
 use Rattle.riscv.proofs.Lengths.{length_on, SameLength, same_length}
-use Rattle.riscv.proofs.Agrees.{named_is_riscv, unnamed_is_riscv, result_is_riscv}
+use Rattle.riscv.proofs.Agrees.{listed, named_same, unnamed_same, result_is_riscv}
 
 abbrev pub Same : Asked → ℕ → ℕ → Arg → List Piece → Description → Type 0
 Same asked I F arg ps D = answered asked D (counts I F) arg ps ≡ standard asked D.banks (counts I F) arg ps
@@ -26,10 +28,10 @@ Same asked I F arg ps D = answered asked D (counts I F) arg ps ≡ standard aske
 same : (name : List ℕ) (fr fw I F : ℕ) → I ≤ 8 → F ≤ fr → (0 < fw → 2 ≤ fr) → (arg : Arg) (ps : List Piece) → Enough arg ps → (asked : Asked) → Same asked I F arg ps (riscv_with name fr fw)
 same name fr fw I F few floats two_floats arg ps d as_named =
     let k = argument_agrees (riscv_with name fr fw) (counts I F) arg ps in
-    rw (k.way, k.slots, k.left_is) (named_is_riscv name fr fw I F few floats arg ps d)
+    rw (k.way, k.slots, k.left_is) (named_same name fr fw I F few floats arg ps d)
 same name fr fw I F few floats two_floats arg ps d as_unnamed =
     let k = variadic_argument_agrees (riscv_with name fr fw) (counts I F) arg ps (λ e. refl) in
-    rw (k.way, k.slots, k.left_is) (unnamed_is_riscv name fr fw I F few floats arg ps d)
+    rw (k.way, k.slots, k.left_is) (unnamed_same name fr fw I F few floats arg ps d)
 same name fr fw I F few floats two_floats arg ps d as_result =
     let k = returns_agrees (riscv_with name fr fw) (counts I F) arg ps in
     rw (k.way, k.slots, k.left_is) (result_is_riscv name fr fw I F few floats two_floats arg ps d)
@@ -67,3 +69,32 @@ length_is_riscv d is I F few floats arg ps e asked =
     let D : Description = described d in
     subst (SameLength asked I F arg ps) (sym (riscv_described d is)) (same_length D.name D.banks.float D.banks.float_width I F arg ps e asked)
     ∙ ap (λ (p : Passing). stack_bytes p.place) (is_riscv d is I F few floats arg ps e asked)
+
+-- ---- arguments, with the value as its pieces are listed: on the domain that is their order
+
+-- every row that follows the book
+module _ (d : ℕ) (is : is_riscv_psabi d ≡ true) (I F : ℕ) (arg : Arg) (ps : List Piece) where
+  abbrev D : Description
+  D = described d
+
+  abbrev NamedSame : Description → Type 0
+  NamedSame D =
+      reads_passed D.banks arg (counts I F) (argument D (counts I F) arg ps) (argument_choice D (counts I F) arg ps).decision.spent
+      ≡ named (board_of D.banks) (state_of D.banks (counts I F)) (value_of arg ps).type
+
+  abbrev UnnamedSame : Description → Type 0
+  UnnamedSame D =
+      reads_passed D.banks arg (counts I F) (variadic_argument D (counts I F) arg ps) (variadic_argument_choice D (counts I F) arg ps).decision.spent
+      ≡ unnamed (state_of D.banks (counts I F)) (value_of arg ps)
+
+  pub argument_is_riscv : Domain arg ps → I ≤ 8 → F ≤ D.banks.float → NamedSame D
+  argument_is_riscv domain few floats =
+      let e : Enough arg ps = enough arg ps domain in
+      is_riscv d is I F few floats arg ps e as_named
+      ∙ ap (λ (v : Value). named (board_of D.banks) (state_of D.banks (counts I F)) v.type) (listed arg ps e)
+
+  pub variadic_is_riscv : Domain arg ps → I ≤ 8 → F ≤ D.banks.float → UnnamedSame D
+  variadic_is_riscv domain few floats =
+      let e : Enough arg ps = enough arg ps domain in
+      is_riscv d is I F few floats arg ps e as_unnamed
+      ∙ ap (λ (v : Value). unnamed (state_of D.banks (counts I F)) v) (listed arg ps e)

@@ -1,12 +1,11 @@
 -- The values for which descriptions 30 to 32 are held against the RISC-V psABI (REFERENCE 12), clause by clause.
-use Rattle.std.specs.Prelude.{ℕ, ◌%◌, ◌<◌, ◌≤◌, ◌≡◌, List, Bool, true, ◌&&◌, ◌||◌, leb, eqb}
+use Rattle.std.specs.Prelude.{ℕ, ◌+◌, ◌%◌, ◌<◌, ◌≤◌, ◌≡◌, List, [], ◌∷◌, Bool, true, ◌&&◌, ◌||◌, leb, eqb}
 use Rattle.shape.specs.declared.Arg as args
 use Rattle.shape.specs.declared.Piece.{Piece}
 use Rattle.shape.specs.declared.Scalar.{Scalar}
 use Rattle.shape.specs.declared.Shape.{Shape}
 use Rattle.shape.specs.Lists.{every}
 use Rattle.shape.specs.Numbers.{integer, single, double, quad}
-use Rattle.shape.specs.Spans.{span_end, in_order, apart}
 
 -- integers of 1, 2, 4, 8 and 16 bytes, Singles of 4, Doubles of 8, Quads of 16
 abbrev pub is_integer_size : ℕ → Bool
@@ -19,8 +18,20 @@ is_usual kind size =
 abbrev pub are_usual : List Piece → Bool
 are_usual ps = every (λ (p : Piece). is_usual p.kind p.size) ps
 
+-- one past a piece's last byte
+abbrev pub end : Piece → ℕ
+end p = p.offset + p.size
+
+unfoldable pub in_order : List Piece → Bool
+in_order [] = true
+in_order (p ∷ ps) = every (λ (q : Piece). leb p.offset q.offset) ps && in_order ps
+
+unfoldable pub apart : List Piece → Bool
+apart [] = true
+apart (p ∷ ps) = every (λ (q : Piece). leb (end p) q.offset || leb (end q) p.offset) ps && apart ps
+
 abbrev pub are_inside : Shape → List Piece → Bool
-are_inside shape ps = every (λ (p : Piece). leb (span_end p) shape.size) ps
+are_inside shape ps = every (λ (p : Piece). leb (end p) shape.size) ps
 
 pub record ScalarDomain (s : Scalar) : Type 0 where
   -- of a usual kind and size
@@ -36,16 +47,15 @@ pub record ShapeDomain (shape : Shape) (ps : List Piece) : Type 0 where
   -- of a size that is a multiple of the alignment
   pub multiple : shape.size % shape.align ≡ 0
   -- pieces of usual kinds and sizes (of which none is 0)
-  pub usual : are_usual ps ≡ true
+  pub usual : every (λ (p : Piece). is_usual p.kind p.size) ps ≡ true
   -- in offset order
   pub order : in_order ps ≡ true
   -- without overlap
   pub no_overlap : apart ps ≡ true
   -- inside the size
-  pub inside : are_inside shape ps ≡ true
+  pub inside : every (λ (p : Piece). leb (end p) shape.size) ps ≡ true
 
--- void, such a scalar, such an aggregate
 abbrev pub Domain : args.Arg → List Piece → Type 0
-Domain args.TheVariants.Void ps = Unit {0}
+Domain args.TheVariants.Void ps = ⊥
 Domain (args.TheVariants.Scalar s) ps = ScalarDomain s
 Domain (args.TheVariants.Aggregate shape) ps = ShapeDomain shape ps

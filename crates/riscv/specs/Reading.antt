@@ -1,10 +1,9 @@
 -- Values and answers of the descriptions in the standard's terms (REFERENCE 12): the value that an argument stands for, and what an
 -- answer's way, slots, what it passes over and is given, and counts left say of registers and of the stack.
-use Rattle.std.specs.Prelude.{ℕ, ◌+◌, ◌-◌, ◌≡◌, List, [], ◌∷◌, map, Bool, false, ◌&&◌, cond, eqb, leb, ltb}
+use Rattle.std.specs.Prelude.{ℕ, ◌+◌, ◌-◌, ◌≡◌, List, [], ◌∷◌, map, Bool, false, ◌&&◌, cond, eqb, leb, ltb, get_or}
 use Rattle.shape.specs.declared.Arg as args
 use Rattle.shape.specs.declared.Piece.{Piece}
-use Rattle.shape.specs.Questions.{is_float, format_bytes}
-use Rattle.shape.specs.Spans.{apart}
+use Rattle.shape.specs.Questions.{is_float}
 use Rattle.slots.specs.declared.Slot.{Slot}
 use Rattle.slots.specs.Cut.{cut}
 use Rattle.slots.specs.Words.{slots_read}
@@ -21,12 +20,13 @@ use Rattle.classify.specs.declared.Answer.{Answer}
 use Rattle.classify.specs.Pass.{way_of, pass_slots}
 use Rattle.classify.specs.Classify.{Passed, returns, argument, variadic_argument}
 use Rattle.classify.specs.Spending.{return_choice, argument_choice, variadic_argument_choice}
-use Rattle.riscv.specs.Riscv.{XLEN, Board, board_with, Basic, integral, floating, Field, Inside, fields, a_union, CType, scalar, aggregate, Value, Holder, a, fa, stack, Part, part, Place, ignored, parts, address, stack_bytes, State, state, Passing, passing, named, unnamed, result}
+use Rattle.riscv.specs.Riscv.{XLEN, Board, Basic, integral, floating, Field, Inside, fields, a_union, CType, scalar, aggregate, Value, Holder, a, fa, stack, Part, part, Place, ignored, parts, address, stack_bytes, State, state, Passing, passing, named, unnamed, result}
+use Rattle.riscv.specs.Domain.{apart}
 
 -- ---- boards, values
 
 abbrev pub board_of : Banks → Board
-board_of B = board_with B.float_width B.float
+board_of B = record { FLEN = B.float_width; float_registers = B.float }
 
 abbrev pub basic_of : ℕ → ℕ → Basic
 basic_of kind size = cond (is_float kind) (floating size) (integral size)
@@ -34,18 +34,9 @@ basic_of kind size = cond (is_float kind) (floating size) (integral size)
 abbrev pub field_of : Piece → Field
 field_of p = record { type = basic_of p.kind p.size; offset = p.offset }
 
--- fields come in the order of their offsets, whatever that of the pieces
-unfoldable pub insert : Piece → List Piece → List Piece
-insert p [] = p ∷ []
-insert p (q ∷ qs) = cond (leb p.offset q.offset) (p ∷ q ∷ qs) (q ∷ insert p qs)
-
-unfoldable pub by_offset : List Piece → List Piece
-by_offset [] = []
-by_offset (p ∷ ps) = insert p (by_offset ps)
-
 -- pieces that share a byte are a union's
 abbrev pub inside_of : List Piece → Inside
-inside_of ps = cond (apart ps) (fields (map field_of (by_offset ps))) a_union
+inside_of ps = cond (apart ps) (fields (map field_of ps)) a_union
 
 abbrev pub value : CType → ℕ → Value
 value t align = record { type = t; alignment = align }
@@ -56,6 +47,23 @@ value_of args.TheVariants.Void ps = value (aggregate 0 (fields [])) 1
 value_of (args.TheVariants.Scalar s) ps = value (scalar (basic_of s.kind s.size)) s.align
 value_of (args.TheVariants.Aggregate shape) ps = value (aggregate shape.size (inside_of ps)) shape.align
 
+-- the same with the fields in the order of their offsets, whatever that of the pieces. On the domain pieces are in that order, and it is the same value
+unfoldable pub insert : Piece → List Piece → List Piece
+insert p [] = p ∷ []
+insert p (q ∷ qs) = cond (leb p.offset q.offset) (p ∷ q ∷ qs) (q ∷ insert p qs)
+
+unfoldable pub by_offset : List Piece → List Piece
+by_offset [] = []
+by_offset (p ∷ ps) = insert p (by_offset ps)
+
+abbrev pub inside_by_offset : List Piece → Inside
+inside_by_offset ps = cond (apart ps) (fields (map field_of (by_offset ps))) a_union
+
+abbrev pub value_by_offset : args.Arg → List Piece → Value
+value_by_offset args.TheVariants.Void ps = value (aggregate 0 (fields [])) 1
+value_by_offset (args.TheVariants.Scalar s) ps = value (scalar (basic_of s.kind s.size)) s.align
+value_by_offset (args.TheVariants.Aggregate shape) ps = value (aggregate shape.size (inside_by_offset ps)) shape.align
+
 -- how many bytes it has
 abbrev pub size_of_arg : args.Arg → ℕ
 size_of_arg args.TheVariants.Void = 0
@@ -63,6 +71,10 @@ size_of_arg (args.TheVariants.Scalar s) = s.size
 size_of_arg (args.TheVariants.Aggregate shape) = shape.size
 
 -- ---- answers
+
+-- how many bytes a float of a format has
+abbrev pub format_bytes : ℕ → ℕ
+format_bytes kind = get_or (0 ∷ 4 ∷ 8 ∷ 10 ∷ 16 ∷ []) kind 0
 
 -- slots go to the next registers of their bank, in order, as many as were given in it (`given` integers from a register n on, `held` floats from m on); the
 -- others are on the stack. A float slot has size 0: one of another size would hold nothing
@@ -109,6 +121,10 @@ module _ (B : Banks) where
   unfoldable pub reads : ℕ → Left → Way → Spent → List Slot → Left → Passing
   reads size before way spent slots after = passing (place_of way size before spent slots) (state_of after)
 
+-- an argument that travels so, and that passes over and is given this
+abbrev pub reads_passed : Banks → args.Arg → Left → Passed → Spent → Passing
+reads_passed B arg before p spent = reads B (size_of_arg arg) before (way_of p.pass) spent (pass_slots p.pass) p.left
+
 -- ---- results: in the first two registers of each bank, which aren't counted with the arguments'; or at an address, which is an argument
 
 abbrev result_parts : List Slot → List Part
@@ -147,20 +163,20 @@ reads_by as_unnamed B arg before way spent slots after = reads B (size_of_arg ar
 reads_by as_result B arg before way spent slots after = reads_result B arg before way spent slots after
 
 -- what travels so, and passes over and is given this
-abbrev pub reads_passed : Asked → Banks → args.Arg → Left → Passed → Spent → Passing
-reads_passed asked B arg before p spent = reads_by asked B arg before (way_of p.pass) spent (pass_slots p.pass) p.left
+abbrev pub reads_passed_by : Asked → Banks → args.Arg → Left → Passed → Spent → Passing
+reads_passed_by asked B arg before p spent = reads_by asked B arg before (way_of p.pass) spent (pass_slots p.pass) p.left
 
 -- what the description is defined to answer
 abbrev pub answered : Asked → Description → Left → args.Arg → List Piece → Passing
-answered as_named D left arg ps = reads_passed as_named D.banks arg left (argument D left arg ps) (argument_choice D left arg ps).decision.spent
-answered as_unnamed D left arg ps = reads_passed as_unnamed D.banks arg left (variadic_argument D left arg ps) (variadic_argument_choice D left arg ps).decision.spent
-answered as_result D left arg ps = reads_passed as_result D.banks arg left (returns D left arg ps) (return_choice D left arg ps).decision.spent
+answered as_named D left arg ps = reads_passed_by as_named D.banks arg left (argument D left arg ps) (argument_choice D left arg ps).decision.spent
+answered as_unnamed D left arg ps = reads_passed_by as_unnamed D.banks arg left (variadic_argument D left arg ps) (variadic_argument_choice D left arg ps).decision.spent
+answered as_result D left arg ps = reads_passed_by as_result D.banks arg left (returns D left arg ps) (return_choice D left arg ps).decision.spent
 
 -- what the standard says for its board
 abbrev pub standard : Asked → Banks → Left → args.Arg → List Piece → Passing
-standard as_named B left arg ps = named (board_of B) (state_of B left) (value_of arg ps).type
-standard as_unnamed B left arg ps = unnamed (state_of B left) (value_of arg ps)
-standard as_result B left arg ps = result (board_of B) (state_of B left) (value_of arg ps).type
+standard as_named B left arg ps = named (board_of B) (state_of B left) (value_by_offset arg ps).type
+standard as_unnamed B left arg ps = unnamed (state_of B left) (value_by_offset arg ps)
+standard as_result B left arg ps = result (board_of B) (state_of B left) (value_by_offset arg ps).type
 
 -- ---- an operation: its answer, with the words of the buffer beside it, says what the standard says, has as many bytes on the stack, and hands back a call
 -- of the same description, still without the mark

@@ -151,15 +151,6 @@ module _ (s : State) where
 
 -- ---- the hardware floating-point convention
 
--- a float that a float register holds, an integer that an integer register holds
-abbrev pub is_real : Board → Basic → Bool
-is_real board (integral n) = false
-is_real board (floating n) = leb n board.FLEN
-
-abbrev pub is_whole : Basic → Bool
-is_whole (integral n) = leb n XLEN
-is_whole (floating n) = false
-
 module _ (board : Board) (s : State) where
   abbrev has_floats : ℕ → Bool
   has_floats n = leb (s.next_fa + n) board.float_registers
@@ -173,18 +164,27 @@ module _ (board : Board) (s : State) where
   abbrev in_a : Field → Part
   in_a f = part (a s.next_a) f.offset (bytes_of f.type)
 
+  -- a float that a float register holds, an integer that an integer register holds
+  abbrev pub is_real : Basic → Bool
+  is_real (integral n) = false
+  is_real (floating n) = leb n board.FLEN
+
+  abbrev pub is_whole : Basic → Bool
+  is_whole (integral n) = leb n XLEN
+  is_whole (floating n) = false
+
   -- one float, two floats, a float and an integer in either order: in registers, if enough of each kind are left; anything else is passed by the
   -- integer convention
   unfoldable pub by_fields : List Field → Passing → Passing
   by_fields [] otherwise = otherwise
   by_fields (f ∷ []) otherwise =
-      cond (is_real board f.type && has_floats 1) (passing (parts (in_fa 0 f ∷ [])) (state s.next_a (s.next_fa + 1))) otherwise
+      cond (is_real f.type && has_floats 1) (passing (parts (in_fa 0 f ∷ [])) (state s.next_a (s.next_fa + 1))) otherwise
   by_fields (f ∷ g ∷ []) otherwise =
-      cond ((is_real board f.type && is_real board g.type) && has_floats 2)
+      cond ((is_real f.type && is_real g.type) && has_floats 2)
       (passing (parts (in_fa 0 f ∷ in_fa 1 g ∷ [])) (state s.next_a (s.next_fa + 2)))
-      (cond ((is_real board f.type && is_whole g.type) && (has_floats 1 && has_integers 1))
+      (cond ((is_real f.type && is_whole g.type) && (has_floats 1 && has_integers 1))
       (passing (parts (in_fa 0 f ∷ in_a g ∷ [])) (state (s.next_a + 1) (s.next_fa + 1)))
-      (cond ((is_whole f.type && is_real board g.type) && (has_floats 1 && has_integers 1))
+      (cond ((is_whole f.type && is_real g.type) && (has_floats 1 && has_integers 1))
       (passing (parts (in_a f ∷ in_fa 0 g ∷ [])) (state (s.next_a + 1) (s.next_fa + 1)))
       otherwise))
   by_fields (f ∷ g ∷ h ∷ rest) otherwise = otherwise

@@ -3,4 +3,3 @@ pub mod Words
 pub mod Arithmetic
 pub mod Questions
 pub mod Lists
-pub mod Spans

@@ -1,5 +1,5 @@
 -- The questions about scalars, pieces and shapes that the Rust's shape.rs answers (REFERENCE 1.1 and 4.1).
-use Rattle.std.specs.Prelude.{ℕ, ◌+◌, min, max, List, [], ◌∷◌, Bool, true, false, ◌&&◌, not, eqb, get_or}
+use Rattle.std.specs.Prelude.{ℕ, ◌+◌, min, max, List, [], ◌∷◌, Bool, true, false, ◌&&◌, not, eqb}
 use Rattle.shape.specs.declared.Piece.{Piece}
 use Rattle.shape.specs.declared.Scalar.{Scalar}
 use Rattle.shape.specs.Numbers.{integer, most_word}
@@ -15,10 +15,6 @@ float_of format size = scalar format size size
 -- every kind but the integer's is a float's format
 abbrev pub is_float : ℕ → Bool
 is_float kind = not (eqb kind integer)
-
--- how many bytes a float of a format has; an x87 value has ten
-abbrev pub format_bytes : ℕ → ℕ
-format_bytes kind = get_or (0 ∷ 4 ∷ 8 ∷ 10 ∷ 16 ∷ []) kind 0
 
 -- how many bytes a piece covers: size 0 counts as 1
 abbrev pub bytes_of : Piece → ℕ

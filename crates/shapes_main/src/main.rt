@@ -3,13 +3,13 @@
 // that its pieces make, and the pieces that their scalars make. The answers of the original to the same shapes are compared with these.
 #![tactic(auto)]
 
-ghost use Rattle.std.specs.Prelude.{◌<◌, ◌≤◌, length};
-ghost use Rattle.io.specs.Counts.{IsPrefixLen};
+ghost use Rattle.std.specs.Prelude.{◌<◌, ◌≤◌, length, IfOk};
 
 use classify::{Call, InMemory};
-use libc::{STDIN_FILENO, STDOUT_FILENO};
 use shape::Shape;
 use slots::Found;
+use std::io;
+use std::io::{Read, Stdin, Stdout};
 use text::{append, append_number};
 use words::WORD;
 
@@ -30,22 +30,25 @@ const NOTHING: usize = 23;
 
 const REFUSED: usize = 24;
 
-// A proved loop has to end, and nothing says that the input does. So the turns are counted down from a number that no run uses up.
-fn main() {
-    let mut turns = u64::MAX;
-    while turns > 0 && one_shape() {
-        turns -= 1;
+// A proved loop has to end, and nothing says that the input does. So the turns are counted up to a number that no run comes to.
+fn main(rt: HostRuntime) -> io::Result<()> {
+    let mut stdin = rt.stdin();
+    for _ in 0..u64::MAX {
+        if !one_shape(&mut stdin, rt.stdout())? {
+            break;
+        }
     }
+    Ok(())
 }
 
 // Reads a shape and its pieces and prints its lines; whether another shape may follow.
-fn one_shape() -> bool {
+fn one_shape(stdin: &mut Stdin, stdout: Stdout) -> io::Result<bool> {
     let mut bytes = [0u8; 48];
     let mut head = [0u64; 6];
-    if !read(&mut bytes, &mut head) {
-        return false;
+    if !read(stdin, &mut bytes, &mut head)? {
+        return Ok(false);
     }
-    answer(shape_of(head), head[5])
+    answer(stdin, stdout, shape_of(head), head[5])
 }
 
 fn shape_of(head: [u64; 6]) -> Shape {
@@ -57,46 +60,68 @@ fn shape_of(head: [u64; 6]) -> Shape {
     }
 }
 
-// Reads so many pieces and prints the shape's lines; whether all came and went.
-fn answer(shape: Shape, count: u64) -> bool {
+// Reads so many pieces and prints the shape's lines; whether all came.
+fn answer(stdin: &mut Stdin, stdout: Stdout, shape: Shape, count: u64) -> io::Result<bool> {
     let mut bytes = [0u8; 3072];
     let mut words = [0u64; 384];
     if count > MOST_HELD {
-        io::write_all(STDOUT_FILENO, b"too many\n");
-        return false;
+        stdout.write_all(b"too many\n")?;
+        return Ok(false);
     }
     let n = count as usize * RECORD;
     let size = n * WORD;
-    with_pieces(shape, &mut bytes[..size], &mut words[..n])
+    with_pieces(stdin, stdout, shape, &mut bytes[..size], &mut words[..n])
 }
 
-fn with_pieces(shape: Shape, bytes: &mut [u8], words: &mut [u64]) -> bool {
-    if !read(bytes, words) {
-        return false;
+fn with_pieces(
+    stdin: &mut Stdin,
+    stdout: Stdout,
+    shape: Shape,
+    bytes: &mut [u8],
+    words: &mut [u64],
+) -> io::Result<bool> {
+    if !read(stdin, bytes, words)? {
+        return Ok(false);
     }
-    with_records(shape, words)
+    with_records(stdout, shape, words)?;
+    Ok(true)
 }
 
 // Reads so many bytes into words; whether all came.
-fn read(bytes: &mut [u8], words: &mut [u64]) -> bool {
-    if io::read_full(STDIN_FILENO, bytes) < bytes.len() {
-        return false;
+fn read(stdin: &mut Stdin, bytes: &mut [u8], words: &mut [u64]) -> io::Result<bool> {
+    if read_full(stdin, bytes)? < bytes.len() {
+        return Ok(false);
     }
     words::unpack(bytes, words);
-    true
+    Ok(true)
 }
 
-// Prints the shape's lines; whether they went. The words of a piece are those behind the first of its record.
-fn with_records(shape: Shape, words: &[u64]) -> bool {
+// Reads until the bytes are full or the input ends; how many came.
+fn read_full(stdin: &mut Stdin, bytes: &mut [u8]) -> io::Result<usize>
+    ensures { IfOk result (λ n. n ≤ length bytes.new) }
+{
+    let mut done = 0;
+    while done < bytes.len() {
+        let got = stdin.read(&mut bytes[done..])?;
+        if got == 0 {
+            return Ok(done);
+        }
+        done += got;
+    }
+    Ok(done)
+}
+
+// Prints the shape's lines. The words of a piece are those behind the first of its record.
+fn with_records(stdout: Stdout, shape: Shape, words: &[u64]) -> io::Result<()> {
     let mut pieces = [0u64; 256];
     let n = close_up(words, RECORD, 1, 1 + shape::PIECE, &mut pieces);
-    print(shape, &pieces[..n])
+    print(stdout, shape, &pieces[..n])
 }
 
 // Of each record of so many words, those from one place of it to another, with nothing between two records; how many words there are.
 fn close_up(words: &[u64], size: usize, from: usize, to: usize, out: &mut [u64]) -> usize
     requires { 0 < size }
-    ensures { IsPrefixLen result out.new }
+    ensures { result ≤ length out.new }
 {
     let mut n = 0;
     for i in 0..words.len() {
@@ -122,17 +147,17 @@ fn put_word(out: &mut [u64], at: usize, word: u64) -> usize
     at
 }
 
-fn print(shape: Shape, pieces: &[u64]) -> bool {
+fn print(stdout: Stdout, shape: Shape, pieces: &[u64]) -> io::Result<()> {
     let mut each = [0u64; MOST_HELD as usize * slots::SLOT];
     let mut out = [0u8; 16384];
     slot_writing::put_pieces(pieces, &mut each);
     let n = lines(shape, pieces, &each, &mut out);
-    io::write_all(STDOUT_FILENO, &out[..n])
+    stdout.write_all(&out[..n])
 }
 
 // The lines of a shape as text; how many bytes it has. `each` holds the slots of the pieces.
 fn lines(shape: Shape, pieces: &[u64], each: &[u64], out: &mut [u8]) -> usize
-    ensures { IsPrefixLen result out.new }
+    ensures { result ≤ length out.new }
 {
     let mut at = 0;
     for number in 0..LINES {
@@ -143,7 +168,7 @@ fn lines(shape: Shape, pieces: &[u64], each: &[u64], out: &mut [u8]) -> usize
 
 // A number of bytes, no more than there are.
 fn within(n: usize, out: &[u8]) -> usize
-    ensures { IsPrefixLen result out.now }
+    ensures { result ≤ length out.now }
 {
     if n > out.len() {
         return 0;

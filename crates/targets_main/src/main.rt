@@ -2,7 +2,8 @@
 // a code isn't known. `none` stands where there is no answer, and `-` for the empty name.
 #![tactic(auto)]
 
-use libc::STDOUT_FILENO;
+use std::io;
+use std::io::Stdout;
 use text::append;
 
 // Architectures 0 to 4 and systems 0 to 3 are known. Each has one code more here, and every target comes without MSVC and with it.
@@ -26,31 +27,32 @@ const POPS_LINES: u64 = 2775;
 
 const LINES: u64 = 2790;
 
-fn main() {
-    let mut space = io::large_buffer();
+fn main(rt: HostRuntime) -> io::Result<()> {
+    let stdout = rt.stdout();
+    let mut space = [0u8; 65536];
     let out: &mut [u8] = &mut space;
-    let known = section(out, 0, false);
-    let all = section(out, known, true);
-    flush(out, all);
+    let known = section(stdout, out, 0, false)?;
+    let all = section(stdout, out, known, true)?;
+    flush(stdout, out, all)
 }
 
 // The lines whose codes are all known, or those of which one isn't.
-fn section(out: &mut [u8], from: usize, unknown: bool) -> usize {
+fn section(stdout: Stdout, out: &mut [u8], from: usize, unknown: bool) -> io::Result<usize> {
     let mut at = from;
     for i in 0..LINES {
-        at = line(out, at, unknown, i);
+        at = line(stdout, out, at, unknown, i)?;
     }
-    at
+    Ok(at)
 }
 
-fn line(out: &mut [u8], at: usize, unknown: bool, i: u64) -> usize {
+fn line(stdout: Stdout, out: &mut [u8], at: usize, unknown: bool, i: u64) -> io::Result<usize> {
     if is_known(i) == unknown {
-        return at;
+        return Ok(at);
     }
     let a = put_word(out, at, word(i, unknown));
     let b = put_numbers(out, a, i);
     let c = put_named(out, b, i);
-    end_line(out, c)
+    end_line(stdout, out, c)
 }
 
 // ---- what a line is about
@@ -266,17 +268,18 @@ fn put_name(out: &mut [u8], at: usize, name: &[u8]) -> usize {
 }
 
 // A line is far shorter than what this leaves free.
-fn end_line(out: &mut [u8], at: usize) -> usize {
+fn end_line(stdout: Stdout, out: &mut [u8], at: usize) -> io::Result<usize> {
     let to = append(out, at, b"\n");
     if to < 65000 {
-        return to;
+        return Ok(to);
     }
-    flush(out, to);
-    0
+    flush(stdout, out, to)?;
+    Ok(0)
 }
 
-fn flush(out: &[u8], at: usize) {
+fn flush(stdout: Stdout, out: &[u8], at: usize) -> io::Result<()> {
     if at <= out.len() {
-        io::write_all(STDOUT_FILENO, &out[..at]);
+        stdout.write_all(&out[..at])?;
     }
+    Ok(())
 }

@@ -3,9 +3,12 @@
 // those of the members. The oracle's answers to the same types are compared with these.
 #![tactic(auto)]
 
+ghost use Rattle.std.specs.Prelude.{◌≤◌, length, IfOk};
+
 use flatten::Flattened;
-use libc::{STDIN_FILENO, STDOUT_FILENO};
 use shape::{PIECE, Piece, most};
+use std::io;
+use std::io::{Read, Stdin, Stdout};
 use text::{append, append_number};
 use words::WORD;
 
@@ -13,44 +16,50 @@ use words::WORD;
 const MOST_WORDS: u64 = 4128;
 
 // One buffer serves for the bytes that come and, once they are words, for the text of the line: it has room for either.
-fn main() {
-    let mut space = io::large_buffer();
-    run(&mut space);
+fn main(rt: HostRuntime) -> io::Result<()> {
+    let mut space = [0u8; 65536];
+    run(&mut rt.stdin(), rt.stdout(), &mut space)
 }
 
-// A proved loop has to end, and nothing says that the input does. So the turns are counted down from a number that no run uses up.
-fn run(space: &mut [u8]) {
-    let mut turns = u64::MAX;
-    while turns > 0 {
-        if !one_case(space) {
-            return;
+// A proved loop has to end, and nothing says that the input does. So the turns are counted up to a number that no run comes to.
+fn run(stdin: &mut Stdin, stdout: Stdout, space: &mut [u8]) -> io::Result<()> {
+    for _ in 0..u64::MAX {
+        if !one_case(stdin, stdout, space)? {
+            break;
         }
-        turns -= 1;
     }
+    Ok(())
 }
 
 // Reads a case and prints its line; whether another case may follow.
-fn one_case(space: &mut [u8]) -> bool {
+fn one_case(stdin: &mut Stdin, stdout: Stdout, space: &mut [u8]) -> io::Result<bool> {
     let mut lengths = [0u64; 3];
-    let got = read(space, &mut lengths);
+    let got = read(stdin, space, &mut lengths)?;
     if got == 0 {
-        return false;
+        return Ok(false);
     }
     if got < lengths.len() * WORD {
-        return stop(b"cut short\n");
+        return stop(stdout, b"cut short\n");
     }
-    answer(space, lengths[0], lengths[1], lengths[2])
+    answer(stdin, stdout, space, lengths[0], lengths[1], lengths[2])
 }
 
-fn stop(why: &[u8]) -> bool {
-    io::write_all(STDOUT_FILENO, why);
-    false
+fn stop(stdout: Stdout, why: &[u8]) -> io::Result<bool> {
+    stdout.write_all(why)?;
+    Ok(false)
 }
 
-// Reads so many words of types and of members, and prints their line; whether it went.
-fn answer(space: &mut [u8], types: u64, members: u64, out: u64) -> bool {
+// Reads so many words of types and of members, and prints their line; whether all came.
+fn answer(
+    stdin: &mut Stdin,
+    stdout: Stdout,
+    space: &mut [u8],
+    types: u64,
+    members: u64,
+    out: u64,
+) -> io::Result<bool> {
     if most(types, most(members, out)) > MOST_WORDS {
-        return stop(b"too many\n");
+        return stop(stdout, b"too many\n");
     }
     let mut type_words = [0u64; MOST_WORDS as usize];
     let mut member_words = [0u64; MOST_WORDS as usize];
@@ -59,6 +68,8 @@ fn answer(space: &mut [u8], types: u64, members: u64, out: u64) -> bool {
     let b = members as usize;
     let c = out as usize;
     with_lists(
+        stdin,
+        stdout,
         space,
         &mut type_words[..a],
         &mut member_words[..b],
@@ -66,48 +77,78 @@ fn answer(space: &mut [u8], types: u64, members: u64, out: u64) -> bool {
     )
 }
 
-fn with_lists(space: &mut [u8], types: &mut [u64], members: &mut [u64], out: &mut [u64]) -> bool {
-    if !read_all(space, types) {
-        return stop(b"cut short\n");
+fn with_lists(
+    stdin: &mut Stdin,
+    stdout: Stdout,
+    space: &mut [u8],
+    types: &mut [u64],
+    members: &mut [u64],
+    out: &mut [u64],
+) -> io::Result<bool> {
+    if !read_all(stdin, space, types)? {
+        return stop(stdout, b"cut short\n");
     }
-    if !read_all(space, members) {
-        return stop(b"cut short\n");
+    if !read_all(stdin, space, members)? {
+        return stop(stdout, b"cut short\n");
     }
-    print(space, types, members, out)
+    print(stdout, space, types, members, out)
 }
 
 // Reads so many words; whether all came.
-fn read_all(space: &mut [u8], words: &mut [u64]) -> bool {
-    read(space, words) / WORD >= words.len()
+fn read_all(stdin: &mut Stdin, space: &mut [u8], words: &mut [u64]) -> io::Result<bool> {
+    let got = read(stdin, space, words)?;
+    Ok(got / WORD >= words.len())
 }
 
 // Reads so many words; how many bytes came.
-fn read(space: &mut [u8], words: &mut [u64]) -> usize {
+fn read(stdin: &mut Stdin, space: &mut [u8], words: &mut [u64]) -> io::Result<usize> {
     if words.len() > space.len() / WORD {
-        return 0;
+        return Ok(0);
     }
     let size = words.len() * WORD;
-    read_bytes(&mut space[..size], words)
+    read_bytes(stdin, &mut space[..size], words)
 }
 
-fn read_bytes(bytes: &mut [u8], words: &mut [u64]) -> usize {
-    let got = io::read_full(STDIN_FILENO, bytes);
+fn read_bytes(stdin: &mut Stdin, bytes: &mut [u8], words: &mut [u64]) -> io::Result<usize> {
+    let got = read_full(stdin, bytes)?;
     words::unpack(bytes, words);
-    got
+    Ok(got)
 }
 
-// Prints the line of the lists; whether it went.
-fn print(space: &mut [u8], types: &[u64], members: &[u64], out: &mut [u64]) -> bool {
+// Reads until the bytes are full or the input ends; how many came.
+fn read_full(stdin: &mut Stdin, bytes: &mut [u8]) -> io::Result<usize>
+    ensures { IfOk result (λ n. n ≤ length bytes.new) }
+{
+    let mut done = 0;
+    while done < bytes.len() {
+        let got = stdin.read(&mut bytes[done..])?;
+        if got == 0 {
+            return Ok(done);
+        }
+        done += got;
+    }
+    Ok(done)
+}
+
+// Prints the line of the lists; whether the buffer has it.
+fn print(
+    stdout: Stdout,
+    space: &mut [u8],
+    types: &[u64],
+    members: &[u64],
+    out: &mut [u64],
+) -> io::Result<bool> {
     let answer = flatten::flatten(types, members, out);
     let n = put_line(space, answer, out);
-    write(space, n)
+    write(stdout, space, n)
 }
 
-fn write(text: &[u8], n: usize) -> bool {
+fn write(stdout: Stdout, text: &[u8], n: usize) -> io::Result<bool> {
     if n > text.len() {
-        return false;
+        return Ok(false);
     }
-    io::write_all(STDOUT_FILENO, &text[..n])
+    stdout.write_all(&text[..n])?;
+    Ok(true)
 }
 
 fn put_line(text: &mut [u8], answer: Flattened, words: &[u64]) -> usize {

@@ -1,5 +1,4 @@
 -- `put_end` puts two offsets and a newline.
-use native.Mathlib.Omega.{arith}
 use Rattle.sheet_lines.proofs.PrintingLaws.{end_put}
 use Rattle.sheet_lines.proofs.put_end.Goals as goal
 

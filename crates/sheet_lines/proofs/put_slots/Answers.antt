@@ -1,4 +1,3 @@
-use Prim.Native.Nat.{◌-◌}
 use mathlib.Core.Path.{refl}
 use Rattle.sheet_lines.proofs.PrintingLaws.{goes_first, goes_next, goes_last}
 use native.Mathlib.Omega.{arith}
@@ -6,8 +5,7 @@ use Rattle.sheet_lines.proofs.put_slots.Goals as goal
 
 loop-again : goal.loop-i-preserved
 loop-again c =
-    let loop = c.loop-i in
-    (
+    let loop = c.loop-i in (
       omega arith,
       omega arith,
       omega arith,
