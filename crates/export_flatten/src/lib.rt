@@ -7,11 +7,7 @@ ghost use Rattle.flatten.specs.Flattened.{flatten_answer, flatten_written};
 use flatten::Flattened;
 
 // The pieces of the last type of the list, and its size and alignment.
-pub fn barkpaddle_flatten(
-    types: &[u64],
-    members: &[u64],
-    pieces: &mut [u64],
-) -> Flattened
+pub fn barkpaddle_flatten(types: &[u64], members: &[u64], pieces: &mut [u64]) -> Flattened
     ensures { (result ≡ flatten_answer types.now members.now pieces.old) × (pieces.new ≡ flatten_written types.now members.now pieces.old) }
 {
     flatten::flatten(types, members, pieces)

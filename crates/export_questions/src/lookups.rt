@@ -16,12 +16,7 @@ pub fn barkpaddle_for_target(architecture: u64, system: u64, msvc: u64) -> u64
 }
 
 // The description that a function of a convention follows on a target, or none.
-pub fn barkpaddle_for_convention(
-    architecture: u64,
-    system: u64,
-    msvc: u64,
-    convention: u64,
-) -> u64
+pub fn barkpaddle_for_convention(architecture: u64, system: u64, msvc: u64, convention: u64) -> u64
     ensures { result ≡ convention_answer architecture system (is_set msvc) convention }
 {
     targets::for_convention(architecture, system, msvc != 0, convention)
