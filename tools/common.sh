@@ -1,7 +1,8 @@
 # shellcheck shell=bash
 # Sourced by the tools that run rt, at the top of the repository.
 
-# Two runs of rt at once in one target/ get in each other's way, so one tool waits for the other. What a tool that has the lock calls has it too.
+# Two tools at once would prove the same crates, and write the same logs and the same archive, so one waits for the other. What a tool that has the
+# lock calls has it too.
 if [ -z "${BARKPADDLE_LOCKED:-}" ]; then
     mkdir -p target && exec 8>target/tools.lock || exit 2
     if ! flock -n 8; then
