@@ -1,5 +1,5 @@
 -- What the four forms over a lent call promise, as claims: each contract is the fact of its claim, at every model of the logic and by computation,
--- so a loosened promise fails here. (The checker makes such claims itself where it covers a function, and it covers none that is lent a struct.)
+-- so a loosened promise fails here. (The checker makes such claims itself, too, in each function's Reads; these are said once for the three operations.)
 use mathlib.Core.Path.{◌≡◌, refl}
 use mathlib.Core.List.{List}
 use Prim.Native.Nat.{ℕ}
