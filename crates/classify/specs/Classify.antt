@@ -2,7 +2,7 @@
 -- travels, its slots, and the counts left as the Rust computes them. Subtraction stops at 0, as the Rust's saturating one does. What is passed
 -- over and given is not here: that is spend/specs/Spending.antt, spend_scalar/specs/Spending.antt and Spending.antt beside this file, and a theorem
 -- has the two agree. Most reasons stand there, too, and at the fields of descriptions (describe/src/lib.rt). Three things aren't the Rust's, and each
--- says so; rows 0 to 29 have none of them (abis/proofs/Apart.antt, riscv-psabi), so that there all is the Rust's.
+-- says so; rows 0 to 29 have none of them (abis/proofs/Apart.antt, riscv_psabi), so that there all is the Rust's.
 use Rattle.std.specs.Prelude.{ℕ, ◌+◌, ◌*◌, ◌-◌, ◌/◌, ◌%◌, max, List, [], ◌∷◌, Bool, true, false, ◌&&◌, ◌||◌, not, cond, eqb, leb, ltb, length}
 use Rattle.std.proofs.Math.Option.{Option}
 use Rattle.std.proofs.Math.Option.Option.{none, some}

@@ -413,7 +413,7 @@ riscv_boards = rows_30_to_32.boards
 pub riscv_starts : (d : ℕ) → is_riscv_psabi d ≡ true → riscv_state (described d).banks (rust.call (described d)) ≡ start
 riscv_starts = rows_30_to_32.fresh_is_start
 
--- and equal that standard on its domain, scalars and aggregates, for named arguments, unnamed ones and results: `SaysRiscv` (`Says` in riscv/specs) reads the
+-- and equal that standard on its domain, void, scalars and aggregates, for named arguments, unnamed ones and results: `SaysRiscv` (`Says` in riscv/specs) reads the
 -- answer and the buffer in its words, a and fa registers by number, what of the value is on the stack and how long that is, and the call handed back as the
 -- next registers
 pub argument_is_riscv : (c : Call) → is_riscv_psabi c.abi ≡ true → (arg : Arg) (words out : List ℕ) → riscv.WithVoid arg (pieces_of words)

@@ -1,8 +1,8 @@
 -- The reader finds what the caller placed.
---     what-was-placed-is-read   every value of a list that fits, at the offsets that the placing left, and nothing that stood before is touched
---     a-short-area              where less is lent, the reads before the first value that isn't lent whole are the same, and that one is refused
---     integer-stored, float_stored   where the prologue stores each register
---     after-named               a call that any operations on description 0 left: its offsets are what they were given and passed over
+--     what_was_placed_is_read   every value of a list that fits, at the offsets that the placing left, and nothing that stood before is touched
+--     a_short_area              where less is lent, the reads before the first value that isn't lent whole are the same, and that one is refused
+--     integer_stored, float_stored   where the prologue stores each register
+--     after_named               a call that any operations on description 0 left: its offsets are what they were given and passed over
 use Prim.Native.Nat.{ℕ, ◌+◌, ◌-◌, ◌*◌, ◌%◌, ◌≤◌, ◌<◌}
 use mathlib.Core.Path.{◌≡◌, refl, sym, ◌∙◌, ap, subst}
 use mathlib.Core.Bool.{true}

@@ -1,3 +1,3 @@
-// The ledger of a call's registers, and the table of twelve calls (docs/REFERENCE.md, 10 and 9.8), as theorems. No code.
+// What a caller places for a variable argument list, and the reader finds again (docs/REFERENCE.md, 15), as theorems. No code.
 
 #![tactic(auto)]

@@ -1,5 +1,5 @@
 -- What `read` promises, as a claim: its contract is the fact of the claim, at every model of the logic and by computation, so a loosened promise
--- fails here. (The checker makes such claims itself where it covers a function, and it covers none that answers a struct with a reference in it.)
+-- fails here. (The checker makes such claims itself, too, in each function's Reads; this one says what the reading shows.)
 use mathlib.Core.Path.{◌≡◌, refl}
 use seplogic.Ra.Ura.{Ura}
 use base.Logic.{SProp}
