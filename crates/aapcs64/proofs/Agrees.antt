@@ -107,12 +107,12 @@ module _ (N S : ℕ) (c : Composite) where
 used : (left n : ℕ) → left ≤ 8 → n ≤ left → 8 - (left - n) ≡ 8 - left + n
 used left n h l = omega arith
 
-module _ (I F : ℕ) (hI : I ≤ 8) (hF : F ≤ 8) where
+module _ (I F : ℕ) (h_i : I ≤ 8) (h_f : F ≤ 8) where
   module _ (i f : ℕ) (ss : List Slot) (ei : length ss - floats_in ss ≡ i) (ef : floats_in ss ≡ f) where
     reads_fits : i ≤ I → f ≤ F
         → reads_passed (counts I F) (spent I F ss) ≡ some (passing (registers (parts_of (8 - I) (8 - F) ss)) (state (8 - I + i) (8 - F + f)))
     unfolding reads
-    reads_fits li lf = rw (ei, ef, le-leb i I li, le-leb f F lf, used I i hI li, used F f hF lf)
+    reads_fits li lf = rw (ei, ef, le-leb i I li, le-leb f F lf, used I i h_i li, used F f h_f lf)
 
     reads_no_floats : i ≤ I → F < f → reads_passed (counts I F) (spent I F ss) ≡ some (passing stack (state (8 - I) 8))
     unfolding reads
@@ -124,7 +124,7 @@ module _ (I F : ℕ) (hI : I ≤ 8) (hF : F ≤ 8) where
 
   reads_copy : 0 < I → reads_passed (counts I F) (passed reference (counts (I - 1) F)) ≡ some (passing (copy (x (8 - I))) (state (8 - I + 1) (8 - F)))
   unfolding reads
-  reads_copy l = rw (lt-ltb (I - 1) I (omega arith), used I 1 hI l)
+  reads_copy l = rw (lt-ltb (I - 1) I (omega arith), used I 1 h_i l)
 
   reads_copy_short : I ≤ 0 → reads_passed (counts I F) (passed reference (counts (I - 1) F)) ≡ some (passing copy_on_stack (state 8 (8 - F)))
   unfolding reads
@@ -138,7 +138,7 @@ module _ (shape : Shape) (ps : List Piece) (d : Enough shape ps) (natural : ℕ)
   abbrev c : Composite
   c = composite natural shape ps
 
-  module _ (I F : ℕ) (hI : I ≤ 8) (hF : F ≤ 8) where
+  module _ (I F : ℕ) (h_i : I ≤ 8) (h_f : F ≤ 8) where
     abbrev Same : Type 0
     Same =
         reads_passed (counts I F) (argument (described 1) (counts I F) (Aggregate shape) ps)
@@ -153,10 +153,10 @@ module _ (shape : Shape) (ps : List Piece) (d : Enough shape ps) (natural : ℕ)
         go : Dec (count c ≤ F) → reads_passed (counts I F) (spent I F f.slots) ≡ some (parameter (state (8 - I) (8 - F)) c)
         go (yes l) =
             let a : 8 - I + 0 ≡ 8 - I = omega arith in
-            reads_fits I F hI hF 0 (count c) f.slots i f.floats (omega arith) l
+            reads_fits I F h_i h_f 0 (count c) f.slots i f.floats (omega arith) l
             ∙ rw (f.parts, a, by_c2 (8 - I) (8 - F) c f.test (omega arith))
         go (no l) =
-            reads_no_floats I F hI hF 0 (count c) f.slots i f.floats (omega arith) (omega arith)
+            reads_no_floats I F h_i h_f 0 (count c) f.slots i f.floats (omega arith) (omega arith)
             ∙ rw (by_c3 (8 - I) (8 - F) c f.test (omega arith))
 
     in_words : Others natural shape ps → shape.size ≤ 16 → Same
@@ -172,18 +172,18 @@ module _ (shape : Shape) (ps : List Piece) (d : Enough shape ps) (natural : ℕ)
             → reads_passed (counts I F) (spent I F (cut shape.size 8)) ≡ some (parameter (state (8 - I) (8 - F)) c)
         go (yes l) =
             let a : 8 - F + 0 ≡ 8 - F = omega arith in
-            reads_fits I F hI hF (doublewords c) 0 (cut shape.size 8) i (no_floats shape.size h) l (omega arith)
+            reads_fits I F h_i h_f (doublewords c) 0 (cut shape.size 8) i (no_floats shape.size h) l (omega arith)
             ∙ rw (in_x shape.size h (8 - I) (8 - F), a, by_c12 (8 - I) (8 - F) c o.test h small (omega arith))
         go (no l) =
-            reads_no_integers I F hI hF (doublewords c) 0 (cut shape.size 8) i (no_floats shape.size h) (omega arith) (omega arith)
+            reads_no_integers I F h_i h_f (doublewords c) 0 (cut shape.size 8) i (no_floats shape.size h) (omega arith) (omega arith)
             ∙ rw (by_c15 (8 - I) (8 - F) c o.test h small (omega arith))
 
     by_copy : Others natural shape ps → 16 < shape.size → Same
     by_copy o h = rw (argument_large shape ps d.some I F o.finds h) (go (dec_le I 0))
       where
         go : Dec (I ≤ 0) → reads_passed (counts I F) (passed reference (counts (I - 1) F)) ≡ some (parameter (state (8 - I) (8 - F)) c)
-        go (yes l) = reads_copy_short I F hI hF l ∙ rw (by_c17 (8 - I) (8 - F) c o.test h (omega arith))
-        go (no l) = reads_copy I F hI hF (omega arith) ∙ rw (by_c9 (8 - I) (8 - F) c o.test h (omega arith))
+        go (yes l) = reads_copy_short I F h_i h_f l ∙ rw (by_c17 (8 - I) (8 - F) c o.test h (omega arith))
+        go (no l) = reads_copy I F h_i h_f (omega arith) ∙ rw (by_c9 (8 - I) (8 - F) c o.test h (omega arith))
 
     pub argument_agrees : Same
     argument_agrees = go (agreement natural shape ps d) (dec_le shape.size 16)
@@ -222,7 +222,7 @@ module _ (shape : Shape) (ps : List Piece) (natural I F : ℕ) where
   pub argument_is_aapcs64 : Domain shape ps → natural ≤ most_natural shape ps → I ≤ 8 → F ≤ 8
       → reads_passed (counts I F) (argument (described 1) (counts I F) (Aggregate shape) ps)
       ≡ some (parameter (state (8 - I) (8 - F)) (composite natural shape ps))
-  argument_is_aapcs64 d n hI hF = argument_agrees shape ps (enough shape ps d) natural n I F hI hF
+  argument_is_aapcs64 d n h_i h_f = argument_agrees shape ps (enough shape ps d) natural n I F h_i h_f
 
   pub returns_is_aapcs64 : Domain shape ps → natural ≤ most_natural shape ps
       → reads_returned (described 1).return_pointer (returns (described 1) (counts I F) (Aggregate shape) ps)

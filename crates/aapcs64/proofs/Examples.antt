@@ -26,18 +26,18 @@ use Rattle.aapcs64.specs.Domain.{in_order, apart, furthest, below, Domain}
 use Rattle.aapcs64.proofs.Case.{Case, on, shaped, row_argument, row_result, standard_argument, standard_result, Same, SameResult, Allowed}
 use Rattle.aapcs64.proofs.Needed.{tests, all, tests_are_domain}
 
-pub record Example (k : Case) (row : Passed) (standard : Passing) (row-result : Passed) (standard-result : Returning) : Type 0 where
+pub record Example (k : Case) (row : Passed) (standard : Passing) (row_back : Passed) (standard_back : Returning) : Type 0 where
   pub inside : all (tests k.shape k.pieces) ≡ true
   pub allowed : Allowed k
   pub row_is : row_argument k ≡ row
   pub standard_is : standard_argument k ≡ standard
   pub same : Same k
-  pub row_result_is : row_result k ≡ row-result
-  pub standard_result_is : standard_result k ≡ standard-result
+  pub row_result_is : row_result k ≡ row_back
+  pub standard_result_is : standard_result k ≡ standard_back
   pub same_result : SameResult k
 
-pub in_domain : {k : Case} {row : Passed} {standard : Passing} {row-result : Passed} {standard-result : Returning}
-    → Example k row standard row-result standard-result → Domain k.shape k.pieces
+pub in_domain : {k : Case} {row : Passed} {standard : Passing} {row_back : Passed} {standard_back : Returning}
+    → Example k row standard row_back standard_back → Domain k.shape k.pieces
 in_domain {k = k} e = tests_are_domain k.shape k.pieces e.inside
 
 -- an HFA of one member

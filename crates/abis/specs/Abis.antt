@@ -67,14 +67,14 @@ sysv_amd64 =
 -- Up to four equal floats and nothing else go in float registers, a register each; any other aggregate up to 16 bytes in integer ones.
 
 abbrev aapcs64_with : List ℕ → Bool → Variadic → StackArgs → Narrow → Description
-aapcs64_with name starts-even variadic stack-args narrow =
+aapcs64_with name starts_even variadic stack_args narrow =
     record {
       name = name;
       banks = record { integer = 8; float = 8; shared = false; integer_width = 8; float_width = 16 };
       scalars = record {
         in_memory = none;
         wide_integer_is_all_or_nothing = false;
-        wide_integer_starts_even = starts-even;
+        wide_integer_starts_even = starts_even;
         wide_integer_drains = true;
         wide_is_by_reference = false;
         wide_integer_returns_in = none;
@@ -95,7 +95,7 @@ aapcs64_with name starts-even variadic stack-args narrow =
       -- x8, which is no argument register: all eight stay for what the function is called with.
       return_pointer = Dedicated;
       variadic = variadic;
-      stack_args = stack-args;
+      stack_args = stack_args;
       narrow = narrow;
       -- The document has rules of their own for them. Nobody has checked these here, as on all rows below: a generator refuses them.
       bit_ints = Untaught;
@@ -385,10 +385,10 @@ i386_msvc_fastcall = i386 fastcall (bytes "i386 Windows fastcall (MSVC)") msvc_r
 -- width, or none. They go as row 5 does but for what the Rust has otherwise: each of the three comments here says one.
 
 abbrev pub riscv_with : List ℕ → ℕ → ℕ → Description
-riscv_with name float_registers float-width =
+riscv_with name float_registers float_width =
     record {
       name = name;
-      banks = record { integer = 8; float = float_registers; shared = false; integer_width = 8; float_width = float-width };
+      banks = record { integer = 8; float = float_registers; shared = false; integer_width = 8; float_width = float_width };
       scalars = record {
         in_memory = none;
         wide_integer_is_all_or_nothing = false;

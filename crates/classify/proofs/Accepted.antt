@@ -35,14 +35,14 @@ module _ (checks : ℕ) (c : Call) (account : Account) (out : List ℕ) where
       → P (accepted_answer c account) (written (slots_of account) out))
       → P (answer_to checks c account out) (written_to checks account out)
   unfolding answer_to written_to
-  by_cases P when-refused when-accepted = go (whole_refusal checks account out) refl
+  by_cases P when_refused when_accepted = go (whole_refusal checks account out) refl
     where
       go : (n : ℕ) → whole_refusal checks account out ≡ n → P (or_answer n c (accepted_answer c account)) (unless_refused n (written (slots_of account) out) out)
       go zero e =
           let both = else_none checks _ e in
           let rooms = else_none (room_refusal (length (slots_of account)) out) _ both.1 in
-          when-accepted both.0 (ltb-false _ _ (refuse_none (ltb (length out / slot_size) (length (slots_of account))) 6 _ rooms.0).0) rooms.1
-      go (suc n) e = when-refused n e
+          when_accepted both.0 (ltb-false _ _ (refuse_none (ltb (length out / slot_size) (length (slots_of account))) 6 _ rooms.0).0) rooms.1
+      go (suc n) e = when_refused n e
 
   pub record Accepted (a : Answer) (words : List ℕ) : Type 0 where
     pub checks_pass : checks ≡ accepted
@@ -77,11 +77,11 @@ module _ (source : ℕ) (D : Description) (c : Call) where
   sound z =
       let both = else_none source _ z in
       let good = (refuse_none (is_bad_call (terms_of D) c) 1 accepted both.1).0 in
-      let counts-rest = both_false (ltb D.banks.integer c.left.integer || ltb D.banks.float c.left.float) _ good in
-      let counts = both_false (ltb D.banks.integer c.left.integer) (ltb D.banks.float c.left.float) counts-rest.0 in
-      let stack-mark = both_false (ltb most_stack c.stack) _ counts-rest.1 in (
+      let counts_rest = both_false (ltb D.banks.integer c.left.integer || ltb D.banks.float c.left.float) _ good in
+      let counts = both_false (ltb D.banks.integer c.left.integer) (ltb D.banks.float c.left.float) counts_rest.0 in
+      let stack_mark = both_false (ltb most_stack c.stack) _ counts_rest.1 in (
         both.0,
-        record { integers = ltb-false _ _ counts.0; floats = ltb-false _ _ counts.1; stack_within = ltb-false _ _ stack-mark.0; mark_used = stack-mark.1 },
+        record { integers = ltb-false _ _ counts.0; floats = ltb-false _ _ counts.1; stack_within = ltb-false _ _ stack_mark.0; mark_used = stack_mark.1 },
       )
 
   pub sound_accepted : source ≡ accepted → Sound D c → call_refusal_by source D c ≡ accepted

@@ -382,9 +382,9 @@ module _ (d : ℕ) (left : Left) (fits : left.integer ≤ (described d).banks.in
           argument_few (described d) (with_mark left) arguments_few fits (λ _. wide_marked (rw e)) arg ps h
       go UnnamedIntegersEven e =
           let p : Passed = argument (described d) (with_mark (from_even_start (described d) left arg)) arg ps in
-          let few-left =
+          let few_left =
           argument_few (described d) (with_mark (from_even_start (described d) left arg)) arguments_few (start_fits (described d) left arg fits) (λ _. wide_marked (rw e)) arg ps h in
-          pick (is_ignore p.pass) (passed p.pass left) (passed p.pass (leaves p.left.integer p.left.float no_mark)) (λ _. few-left) few-left
+          pick (is_ignore p.pass) (passed p.pass left) (passed p.pass (leaves p.left.integer p.left.float no_mark)) (λ _. few_left) few_left
 
 -- ---- an operation that is accepted
 

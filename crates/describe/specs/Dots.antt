@@ -6,7 +6,7 @@ use Rattle.describe.specs.declared.Variadic.{Variadic}
 use Rattle.describe.specs.declared.Variadic.TheVariants.{SameAsFixed, AlwaysMemory, BothBanks, IntegersOnly, UnnamedIntegers, UnnamedIntegersEven}
 
 abbrev pub dots : Bool → Bool → Bool → Bool → Dots
-dots mark emptied integers_only starts-even = record { mark = mark; emptied = emptied; integers_only = integers_only; starts_even = starts-even }
+dots mark emptied integers_only starts_even = record { mark = mark; emptied = emptied; integers_only = integers_only; starts_even = starts_even }
 
 -- a fixed argument and a return
 abbrev pub as_fixed : Dots

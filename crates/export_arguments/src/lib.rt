@@ -1,4 +1,4 @@
-// The exported entries that start a call, mark it, and ask for its fixed arguments, in numbers and slices (REFERENCE 13.2). The call comes as
+// The entries, exported by c_arguments, that start a call, mark it, and ask for its fixed arguments, in numbers and slices (REFERENCE 13.2). The call comes as
 // its description, the counts left, the mark and the stack offset, and goes back in the answer. Returns, arguments after the dots and questions are entries of
 // crates of their own: what the entries of one archive share isn't inlined into any of them (docs/DECISIONS.md).
 #![tactic(auto)]

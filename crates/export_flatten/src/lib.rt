@@ -1,4 +1,4 @@
-// The exported entry that flattens a type (REFERENCE 13.3): its lists and the buffer for its pieces come as slices.
+// The entry, exported by c_flatten, that flattens a type (REFERENCE 13.3): its lists and the buffer for its pieces come as slices.
 #![tactic(auto)]
 
 ghost use Rattle.std.specs.Prelude.{◌≡◌};

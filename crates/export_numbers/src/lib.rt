@@ -1,5 +1,5 @@
 // Calls and shapes from the numbers that the exported entries take (REFERENCE 13.1). What they answer is what the methods of a call answer. The
-// entries stand in crates of their own, and nothing is exported from here.
+// entries stand in crates of their own, and none is here.
 #![tactic(auto)]
 
 ghost use Rattle.std.specs.Prelude.{◌≡◌};

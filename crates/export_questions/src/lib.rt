@@ -1,4 +1,4 @@
-// The exported entries that ask and change nothing of a call, in numbers and slices (REFERENCE 13.2 to 13.5): what a value in the argument area
+// The entries, exported by c_questions, that ask and change nothing of a call, in numbers and slices (REFERENCE 13.2 to 13.5): what a value in the argument area
 // is aligned to, pieces and records, descriptions, targets, the header's version. Each but the last answers what the function behind it answers.
 #![tactic(auto)]
 

@@ -1,4 +1,4 @@
-// The exported entry that reads a variable argument list, in numbers and slices (REFERENCE 15.3): where the next scalar stands, and the offsets
+// The entry, exported by c_varargs, that reads a variable argument list, in numbers and slices (REFERENCE 15.3): where the next scalar stands, and the offsets
 // after it. An entry can't hand out a part of what it is lent, so the answer says which bytes of which area it is.
 #![tactic(auto)]
 

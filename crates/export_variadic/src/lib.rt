@@ -1,4 +1,4 @@
-// The exported entries that say how an argument after the dots travels, in numbers and slices (REFERENCE 13.2). The call comes as its
+// The entries, exported by c_variadic, that say how an argument after the dots travels, in numbers and slices (REFERENCE 13.2). The call comes as its
 // description, the counts left, the mark and the stack offset, and goes back in the answer.
 #![tactic(auto)]
 

@@ -49,7 +49,7 @@ piece_slot p = cond (is_float p.kind) (float_slot p.kind p.offset) (integer_slot
 -- a register of its bank holds a piece: a float is no wider than a float's register, an integer no wider than an integer's. A long double on LP64D
 -- is wider than a float register, so its record is no pair and goes by its size, as an integer pair does
 unfoldable pub fits_one : ℕ → ℕ → Piece → Bool
-fits_one integer-width float-width p = cond (is_float p.kind) (leb p.size float-width) (leb p.size integer-width)
+fits_one integer_width float_width p = cond (is_float p.kind) (leb p.size float_width) (leb p.size integer_width)
 
 -- one piece that is a float, or two of which one at least is a float; each fits one register. Two integers are left to the rule of the size
 unfoldable pub float_pair : ℕ → ℕ → List Piece → Search

@@ -39,9 +39,9 @@ use Rattle.ledger.proofs.Decided.{IfDecided, scalar_so, argument_so, return_so}
 abbrev pub Spends : Left → Decision → ℕ → Type 0
 Spends left d bytes = 0 < bytes → left.integer ≤ d.spent.integers_passed + d.spent.integers_given
 
-module _ (name : List ℕ) (float_registers float-width : ℕ) where
+module _ (name : List ℕ) (float_registers float_width : ℕ) where
   abbrev riscv : Description
-  riscv = riscv_with name float_registers float-width
+  riscv = riscv_with name float_registers float_width
 
   -- ---- a scalar
 
@@ -73,7 +73,7 @@ module _ (name : List ℕ) (float_registers float-width : ℕ) where
         positive (suc n) z = omega arith
 
     scalar_spends : ScalarSpends (scalar_argument riscv.banks riscv.scalars left s)
-    scalar_spends = scalar_so name float_registers float-width ScalarSpends left s takes_direct takes_float takes_pieces
+    scalar_spends = scalar_so name float_registers float_width ScalarSpends left s takes_direct takes_float takes_pieces
 
   -- an address that was given no register finds none left
   address_spends : (left : Left) → Spends left (reference (min 1 left.integer)) (pointer_bytes (spends 0 (min 1 left.integer) 0 0) 8)
@@ -124,7 +124,7 @@ module _ (name : List ℕ) (float_registers float-width : ℕ) where
 
     aggregate_spends : AggregateSpends (by_rules (terms_of riscv) false left riscv.arguments shape ps).decision
     aggregate_spends =
-        argument_so name float_registers float-width AggregateSpends left shape ps (λ h. absurd (omega (arith, h))) found_slots cut_slots_lem (address_spends left)
+        argument_so name float_registers float_width AggregateSpends left shape ps (λ h. absurd (omega (arith, h))) found_slots cut_slots_lem (address_spends left)
 
   -- ---- what comes back: nothing but an address is there
 
@@ -138,7 +138,7 @@ module _ (name : List ℕ) (float_registers float-width : ℕ) where
 
     aggregate_back : (shape : Shape) (ps : List Piece) → BackSpends (by_rules (terms_of riscv) true left riscv.returns shape ps).decision
     aggregate_back shape ps =
-        return_so name float_registers float-width BackSpends left shape ps (λ h. absurd (omega (arith, h))) (λ slots h. absurd (omega (arith, h))) (address_spends left)
+        return_so name float_registers float_width BackSpends left shape ps (λ h. absurd (omega (arith, h))) (λ slots h. absurd (omega (arith, h))) (address_spends left)
 
   -- ---- the choice of an operation, by what is asked about
 

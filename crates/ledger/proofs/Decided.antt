@@ -37,9 +37,9 @@ abbrev pub IfDecided : (Decision → Type 0) → tries.Tried → Type 0
 IfDecided P (tries.TheVariants.Decided d) = P d
 IfDecided P tries.TheVariants.TryNextRule = Unit {0}
 
-module _ (name : List ℕ) (float_registers float-width : ℕ) (P : Decision → Type 0) where
+module _ (name : List ℕ) (float_registers float_width : ℕ) (P : Decision → Type 0) where
   abbrev riscv : Description
-  riscv = riscv_with name float_registers float-width
+  riscv = riscv_with name float_registers float_width
 
   -- ---- a scalar argument: in words, in a float register, or, after the dots, a float in words
 
@@ -65,7 +65,7 @@ module _ (name : List ℕ) (float_registers float-width : ℕ) (P : Decision →
     scalar_so direct held pieces =
         rw no_format
         (either (marked left && is_float s.kind) _ _ (λ _. pieces)
-        (λ _. either (is_float s.kind && leb s.size float-width) _ _
+        (λ _. either (is_float s.kind && leb s.size float_width) _ _
         (λ _. either (eqb left.float 0) _ _ (λ _. direct) (λ e. held (eqb-false _ _ e)))
         (λ _. either (is_float s.kind) _ _ (λ _. direct) (λ _. rw and-false direct))))
 

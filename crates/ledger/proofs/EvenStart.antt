@@ -76,22 +76,22 @@ module _ (left : Left) where
       go false true = (refl, refl)
       go false false = (refl, refl)
 
-module _ (name : List ℕ) (float_registers float-width : ℕ) where
+module _ (name : List ℕ) (float_registers float_width : ℕ) where
   abbrev D : Description
-  D = riscv_with name float_registers float-width
+  D = riscv_with name float_registers float_width
 
   scalar_none : (left : Left) (s : Scalar) → PassesNone (scalar_argument D.banks D.scalars left s)
-  scalar_none left s = scalar_so name float_registers float-width PassesNone left s (refl, refl) (λ _. (refl, refl)) (refl, refl)
+  scalar_none left s = scalar_so name float_registers float_width PassesNone left s (refl, refl) (λ _. (refl, refl)) (refl, refl)
 
   aggregate_none : (left : Left) (shape : Shape) (ps : List Piece) → PassesNone (by_rules (terms_of D) false left D.arguments shape ps).decision
   aggregate_none left shape ps =
-      argument_so name float_registers float-width PassesNone left shape ps (refl, refl) (found_slots left) (cut_slots_lem left (cut_slots shape.size 8)) (refl, refl)
+      argument_so name float_registers float_width PassesNone left shape ps (refl, refl) (found_slots left) (cut_slots_lem left (cut_slots shape.size 8)) (refl, refl)
 
   return_none : (left : Left) (arg : args.Arg) (ps : List Piece) → PassesNone (return_choice D left arg ps).decision
   unfolding return_choice scalar_by aggregate_by settled_for scalar_return
   return_none left args.TheVariants.Void ps = (refl, refl)
   return_none left (args.TheVariants.Scalar s) ps = (refl, refl)
-  return_none left (args.TheVariants.Aggregate shape) ps = return_so name float_registers float-width PassesNone left shape ps (refl, refl) (λ slots. (refl, refl)) (refl, refl)
+  return_none left (args.TheVariants.Aggregate shape) ps = return_so name float_registers float_width PassesNone left shape ps (refl, refl) (λ slots. (refl, refl)) (refl, refl)
 
   argument_none : (left : Left) (arg : args.Arg) (ps : List Piece) → PassesNone (argument_choice D left arg ps).decision
   unfolding argument_choice scalar_by aggregate_by settled_for

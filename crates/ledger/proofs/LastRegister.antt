@@ -42,9 +42,9 @@ use Rattle.ledger.proofs.AllSpent.{Spends, bytes_left, return_choice_lem, argume
 
 -- ---- an operation: bytes that stand there leave no integer register
 
-module _ (name : List ℕ) (float_registers float-width : ℕ) where
+module _ (name : List ℕ) (float_registers float_width : ℕ) where
   abbrev D : Description
-  D = riscv_with name float_registers float-width
+  D = riscv_with name float_registers float_width
 
   there : (stack length rounding : ℕ) → 0 < (places.behind stack length rounding).stacked.bytes → 0 < length
   unfolding places.behind
@@ -55,8 +55,8 @@ module _ (name : List ℕ) (float_registers float-width : ℕ) where
   some_bytes : (n : ℕ) → 0 < (n + 7) / 8 * 8 → 0 < n
   some_bytes n h = omega (arith, h)
 
-  module _ (returning : Bool) (dots : Dots) (plain-area : dots.emptied ≡ false) (rules : List Rule) (c : Call) (arg : args.Arg) (ps : List Piece)
-      (p : Passed) (d : Decision) (ss : List Slot) (agrees : Agrees c.left p d ss) (spends_so : Spends c.left d (bytes_left name float_registers float-width returning arg d)) where
+  module _ (returning : Bool) (dots : Dots) (plain_area : dots.emptied ≡ false) (rules : List Rule) (c : Call) (arg : args.Arg) (ps : List Piece)
+      (p : Passed) (d : Decision) (ss : List Slot) (agrees : Agrees c.left p d ss) (spends_so : Spends c.left d (bytes_left name float_registers float_width returning arg d)) where
     abbrev placed : Placed
     placed = stacked_of (terms_of D) rules returning dots c.stack arg ps (way_of p.pass) d.spent (length (pass_slots p.pass))
 
@@ -80,14 +80,14 @@ module _ (name : List ℕ) (float_registers float-width : ℕ) where
     operation_leaves_none mark = rw good (λ x. absurd (omega (arith, x)))
     operation_leaves_none (return arg words out) =
         answered (refusal_by source D c arg words) _ out
-        (leaves_none true as_fixed refl D.returns c arg (pieces_of words) _ _ _ (returns_agrees D c.left arg (pieces_of words)) (return_choice_lem name float_registers float-width c.left arg (pieces_of words)))
+        (leaves_none true as_fixed refl D.returns c arg (pieces_of words) _ _ _ (returns_agrees D c.left arg (pieces_of words)) (return_choice_lem name float_registers float_width c.left arg (pieces_of words)))
     operation_leaves_none (argument arg words out) =
         answered (refusal_by source D c arg words) _ out
-        (leaves_none false as_fixed refl D.arguments c arg (pieces_of words) _ _ _ (argument_agrees D c.left arg (pieces_of words)) (argument_choice_lem name float_registers float-width c.left arg (pieces_of words)))
+        (leaves_none false as_fixed refl D.arguments c arg (pieces_of words) _ _ _ (argument_agrees D c.left arg (pieces_of words)) (argument_choice_lem name float_registers float_width c.left arg (pieces_of words)))
     operation_leaves_none (variadic_argument arg words out) =
         answered (refusal_by source D c arg words) _ out
         (leaves_none false (dots_of UnnamedIntegersEven) refl D.arguments c arg (pieces_of words) _ _ _
-        (variadic_argument_agrees D c.left arg (pieces_of words) (λ e. unmarked D c (sound source D c good).1 refl)) (variadic_choice name float_registers float-width c.left arg (pieces_of words)))
+        (variadic_argument_agrees D c.left arg (pieces_of words) (λ e. unmarked D c (sound source D c good).1 refl)) (variadic_choice name float_registers float_width c.left arg (pieces_of words)))
 
 -- what stands there first stands at 0: its place is a multiple of its rounding, with less padding before it than that
 first_at : (source : ℕ) (D : Description) (c : Call) (op : Operation) → c.stack ≡ 0 → 0 < (range_of (answer_by source D op c)).bytes → (range_of (answer_by source D op c)).at ≡ 0

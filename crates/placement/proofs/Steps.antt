@@ -319,10 +319,10 @@ module _ (st : State) (ready : Ready st) (v : Value) (is : IsValue v) where
         ∙ show _ _ _ [] (nowhere_part _ _ bad_area (offsets_of st))
 
     -- there is room for it
-    module _ (taken : is_refused a ≡ false) (at-start : a.outcome.stacked.at ≡ start) (goes_on : a.next.stack ≡ start + round_up v.scalar.size 8) where
+    module _ (taken : is_refused a ≡ false) (at_start : a.outcome.stacked.at ≡ start) (goes_on : a.next.stack ≡ start + round_up v.scalar.size 8) where
       placed_stack : place st v ≡ on_stack start
       unfolding placed_by
-      placed_stack = rw (taken, nx.integers_given, nx.floats_given, at-start)
+      placed_stack = rw (taken, nx.integers_given, nx.floats_given, at_start)
 
       stack_offsets : offsets_of (on_stack start) ≡ record { integer = 8 * (6 - c.left.integer); float = 48 + 16 * (8 - c.left.float); overflow = overflow_start c.stack v.scalar.align + round_up v.scalar.size 8 }
       stack_offsets =

@@ -142,5 +142,5 @@ each_inside size (p ∷ ps) e = let x = inside_first size p ps e in rw (le-leb _
 pub accepted_inside : (c : Call) (shape : Shape) (words : List ℕ) → refusal_of c (Aggregate shape) words ≡ accepted → is_inside shape (pieces_of words) ≡ true
 unfolding refusal_of refusal_by checked arg_refusal
 accepted_inside c shape words e =
-    let of-value = (else_none (state_refusal (terms_of (described c.abi)) c) _ (else_none (row_refusal c.abi) _ e).1).1 in
-    each_inside shape.size (pieces_of words) (inside_shape shape words of-value)
+    let of_value = (else_none (state_refusal (terms_of (described c.abi)) c) _ (else_none (row_refusal c.abi) _ e).1).1 in
+    each_inside shape.size (pieces_of words) (inside_shape shape words of_value)

@@ -105,7 +105,7 @@ module _ (shape : Shape) (ps : List Piece) (h : shape.size ≤ 16) (rs : Each (R
 -- ---- what agrees in memory, on one eightbyte and on two agrees on every shape of the domain in which the x87 stack has no part
 
 module _ {shape : Shape} {ps : List Piece} (d : Domain shape ps) (f : Search → Option Travels) (g : Option (List Class) → Travels)
-    (in-none : f nothing ≡ some (g none))
+    (in_none : f nothing ≡ some (g none))
     (in_one : (c : Class) → Plain c → is NO-CLASS c ≡ false → f (slots_found shape.size (settled (map rep (c ∷ [])))) ≡ some (g (cleaned (c ∷ []))))
     (in_two : (c e : Class) → Plain c → Plain e → is NO-CLASS c ≡ false → is NO-CLASS e ≡ false
     → f (slots_found shape.size (settled (map rep (c ∷ e ∷ [])))) ≡ some (g (cleaned (c ∷ e ∷ []))))
@@ -114,11 +114,11 @@ module _ {shape : Shape} {ps : List Piece} (d : Domain shape ps) (f : Search →
     Agrees = f (eightbytes 16 shape ps) ≡ some (g (psabi.classified shape.size ps))
 
     in_large : 16 < shape.size → Agrees
-    in_large h = ap f (our_large shape ps h) ∙ in-none ∙ sym (ap (λ o. some (g o)) (large shape.size ps h (regular d)))
+    in_large h = ap f (our_large shape ps h) ∙ in_none ∙ sym (ap (λ o. some (g o)) (large shape.size ps h (regular d)))
 
     module _ (h : shape.size ≤ 16) where
       in_unaligned : any_unaligned ps ≡ true → Agrees
-      in_unaligned u = ap f (our_unaligned shape ps h (regular d) u) ∙ in-none ∙ sym (ap (λ o. some (g o)) (unaligned shape.size ps u))
+      in_unaligned u = ap f (our_unaligned shape ps h (regular d) u) ∙ in_none ∙ sym (ap (λ o. some (g o)) (unaligned shape.size ps u))
 
       in_classes : any is_x87_piece ps ≡ false → any_unaligned ps ≡ false → Agrees
       unfolding classes_from

@@ -52,7 +52,7 @@ module _ (c : Call) (row : is_riscv_psabi c.abi ≡ true) (arg : Arg) (ws out : 
       → (c.left.integers_only ≡ no_mark → account.passed.left.integers_only ≡ no_mark)
       → Says asked c arg (pieces_of ws) (answer_to (refusal_of c arg ws) c account out) (written_to (refusal_of c arg ws) account out)
   unfolding refusal_of
-  says asked account ok reads_so length-so unmarked-so =
+  says asked account ok reads_so length_so unmarked_so =
       let so = accepted_so (refusal_of c arg ws) c account out ok in
       let s = (sound (row_refusal c.abi) D c (call_checked (row_refusal c.abi) D c arg ws so.checks_pass)).1 in
       let k = good c row s in
@@ -64,9 +64,9 @@ module _ (c : Call) (row : is_riscv_psabi c.abi ≡ true) (arg : Arg) (ws out : 
         travels =
             rw (back (way_of account.passed.pass), read_back (slots_of account) out so.room)
             (reads_so ∙ rw k.no_mark_is (is_riscv c.abi row I F k.integers k.floats arg (pieces_of ws) e asked));
-        stacked = length-so so.stands ∙ rw k.no_mark_is (length_is_riscv c.abi row I F k.integers k.floats arg (pieces_of ws) e asked);
+        stacked = length_so so.stands ∙ rw k.no_mark_is (length_is_riscv c.abi row I F k.integers k.floats arg (pieces_of ws) e asked);
         same_abi = refl;
-        unmarked = unmarked-so k.no_mark_is;
+        unmarked = unmarked_so k.no_mark_is;
       })
 
   abbrev keeps_mark : (spent : Spent) (after : Left) → after ≡ left_after c.left spent → c.left.integers_only ≡ no_mark → after.integers_only ≡ no_mark

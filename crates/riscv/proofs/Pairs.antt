@@ -59,10 +59,10 @@ module _ (b : Board) where
     pub some : 0 < floats
     pub few : integers + floats ≤ 2
     pub held : 0 < b.FLEN
-    pub by : (s : State) (otherwise : Passing) (given-a given-fa : ℕ) → integers ≤ given-a → floats ≤ given-fa → s.next_a ≤ integer_registers
+    pub by : (s : State) (otherwise : Passing) (given_a given_fa : ℕ) → integers ≤ given_a → floats ≤ given_fa → s.next_a ≤ integer_registers
         → passed s ps otherwise
         ≡ cond (leb (s.next_fa + floats) b.float_registers && leb (s.next_a + integers) integer_registers)
-        (passing (parts (parts_of s.next_a given-a s.next_fa given-fa (each_piece ps))) (state (s.next_a + integers) (s.next_fa + floats)))
+        (passing (parts (parts_of s.next_a given_a s.next_fa given_fa (each_piece ps))) (state (s.next_a + integers) (s.next_fa + floats)))
         otherwise
 
   -- nothing is found, and the standard goes by the integer convention at once
@@ -89,10 +89,10 @@ module _ (b : Board) where
           some = omega arith;
           few = omega arith;
           held = omega (arith, f.some, leb-true p.size b.FLEN c);
-          by = λ s otherwise given-a given-fa i l la.
+          by = λ s otherwise given_a given_fa i l la.
               let n : s.next_a + 0 ≡ s.next_a = omega arith in
               let m : s.next_fa + 0 ≡ s.next_fa = omega arith in
-              rw (e, c, e, lt-ltb 0 given-fa (omega arith), f.bytes, n, m, le-leb s.next_a integer_registers la, and-true);
+              rw (e, c, e, lt-ltb 0 given_fa (omega arith), f.bytes, n, m, le-leb s.next_a integer_registers la, and-true);
         }
 
     an_integer : is_float p.kind ≡ false → Unpaired (p ∷ [])
@@ -159,20 +159,20 @@ module _ (b : Board) where
           some = omega arith;
           few = omega arith;
           held = omega (arith, fp.some, leb-true p.size b.FLEN cp);
-          by = λ s otherwise given-a given-fa i l la.
+          by = λ s otherwise given_a given_fa i l la.
               let n : s.next_a + 0 ≡ s.next_a = omega arith in
               let m : s.next_fa + 0 ≡ s.next_fa = omega arith in
-              rw (ep, eq, cp, cq, ep, eq, lt-ltb 0 given-fa (omega arith), lt-ltb 0 (given-fa - 1) (omega arith), fp.bytes, fq.bytes, n, m, le-leb s.next_a integer_registers la, and-true);
+              rw (ep, eq, cp, cq, ep, eq, lt-ltb 0 given_fa (omega arith), lt-ltb 0 (given_fa - 1) (omega arith), fp.bytes, fq.bytes, n, m, le-leb s.next_a integer_registers la, and-true);
         }
 
     -- a float and an integer, in either order
     module _ (f : Piece) (ff : Formatted f) (cf : leb f.size b.FLEN ≡ true) where
       abbrev ByMixed : Type 0
       ByMixed =
-          (s : State) (otherwise : Passing) (given-a given-fa : ℕ) → 1 ≤ given-a → 1 ≤ given-fa
+          (s : State) (otherwise : Passing) (given_a given_fa : ℕ) → 1 ≤ given_a → 1 ≤ given_fa
           → passed s two otherwise
           ≡ cond (leb (s.next_fa + 1) b.float_registers && leb (s.next_a + 1) integer_registers)
-          (passing (parts (parts_of s.next_a given-a s.next_fa given-fa (each_piece two))) (state (s.next_a + 1) (s.next_fa + 1)))
+          (passing (parts (parts_of s.next_a given_a s.next_fa given_fa (each_piece two))) (state (s.next_a + 1) (s.next_fa + 1)))
           otherwise
 
       mixed : float_pair XLEN b.FLEN two ≡ found (each_piece two) → floats_in (each_piece two) ≡ 1 → ByMixed → Pair two
@@ -187,7 +187,7 @@ module _ (b : Board) where
             some = omega arith;
             few = omega arith;
             held = omega (arith, ff.some, leb-true f.size b.FLEN cf);
-            by = λ s otherwise given-a given-fa i l la. by s otherwise given-a given-fa i l;
+            by = λ s otherwise given_a given_fa i l la. by s otherwise given_a given_fa i l;
           }
 
     same_fa : (s : State) → s.next_fa + 0 ≡ s.next_fa
@@ -197,13 +197,13 @@ module _ (b : Board) where
     unfolding float_pair found_if fits_one each_piece piece_slot floats_in by_fields parts_of
     float_first ep eq fp cp cq =
         mixed p fp cp (rw (ep, eq, cp, cq)) (rw (ep, eq, ep))
-        (λ s otherwise given-a given-fa i l. rw (ep, eq, cp, cq, ep, lt-ltb 0 given-fa (omega arith), lt-ltb 0 given-a (omega arith), fp.bytes, same_fa s))
+        (λ s otherwise given_a given_fa i l. rw (ep, eq, cp, cq, ep, lt-ltb 0 given_fa (omega arith), lt-ltb 0 given_a (omega arith), fp.bytes, same_fa s))
 
     float_second : is_float p.kind ≡ false → is_float q.kind ≡ true → Formatted q → leb p.size XLEN ≡ true → leb q.size b.FLEN ≡ true → Pair two
     unfolding float_pair found_if fits_one each_piece piece_slot floats_in by_fields parts_of
     float_second ep eq fq cp cq =
         mixed q fq cq (rw (ep, eq, cp, cq)) (rw (ep, eq, eq))
-        (λ s otherwise given-a given-fa i l. rw (ep, eq, cp, cq, eq, lt-ltb 0 given-fa (omega arith), lt-ltb 0 given-a (omega arith), fq.bytes, same_fa s))
+        (λ s otherwise given_a given_fa i l. rw (ep, eq, cp, cq, eq, lt-ltb 0 given_fa (omega arith), lt-ltb 0 given_a (omega arith), fq.bytes, same_fa s))
 
     two_pieces : is_usual p.kind p.size ≡ true → is_usual q.kind q.size ≡ true → Judged two
     unfolding fits_one

@@ -254,6 +254,6 @@ module _ (D : Description) (h : T (held D)) where
   pub decode_back : decode D.name (encode D) ≡ D
   unfolding decode
   decode_back =
-      let few-returns = leb→le (length D.returns) 4 (and_left (leb (length D.returns) 4) (held_tests D.returns) parts.2) in
-      let few-arguments = leb→le (length D.arguments) 4 (and_left (leb (length D.arguments) 4) (held_tests D.arguments) parts.3) in
-      simp (terms_back, others_back, rules_back (encode D) 8 D.returns few-returns (returns_there D) return_rule_back, rules_back (encode D) 20 D.arguments few-arguments (arguments_there D) argument_rule_back)
+      let few_returns = leb→le (length D.returns) 4 (and_left (leb (length D.returns) 4) (held_tests D.returns) parts.2) in
+      let few_arguments = leb→le (length D.arguments) 4 (and_left (leb (length D.arguments) 4) (held_tests D.arguments) parts.3) in
+      simp (terms_back, others_back, rules_back (encode D) 8 D.returns few_returns (returns_there D) return_rule_back, rules_back (encode D) 20 D.arguments few_arguments (arguments_there D) argument_rule_back)

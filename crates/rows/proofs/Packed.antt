@@ -146,8 +146,8 @@ listed_packed (r ∷ rules) h =
 
 -- A rule that doesn't decide isn't the last of a list that ends.
 pub ends_later : (r : Rule) (rules : List Rule) → Ends (r ∷ rules) → (Decides r → ⊥) → Ends rules
-ends_later r [] ends open-still = absurd (open-still ends.last)
-ends_later r (s ∷ rules) ends open-still =
+ends_later r [] ends open_still = absurd (open_still ends.last)
+ends_later r (s ∷ rules) ends open_still =
     let one_less : length (r ∷ s ∷ rules) - 1 ≡ suc (length (s ∷ rules) - 1) = omega arith in
     record { some = (omega arith); last = rw one_less at ends.last }
 

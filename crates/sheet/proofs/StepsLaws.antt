@@ -112,9 +112,9 @@ module _ (b₀ : Between) (input out₀ : List ℕ) (s : State) (ps slots : List
       let ea = ends_at s (take record_size rest) ps slots out at answer ps' slots' out' y tests.1 in
       let put = put_it s (take record_size rest) ps slots out at answer ps' slots' out' y tests.1 in
       let er = drop-drop record_size used input in
-      let inside-was = l.inside in
-      let same-was = l.same in
-      let count-was = l.count in
+      let inside_was = l.inside in
+      let same_was = l.same in
+      let count_was = l.count in
       let more = taken_more b rest (length out₀) at fits roomy _ eb _ ea _ er in
       record {
         inside = omega arith;

@@ -130,12 +130,12 @@ module _ (B : Banks) (pointer : ReturnPointer) (returning : Bool) (left : Left) 
   unfolding travel_of
   travel_found e r er = rw (er, e)
 
-  module _ (cutOrOne : Wanted) (r : tries.Tried) (er : r ≡ in_slots B.shared returning left rule.short cutOrOne) where
-    pub travel_integers : rule.then ≡ AsIntegers → cutOrOne ≡ cut_slots size B.integer_width → r ≡ travel_of B pointer returning left rule size found
+  module _ (cut_or_one : Wanted) (r : tries.Tried) (er : r ≡ in_slots B.shared returning left rule.short cut_or_one) where
+    pub travel_integers : rule.then ≡ AsIntegers → cut_or_one ≡ cut_slots size B.integer_width → r ≡ travel_of B pointer returning left rule size found
     unfolding travel_of
     travel_integers e ec = rw (er, ec, e)
 
-    pub travel_one : rule.then ≡ AsOneInteger → cutOrOne ≡ one_slot integer size 0 → r ≡ travel_of B pointer returning left rule size found
+    pub travel_one : rule.then ≡ AsOneInteger → cut_or_one ≡ one_slot integer size 0 → r ≡ travel_of B pointer returning left rule size found
     unfolding travel_of
     travel_one e ec = rw (er, ec, e)
 

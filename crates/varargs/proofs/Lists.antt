@@ -131,15 +131,15 @@ module _ (save overflow : ℕ) (at : Offsets) (s : Scalar) (n : ℕ) (is : n ≡
   refused_scalar h = rw (← is, ne_eqb n accepted h)
 
   module _ (taken : n ≡ accepted) where
-    module _ (good : Bool) (is-good : good ≡ is_save_area save at) where
+    module _ (good : Bool) (is_good : good ≡ is_save_area save at) where
       pub refused_area : not good ≡ true → located_nowhere bad_area at ≡ located save overflow at s
       unfolding located
-      refused_area h = rw (← is, eq-eqb n accepted taken, ← is-good, h)
+      refused_area h = rw (← is, eq-eqb n accepted taken, ← is_good, h)
 
       module _ (h : not good ≡ false) where
         stands : standing overflow at s ≡ located save overflow at s
         unfolding located
-        stands = rw (← is, eq-eqb n accepted taken, ← is-good, h)
+        stands = rw (← is, eq-eqb n accepted taken, ← is_good, h)
 
         pub stands_integer : s.kind ≡ integer → in_integers overflow at s ≡ located save overflow at s
         unfolding standing

@@ -14,19 +14,19 @@ use Rattle.eightbytes.proofs.Found.{found_by, classes_by, nothing_by, over_limit
 use native.Mathlib.Omega.{arith}
 use Rattle.eightbytes.proofs.eightbytes.Goals as goal
 
-the_returns : goal.returns-then-size-least
-the_returns c =
+pub returns-then-size-least : goal.returns-then-size-least
+returns-then-size-least c =
     let a = c.args in
     let e : classified a.limit a.shape (pieces_of a.words.now) ≡ none = search (over_limit) in
     (found_by _ _ _ _ e _ (nothing_by _ _ c.nothing.ensures.0), classes_by _ _ _ _ e _ c.nothing.ensures.1)
 
-loop-holds : goal.loop-at-init
-loop-holds c =
+pub loop-at-init : goal.loop-at-init
+loop-at-init c =
     let k : c.parts-n.result ≤ 8 = omega (arith, length_cut c.args.shape.size 8) in
     (omega arith, coded_zeros 8, refl, behind_start c.parts-n.result k, marked_start c.parts-n.result _ k)
 
-returns-2 : goal.returns-then-not-fits
-returns-2 c =
+pub returns-then-not-fits : goal.returns-then-not-fits
+returns-then-not-fits c =
     let a = c.args in
     let n = c.parts-n.result in
     let en : n ≡ eightbytes_in a.shape.size = omega (arith, length_cut a.shape.size 8) in
@@ -35,8 +35,8 @@ returns-2 c =
     let e : classified a.limit a.shape (pieces_of a.words.now) ≡ none = search (unfit) in
     (found_by _ _ _ _ e _ (nothing_by _ _ c.nothing-then-not-fits.ensures.0), classes_by _ _ _ _ e _ c.nothing-then-not-fits.ensures.1)
 
-mark_requires : goal.mark-next-requires
-mark_requires c =
+pub mark-next-requires : goal.mark-next-requires
+mark-next-requires c =
     let s = c.args.shape.size in
     let n = c.parts-n.result in
     let en : n ≡ eightbytes_in s = omega (arith, length_cut s 8) in
@@ -44,8 +44,8 @@ mark_requires c =
     let i : last_of c.piece_at-p.result < n = search (inside) in
     (c.loop-at.invariant.1, omega arith)
 
-loop-again : goal.loop-at-preserved
-loop-again c =
+pub loop-at-preserved : goal.loop-at-preserved
+loop-at-preserved c =
     let l = c.loop-at in
     let s = c.args.shape.size in
     let n = c.parts-n.result in
@@ -60,40 +60,19 @@ loop-again c =
       marked_turn _ _ _ n l.classes l.invariant.4 l.invariant.0 (omega arith) k _ c.piece_at-p.ensures _ c.fits.ensures c.if-not-fits.false-raw _ c.mark-next.ensures,
     )
 
-settle_requires : goal.settle-requires
-settle_requires c =
+pub settle-requires : goal.settle-requires
+settle-requires c =
     let s = c.args.shape.size in
     let en : c.parts-n.result ≡ eightbytes_in s = omega (arith, length_cut s 8) in
     (c.loop-at.invariant.1, omega arith, c.loop-at.invariant.3, en)
 
-returns-3 : goal.returns
-returns-3 c =
+pub returns : goal.returns
+returns c =
     let a = c.args in
     let en : c.parts-n.result ≡ eightbytes_in a.shape.size = omega (arith, length_cut a.shape.size 8) in
     let m : classes_after (replicate c.parts-n.result None) (pieces_of a.words.now) ≡ some (take c.parts-n.result (map class_of c.loop-at.classes)) = search (marked_end) in
     let e : classified a.limit a.shape (pieces_of a.words.now) ≡ settled (take c.parts-n.result (map class_of c.loop-at.classes)) = search (fit) in
     (found_by _ _ _ _ e _ c.settle.ensures.0, classes_by _ _ _ _ e _ c.settle.ensures.1)
 
-pub returns-then-size-least : goal.returns-then-size-least
-returns-then-size-least = the_returns
-
-pub loop-at-init : goal.loop-at-init
-loop-at-init = loop-holds
-
-pub returns-then-not-fits : goal.returns-then-not-fits
-returns-then-not-fits = returns-2
-
-pub mark-next-requires : goal.mark-next-requires
-mark-next-requires = mark_requires
-
 pub loop-at-smaller : goal.loop-at-smaller
 loop-at-smaller c = omega arith
-
-pub loop-at-preserved : goal.loop-at-preserved
-loop-at-preserved = loop-again
-
-pub settle-requires : goal.settle-requires
-settle-requires = settle_requires
-
-pub returns : goal.returns
-returns = returns-3

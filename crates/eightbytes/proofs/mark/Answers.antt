@@ -7,20 +7,20 @@ use Rattle.eightbytes.proofs.Marks.{mark_start, cover_end, cover_one, cover_less
 use native.Mathlib.Omega.{arith}
 use Rattle.eightbytes.proofs.mark.Goals as goal
 
-the_returns : goal.returns-then-at-last
-the_returns c =
+pub returns-then-at-last : goal.returns-then-at-last
+returns-then-at-last c =
     let a = c.args in
     cover_one a.classes _ _ _ _ c.requires.0 c.if-at-last.true c.joined.ensures
     ∙ ap (map code) (mark_start a.classes a.p _ _ c.end.ensures c.class_of-class.ensures)
 
-loop-again : goal.loop-at-preserved
-loop-again c =
+pub loop-at-preserved : goal.loop-at-preserved
+loop-at-preserved c =
     let l = c.loop-at in
     let e = kept_is _ _ c.later-class.ensures l.invariant.1 in
     (coded_set l.cs _ _ l.invariant.0 (coded_lt _ c.joined-in-loop-at.ensures), coded_lt _ e, cover_turn _ l.cs _ _ _ l.invariant.2 _ _ c.loop-at-test.true c.joined-in-loop-at.ensures e)
 
-returns-2 : goal.returns
-returns-2 c =
+pub returns : goal.returns
+returns c =
     let l = c.loop-at in
     let a = c.args in
     cover_end _ l.cs _ l.class _ l.invariant.2 l.invariant.0 (omega arith)
@@ -34,9 +34,6 @@ joined-requires c = (c.requires.0 _, coded_lt _ c.class_of-class.ensures)
 
 pub bounds-cs-at-then-at-last : goal.bounds-cs-at-then-at-last
 bounds-cs-at-then-at-last c = omega arith
-
-pub returns-then-at-last : goal.returns-then-at-last
-returns-then-at-last = the_returns
 
 pub loop-at-init : goal.loop-at-init
 loop-at-init c = (c.requires.0, coded_lt _ c.class_of-class.ensures, refl)
@@ -55,9 +52,3 @@ overflow_add-at c = omega arith
 
 pub loop-at-smaller : goal.loop-at-smaller
 loop-at-smaller c = cover_less _ _ c.loop-at-test.true
-
-pub loop-at-preserved : goal.loop-at-preserved
-loop-at-preserved = loop-again
-
-pub returns : goal.returns
-returns = returns-2

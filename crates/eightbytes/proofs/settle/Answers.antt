@@ -4,8 +4,8 @@ use native.Mathlib.Omega.{arith}
 use Rattle.eightbytes.proofs.Pair.{pair_found, pair_classes}
 use Rattle.eightbytes.proofs.settle.Goals as goal
 
-returns-4 : goal.returns
-returns-4 c =
+pub returns : goal.returns
+returns c =
     let a = c.args in
     let p = c.requires in
     let two : a.n ≤ 2 = omega arith in (
@@ -30,6 +30,3 @@ returns-then-second-ge-SSE_UP c = (c.settle_all-then-second-ge-SSE_UP.ensures.0 
 
 pub overflow_add-floats : goal.overflow_add-floats
 overflow_add-floats c = omega arith
-
-pub returns : goal.returns
-returns = returns-4

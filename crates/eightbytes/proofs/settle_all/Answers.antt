@@ -10,20 +10,20 @@ use Rattle.eightbytes.proofs.Counts.{spoil_stop, spoil_step, mend_turn, count_tu
 use native.Mathlib.Omega.{arith}
 use Rattle.eightbytes.proofs.settle_all.Goals as goal
 
-loop-holds : goal.loop-i-init
+pub loop-i-init : goal.loop-i-init
 unfolding class_of
-loop-holds c =
+loop-i-init c =
     (omega arith, omega arith, omega arith, omega arith, c.requires.0, omega arith, refl, refl, refl, sym (zero-add _), sym (zero-add _))
 
-the_returns : goal.returns-then-class-ge-X87
-the_returns c =
+pub returns-then-class-ge-X87 : goal.returns-then-class-ge-X87
+returns-then-class-ge-X87 c =
     let l = c.loop-i in
     let a = c.args in
     let s = spoil_stop l.cs a.n l.i l.below (omega arith) (omega arith) _ (kept_is _ _ c.mended-class.ensures (l.invariant.4 _)) _ l.invariant.7 (omega arith) in
     (stop_found a.n a.classes _ s c.nothing.ensures.0, stop_classes a.n a.classes _ s c.nothing.ensures.1)
 
-loop-again : goal.loop-i-preserved
-loop-again c =
+pub loop-i-preserved : goal.loop-i-preserved
+loop-i-preserved c =
     let l = c.loop-i in
     let n = c.args.n in
     let e = kept_is _ _ c.mended-class.ensures (l.invariant.4 _) in
@@ -42,8 +42,8 @@ loop-again c =
       float_turn l.cs n _ l.below h k _ e _ _ _ l.invariant.10 c.one_if-floats.ensures.0,
     )
 
-returns-2 : goal.returns
-returns-2 c =
+pub returns : goal.returns
+returns c =
     let l = c.loop-i in
     let a = c.args in
     let p = c.requires in (
@@ -51,14 +51,8 @@ returns-2 c =
       end_classes a.n a.classes l.cs l.i l.below (omega arith) l.invariant.7 (omega arith) p.1 (omega arith) l.invariant.4 l.invariant.6 p.2 l.invariant.8,
     )
 
-pub loop-i-init : goal.loop-i-init
-loop-i-init = loop-holds
-
 pub bounds-cs-i : goal.bounds-cs-i
 bounds-cs-i c = omega arith
-
-pub returns-then-class-ge-X87 : goal.returns-then-class-ge-X87
-returns-then-class-ge-X87 = the_returns
 
 pub bounds-cs-i-in-loop-i : goal.bounds-cs-i-in-loop-i
 bounds-cs-i-in-loop-i c = omega arith
@@ -74,9 +68,3 @@ overflow_add-i c = omega arith
 
 pub loop-i-smaller : goal.loop-i-smaller
 loop-i-smaller c = omega arith
-
-pub loop-i-preserved : goal.loop-i-preserved
-loop-i-preserved = loop-again
-
-pub returns : goal.returns
-returns = returns-2

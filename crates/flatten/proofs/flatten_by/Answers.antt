@@ -3,8 +3,8 @@ use Rattle.flatten.proofs.Answering.{types_refused, types_left, some_entry, many
 use Rattle.flatten.proofs.flatten_by.Goals as goal
 
 -- more is known here than `search` looks at
-returns-5 : goal.returns
-returns-5 c =
+pub returns : goal.returns
+returns c =
     let pre = c.requires in (
       made_answered _ _ _ _ pre _ c.measure-refusal.ensures.0 c.if-refusal-ne-ACCEPTED.false _ c.measure-refusal.ensures.1 _ c.row_at-row.ensures c.if-row.false c.if-row-out.false _ c.made-2.ensures,
       all_written _ _ _ _ pre _ c.measure-refusal.ensures.0 c.if-refusal-ne-ACCEPTED.false _ c.measure-refusal.ensures.1 _ c.row_at-row.ensures c.if-row.false c.if-row-out.false _ c.write_type.ensures.1,
@@ -24,6 +24,3 @@ returns-then-row-out c = (search (short_refused), search (short_left))
 
 pub returns-then-row-eq0 : goal.returns-then-row-eq0
 returns-then-row-eq0 c = (search (made_answered), search (none_written))
-
-pub returns : goal.returns
-returns = returns-5

@@ -11,8 +11,8 @@ use Rattle.layouts.proofs.Members.{pieces_refused, pieces_same, pieces_short, pi
 use native.Mathlib.Omega.{arith}
 use Rattle.layouts.proofs.pieces.Goals as goal
 
-loop-holds : goal.loop-at-init
-loop-holds c = (
+pub loop-at-init : goal.loop-at-init
+loop-at-init c = (
   omega arith,
   search (pieces_few),
   refl,
@@ -29,8 +29,8 @@ module _ (words at end r : ℕ) (inside : at ≤ words) (few : words / 3 ≤ mos
       let w = round_within end s.align r e (omega (arith, f.align≤)) in
       (w, omega (arith, f.size≤, f.align≤, w, round_bound end (max s.align 1) (omega arith)))
 
-loop-again : goal.loop-at-preserved
-loop-again c =
+pub loop-at-preserved : goal.loop-at-preserved
+loop-at-preserved c =
     let i = c.loop-at.invariant in
     let t = c.loop-at-test.true in
     let b = bounded (length c.args.members.now) c.loop-at.at c.loop-at.end c.round_up-offset.result i.0 i.1 i.3 _ (here_fits _ _ i.0 i.4 t _ c.scalar_at-s.ensures) c.round_up-offset.ensures in (
@@ -43,8 +43,8 @@ loop-again c =
       next_words _ _ i.0 i.4 t _ c.scalar_at-s.ensures _ _ _ _ i.6 i.5 _ b.0 _ c.put_piece.ensures.1,
     )
 
-returns-3 : goal.returns
-returns-3 c =
+pub returns : goal.returns
+returns c =
     let i = c.loop-at.invariant in
     (search (pieces_count), pieces_end _ _ _ _ _ _ i.0 c.loop-at-test.false i.6 (omega arith))
 
@@ -54,20 +54,11 @@ returns-then-refusal-ne-ACCEPTED c = (search (pieces_refused), search (pieces_sa
 pub returns-then-members-out : goal.returns-then-members-out
 returns-then-members-out c = (search (pieces_short), search (pieces_kept))
 
-pub loop-at-init : goal.loop-at-init
-loop-at-init = loop-holds
-
 pub overflow_add-end : goal.overflow_add-end
 overflow_add-end c =
     let i = c.loop-at.invariant in
     let b = bounded (length c.args.members.now) c.loop-at.at c.loop-at.end c.round_up-offset.result i.0 i.1 i.3 _ (here_fits _ _ i.0 i.4 c.loop-at-test.true _ c.scalar_at-s.ensures) c.round_up-offset.ensures in
     omega (arith, b.1)
 
-pub loop-at-preserved : goal.loop-at-preserved
-loop-at-preserved = loop-again
-
 pub shape_of-out : goal.shape_of-out
 shape_of-out c = omega arith
-
-pub returns : goal.returns
-returns = returns-3

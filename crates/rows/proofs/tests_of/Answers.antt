@@ -2,9 +2,6 @@
 use Rattle.rows.proofs.Packed.{tests_read}
 use Rattle.rows.proofs.tests_of.Goals as goal
 
-the_returns : goal.returns
-the_returns c =
-    tests_read _ _ c.test_at-a.ensures.0 c.test_at-b.ensures.0 c.test_at-c.ensures.0 c.test_at-d.ensures.0
-
 pub returns : goal.returns
-returns = the_returns
+returns c =
+    tests_read _ _ c.test_at-a.ensures.0 c.test_at-b.ensures.0 c.test_at-c.ensures.0 c.test_at-d.ensures.0

@@ -3,8 +3,8 @@ use Rattle.sheet.proofs.StepLaws.{step_roomless, step_more, step_stop, step_read
 use Rattle.sheet.proofs.take_record.Goals as goal
 
 -- behind three calls a search for what this law asks runs out of steps
-returns-4 : goal.returns-in-Ready
-returns-4 c =
+pub returns-in-Ready : goal.returns-in-Ready
+returns-in-Ready c =
     step_ready _ _ _ _ _ _ _ c.has_room.ensures c.if-not-has_room.false-raw _ c.read-reading.ensures.0 _ c.read-reading.ensures.1 _ c.in-Ready.is _ _ _ c.carry_out.ensures
 
 pub returns-then-not-has_room : goal.returns-then-not-has_room
@@ -21,6 +21,3 @@ returns-in-More c = search (step_more)
 
 pub returns-in-Stop : goal.returns-in-Stop
 returns-in-Stop c = search (step_stop)
-
-pub returns-in-Ready : goal.returns-in-Ready
-returns-in-Ready = returns-4

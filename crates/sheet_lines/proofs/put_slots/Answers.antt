@@ -3,8 +3,8 @@ use Rattle.sheet_lines.proofs.PrintingLaws.{goes_first, goes_next, goes_last}
 use native.Mathlib.Omega.{arith}
 use Rattle.sheet_lines.proofs.put_slots.Goals as goal
 
-loop-again : goal.loop-i-preserved
-loop-again c =
+pub loop-i-preserved : goal.loop-i-preserved
+loop-i-preserved c =
     let loop = c.loop-i in (
       omega arith,
       omega arith,
@@ -17,9 +17,6 @@ loop-i-init c = (omega arith, refl, omega arith, goes_first _ _ _)
 
 pub put_part-to-requires : goal.put_part-to-requires
 put_part-to-requires c = omega arith
-
-pub loop-i-preserved : goal.loop-i-preserved
-loop-i-preserved = loop-again
 
 pub shape_of-out : goal.shape_of-out
 shape_of-out c = omega arith

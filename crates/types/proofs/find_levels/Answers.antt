@@ -5,8 +5,8 @@ use native.Mathlib.Omega.{arith}
 use Rattle.types.proofs.Levels.{levels_late, levels_next, levels_more, levels_end, levels_all, levels_unclaimed, levels_none}
 use Rattle.types.proofs.find_levels.Goals as goal
 
-loop-again : goal.loop-e-preserved
-loop-again c =
+pub loop-e-preserved : goal.loop-e-preserved
+loop-e-preserved c =
     let i = c.loop-e.invariant in (
       omega arith,
       simp length-set (omega arith),
@@ -22,9 +22,6 @@ shape_of-levels-then-level-eq0 c = omega arith
 
 pub returns-then-level-eq0 : goal.returns-then-level-eq0
 returns-then-level-eq0 c = (search (levels_late), levels_unclaimed _ _ _ _)
-
-pub loop-e-preserved : goal.loop-e-preserved
-loop-e-preserved = loop-again
 
 pub shape_of-levels : goal.shape_of-levels
 shape_of-levels c = omega arith

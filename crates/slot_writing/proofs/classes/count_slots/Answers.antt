@@ -4,8 +4,8 @@ use Rattle.slot_writing.proofs.Put.{count_end, count_turn}
 use native.Mathlib.Omega.{arith}
 use Rattle.slot_writing.proofs.classes.count_slots.Goals as goal
 
-loop-again : goal.loop-i-preserved
-loop-again c =
+pub loop-i-preserved : goal.loop-i-preserved
+loop-i-preserved c =
     let a = c.args in
     let l = c.loop-i in
     (omega arith, omega arith, count_turn a.classes a.n l.i _ l.count _ l.invariant.2 (omega arith) (omega arith) c.one_if.ensures.0)
@@ -24,9 +24,6 @@ overflow_add-i c = omega arith
 
 pub loop-i-smaller : goal.loop-i-smaller
 loop-i-smaller c = omega arith
-
-pub loop-i-preserved : goal.loop-i-preserved
-loop-i-preserved = loop-again
 
 pub returns : goal.returns
 returns c = search (count_end)

@@ -3,19 +3,19 @@ use Rattle.slot_writing.proofs.Put.{put_short, put_start, room_start, room_turn,
 use native.Mathlib.Omega.{arith}
 use Rattle.slot_writing.proofs.classes.put_eightbytes.Goals as goal
 
-returns-2 : goal.returns-then-room-count_slots
-returns-2 c =
+pub returns-then-room-count_slots : goal.returns-then-room-count_slots
+returns-then-room-count_slots c =
     let a = c.args in
     put_short a.size _ _ _ a.classes _ c.eightbytes_in-n.ensures (omega arith) c.count_slots.ensures c.room.ensures (omega arith)
 
-loop-holds : goal.loop-i-init
-loop-holds c =
+pub loop-i-init : goal.loop-i-init
+loop-i-init c =
     let a = c.args in
     let n = c.eightbytes_in-n in
     (omega arith, refl, omega (arith, room_start a.size n.result a.classes _ _ a.out.now c.count_slots.ensures c.room.ensures (omega arith)), put_start a.size _ a.classes _ n.ensures (omega arith))
 
-loop-again : goal.loop-i-preserved
-loop-again c =
+pub loop-i-preserved : goal.loop-i-preserved
+loop-i-preserved c =
     let a = c.args in
     let n = c.eightbytes_in-n in
     let l = c.loop-i in
@@ -27,8 +27,8 @@ loop-again c =
       put_turn a.size n.result a.classes l.i (omega arith) (omega arith) _ u l.out l.at l.invariant.2 _ p.ensures.0 _ _ l.invariant.3 p.ensures.1,
     )
 
-returns-3 : goal.returns
-returns-3 c =
+pub returns : goal.returns
+returns c =
     let a = c.args in
     let l = c.loop-i in
     put_end a.size c.eightbytes_in-n.result a.classes l.i l.at _ _ (omega arith) l.invariant.2 l.invariant.3
@@ -44,12 +44,6 @@ returns-then-size-le-PAIR c = c.put_pair.ensures
 
 pub count_slots-requires : goal.count_slots-requires
 count_slots-requires c = omega arith
-
-pub returns-then-room-count_slots : goal.returns-then-room-count_slots
-returns-then-room-count_slots = returns-2
-
-pub loop-i-init : goal.loop-i-init
-loop-i-init = loop-holds
 
 pub overflow_mul-offset : goal.overflow_mul-offset
 overflow_mul-offset c = omega arith
@@ -75,11 +69,5 @@ overflow_add-i-in-loop-i c = omega arith
 pub loop-i-smaller : goal.loop-i-smaller
 loop-i-smaller c = omega arith
 
-pub loop-i-preserved : goal.loop-i-preserved
-loop-i-preserved = loop-again
-
 pub shape_of-out : goal.shape_of-out
 shape_of-out c = omega arith
-
-pub returns : goal.returns
-returns = returns-3

@@ -3,23 +3,23 @@ use native.Mathlib.Omega.{arith}
 use Rattle.slot_writing.proofs.Pair.{put_empty, put_one, put_neither, put_behind, put_both}
 use Rattle.slot_writing.proofs.classes.put_pair.Goals as goal
 
-returns-2 : goal.returns-then-size-le-EIGHTBYTE
-returns-2 c =
+pub returns-then-size-le-EIGHTBYTE : goal.returns-then-size-le-EIGHTBYTE
+returns-then-size-le-EIGHTBYTE c =
     let a = c.args in
     put_one a.size a.classes _ _ (omega arith) c.if-size-eq0.false (omega arith) c.put_eightbyte.ensures.1
 
-returns-3 : goal.returns-then-not-has_room
-returns-3 c =
+pub returns-then-not-has_room : goal.returns-then-not-has_room
+returns-then-not-has_room c =
     let a = c.args in
     put_neither a.size a.classes _ (omega arith) (omega arith) (omega arith) _ c.room.ensures _ c.has_room.ensures c.if-not-has_room.true-raw
 
-put_eightbyte_requires_3 : goal.put_eightbyte-requires-2
-put_eightbyte_requires_3 c =
+pub put_eightbyte-requires-2 : goal.put_eightbyte-requires-2
+put_eightbyte-requires-2 c =
     let a = c.args in
     put_behind a.size a.classes _ (omega arith) (omega arith) (omega arith) _ c.room.ensures _ c.has_room.ensures c.if-not-has_room.false-raw _ _ c.put_eightbyte-next.ensures.0 c.put_eightbyte-next.ensures.1 _ (omega arith)
 
-returns-4 : goal.returns
-returns-4 c =
+pub returns : goal.returns
+returns c =
     let a = c.args in
     let p = c.put_eightbyte-next in
     put_both a.size a.classes _ (omega arith) (omega arith) (omega arith) _ c.room.ensures _ c.has_room.ensures c.if-not-has_room.false-raw _ _ p.ensures.0 p.ensures.1 _ c.put_eightbyte-2.ensures.1
@@ -36,14 +36,8 @@ put_eightbyte-requires c = omega arith
 pub shape_of-out-then-size-le-EIGHTBYTE : goal.shape_of-out-then-size-le-EIGHTBYTE
 shape_of-out-then-size-le-EIGHTBYTE c = omega arith
 
-pub returns-then-size-le-EIGHTBYTE : goal.returns-then-size-le-EIGHTBYTE
-returns-then-size-le-EIGHTBYTE = returns-2
-
 pub has_room-requires : goal.has_room-requires
 has_room-requires c = omega arith
-
-pub returns-then-not-has_room : goal.returns-then-not-has_room
-returns-then-not-has_room = returns-3
 
 pub bounds-classes-1 : goal.bounds-classes-1
 bounds-classes-1 c = omega arith
@@ -60,11 +54,5 @@ bounds-classes-1-2 c = omega arith
 pub overflow_sub-size : goal.overflow_sub-size
 overflow_sub-size c = omega arith
 
-pub put_eightbyte-requires-2 : goal.put_eightbyte-requires-2
-put_eightbyte-requires-2 = put_eightbyte_requires_3
-
 pub shape_of-out : goal.shape_of-out
 shape_of-out c = omega arith
-
-pub returns : goal.returns
-returns = returns-4

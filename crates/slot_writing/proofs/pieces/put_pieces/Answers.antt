@@ -3,8 +3,8 @@ use Rattle.slot_writing.proofs.EachPiece.{each_short, each_room, each_start, eac
 use native.Mathlib.Omega.{arith}
 use Rattle.slot_writing.proofs.pieces.put_pieces.Goals as goal
 
-loop-again : goal.loop-at-preserved
-loop-again c =
+pub loop-at-preserved : goal.loop-at-preserved
+loop-at-preserved c =
     let l = c.loop-at.invariant in (
       omega arith,
       omega arith,
@@ -17,9 +17,6 @@ returns-then-words-room c = search (each_short)
 
 pub loop-at-init : goal.loop-at-init
 loop-at-init c = (omega arith, refl, search (each_room), each_start _ _)
-
-pub loop-at-preserved : goal.loop-at-preserved
-loop-at-preserved = loop-again
 
 pub shape_of-out : goal.shape_of-out
 shape_of-out c = omega arith
