@@ -3,6 +3,7 @@
 use Rattle.std.specs.Prelude.{ℕ, ◌+◌, List, [], ◌∷◌, ◌++◌, Bool, true, false, leb, length, take, drop}
 use Rattle.shape.specs.declared.Piece.{Piece}
 use Rattle.shape.specs.declared.Scalar.{Scalar}
+use Rattle.shape.specs.declared.Pieces.{Pieces}
 
 -- words of a piece and of a scalar
 abbrev pub piece_size : ℕ
@@ -20,6 +21,10 @@ pieces_of (k ∷ []) = []
 pieces_of (k ∷ s ∷ []) = []
 pieces_of (k ∷ s ∷ a ∷ []) = []
 pieces_of (k ∷ s ∷ a ∷ o ∷ ws) = piece k s a o ∷ pieces_of ws
+
+-- the pieces that an iterator has still to give
+abbrev pub pieces_left : Pieces → List Piece
+pieces_left ps = pieces_of ps.words.now
 
 -- the first of some pieces, all zeros where there is none
 unfoldable pub first_piece : List Piece → Piece

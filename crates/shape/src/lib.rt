@@ -5,8 +5,14 @@
 ghost use Rattle.std.specs.Prelude.{◌≡◌, ◌-◌, ◌<◌, ◌≤◌, min, max, ◌+◌, leb, length};
 ghost use Rattle.shape.specs.Numbers.{one_if};
 ghost use Rattle.shape.specs.Arithmetic.{plus, times, rounded};
-ghost use Rattle.shape.specs.Words.{pieces_of, piece_at, scalar_at, put_at, piece_size, piece_words};
+ghost use Rattle.shape.specs.Words.{pieces_of, pieces_left, piece_at, scalar_at, put_at, piece_size, piece_words};
 ghost use Rattle.shape.specs.Questions.{integer_of, float_of, is_float, end_of, is_all_of};
+ghost use Rattle.shape.specs.Refusals.{number_of};
+ghost use Rattle.std.specs.Iterator.{YieldsFirst, item_count};
+
+mod refusals;
+
+pub use refusals::Refusal;
 
 // Kinds: an integer, or a float in one of four formats.
 pub const INTEGER: u64 = 0;
@@ -155,6 +161,40 @@ pub fn is_all_of(words: &[u64], kind: u64) -> bool
         at += PIECE;
     }
     true
+}
+
+// The pieces of some words, from the first; words behind the last whole piece are none.
+#[derive(Drop)]
+pub struct Pieces<'a> {
+    words: &'a [u64],
+}
+
+pub fn each_piece(words: &[u64]) -> Pieces<'_>
+    ensures { pieces_left result ≡ pieces_of words.now }
+{
+    Pieces { words }
+}
+
+impl<'a> Iterator for Pieces<'a> {
+    type Item = Piece;
+
+    ghost next_gives = { YieldsFirst pieces_left };
+
+    ghost remaining = { item_count pieces_left };
+
+    fn next(&mut self) -> Option<Piece> {
+        let Some((first, others)) = self.words.split_first_chunk::<PIECE>() else {
+            return None;
+        };
+        let [kind, size, align, offset] = *first;
+        self.words = others;
+        Some(Piece {
+            kind,
+            size,
+            align,
+            offset,
+        })
+    }
 }
 
 // The piece that starts at a place of the words: all zeros where no whole piece is left there.
