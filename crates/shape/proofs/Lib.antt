@@ -6,5 +6,6 @@ pub mod Put
 pub mod Stored
 pub mod Rounding
 pub mod Questions
+pub mod Refused
 pub mod OneAnswer
 mod Unique
