@@ -1,24 +1,31 @@
 -- The laws of the questions about pieces.
-use Prim.Native.Nat.{ℕ, ◌≤◌, ◌<◌}
-use mathlib.Core.Path.{◌≡◌, refl}
-use mathlib.Core.List.{List}
+use Prim.Native.Nat.{ℕ}
+use mathlib.Core.Path.{◌≡◌, refl, ◌∙◌}
+use mathlib.Core.List.{List, [], ◌∷◌}
 use mathlib.Core.Bool.{true, false, ◌&&◌}
 use native.Mathlib.Omega.{arith}
-use lib.Dec.{eqb}
+use lib.Dec.{eqb, leb}
+use Rattle.std.proofs.lemmas.Bool.{le-leb}
 use lib.ListN.{length}
+use Rattle.shape.specs.declared.Piece.{Piece}
 use Rattle.shape.specs.Words.{pieces_of}
 use Rattle.shape.specs.Questions.{all_of, is_all_of}
-use Rattle.shape.proofs.Words.{pieces_step, pieces_end, ByFirst}
+use Rattle.shape.proofs.Words.{ByFirst}
 
--- no piece is not all of a kind; where there is one, the loop starts with all of them
-module _ (kind : ℕ) (ws : List ℕ) where
-  pub all_none : length ws < 4 → false ≡ is_all_of kind (pieces_of ws)
-  unfolding is_all_of
-  all_none h = rw (pieces_end ws 0 (omega arith))
+-- there is a piece where there are words for one
+pub all_where_any : (kind : ℕ) (ws : List ℕ) → true ≡ all_of kind (pieces_of ws) → leb 4 (length ws) ≡ is_all_of kind (pieces_of ws)
+unfolding pieces_of is_all_of
+all_where_any kind [] t = refl
+all_where_any kind (k ∷ []) t = refl
+all_where_any kind (k ∷ s ∷ []) t = refl
+all_where_any kind (k ∷ s ∷ a ∷ []) t = refl
+all_where_any kind (k ∷ s ∷ a ∷ o ∷ ws) t = le-leb 4 (length (k ∷ s ∷ a ∷ o ∷ ws)) (omega arith) ∙ t
 
-  pub all_start : 4 ≤ length ws → is_all_of kind (pieces_of ws) ≡ all_of kind (pieces_of ws)
-  unfolding is_all_of
-  all_start h = rw (pieces_step ws 0 (omega arith))
+-- one piece of another kind, and not all are of this one
+pub not_all_none : (kind : ℕ) (ps : List Piece) → false ≡ all_of kind ps → false ≡ is_all_of kind ps
+unfolding is_all_of
+not_all_none kind [] t = refl
+not_all_none kind (p ∷ ps) t = t
 
 -- all of a kind, by the first piece and the rest
 pub kind_by_first : (kind : ℕ) → ByFirst (all_of kind) (λ p. eqb p.kind kind) ◌&&◌ true

@@ -148,19 +148,12 @@ pub enum Arg {
 pub fn is_all_of(words: &[u64], kind: u64) -> bool
     ensures { result ≡ is_all_of kind (pieces_of words.now) }
 {
-    if words.len() < PIECE {
-        return false;
-    }
-    let mut at = 0;
-    while words.len() - at >= PIECE {
-        let p = piece_at(words, at);
-        let same = p.kind == kind;
-        if !same {
+    for piece in each_piece(words) {
+        if piece.kind != kind {
             return false;
         }
-        at += PIECE;
     }
-    true
+    words.len() >= PIECE
 }
 
 // The pieces of some words, from the first; words behind the last whole piece are none.

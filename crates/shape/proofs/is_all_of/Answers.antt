@@ -1,19 +1,16 @@
-use Rattle.shape.proofs.Questions.{all_none, all_start, kind_by_first}
-use Rattle.shape.proofs.Words.{pieces, test_end, test_broken, test_next}
-use native.Mathlib.Omega.{arith}
+use Rattle.std.proofs.Common.{rules}
+use Rattle.shape.specs.Questions.{all_of}
+use Rattle.shape.proofs.Questions.{all_where_any, not_all_none}
 use Rattle.shape.proofs.is_all_of.Goals as goal
 
-pub returns-then-words-lt-PIECE : goal.returns-then-words-lt-PIECE
-returns-then-words-lt-PIECE c = search (all_none)
+pub returns-then-piece-kind : goal.returns-then-piece-kind
+unfolding all_of
+returns-then-piece-kind c = search (not_all_none, rules)
 
-pub loop-at-init : goal.loop-at-init
-loop-at-init c = (omega arith, search (all_start))
-
-pub returns-then-not-same : goal.returns-then-not-same
-returns-then-not-same c = search (test_broken pieces kind_by_first)
-
-pub loop-at-preserved : goal.loop-at-preserved
-loop-at-preserved c = (omega arith, search (test_next pieces kind_by_first))
+pub loop-piece-preserved : goal.loop-piece-preserved
+unfolding all_of
+loop-piece-preserved c = search (rules)
 
 pub returns : goal.returns
-returns c = search (test_end pieces kind_by_first)
+unfolding all_of
+returns c = search (all_where_any, rules)
