@@ -11,6 +11,7 @@ use native.Mathlib.Omega.{arith}
 use borrow.Author.Tests.{leb-true}
 use lib.Dec.{eqb, leb, ltb}
 use lib.ListN.{length}
+use Rattle.std.specs.Prelude.{Some}
 use Rattle.shape.specs.declared.Arg as args
 use Rattle.shape.specs.declared.Piece.{Piece}
 use Rattle.shape.specs.declared.Scalar.{Scalar}
@@ -39,7 +40,6 @@ use Rattle.spend.specs.declared.Way.{Way}
 use Rattle.spend.specs.declared.Wanted.{Wanted}
 use Rattle.spend.specs.declared.Decision.{Decision}
 use Rattle.spend.specs.declared.Spent.{Spent}
-use Rattle.spend.specs.declared.Tried as tries
 use Rattle.spend.specs.Ways as made
 use Rattle.spend.specs.Ways.{no_mark, marked, with_mark, bank_after, left_after}
 use Rattle.spend.specs.Spending as rules
@@ -257,8 +257,8 @@ module _ (arg : args.Arg) (ps : List Piece) (left : Left) where
           (cond returning (some (passed (pieces ss) left)) (cond (x && y) (some (passed (pieces ss) (less_both i f left))) (rust.short_of short left ss i f)))
           rest)
           (spending.or_next
-          (cond returning (tries.TheVariants.Decided (made.in_pieces slots made.nothing))
-          (cond (x && y) (tries.TheVariants.Decided (made.in_pieces slots (made.spends 0 i 0 f))) (rules.when_short short left slots i f)))
+          (cond returning (Some (made.in_pieces slots made.nothing))
+          (cond (x && y) (Some (made.in_pieces slots (made.spends 0 i 0 f))) (rules.when_short short left slots i f)))
           when next)
       where_fits short true i f x y ex ey = in_pieces when ss slots _ _ 0 0 es en (omega arith)
       where_fits short false i f true true ex ey =

@@ -5,6 +5,7 @@ use mathlib.Core.Path.{◌≡◌, refl, sym, ap, ◌∙◌}
 use mathlib.Core.List.{List, [], ◌∷◌}
 use mathlib.Core.Bool.{Bool, true, false, ◌&&◌, not, cond}
 use lib.Dec.{ltb}
+use Rattle.std.specs.Prelude.{Option, Some, None}
 use Rattle.shape.specs.declared.Arg as args
 use Rattle.shape.specs.declared.Piece.{Piece}
 use Rattle.shape.specs.declared.Scalar.{Scalar}
@@ -20,7 +21,6 @@ use Rattle.describe.specs.Description.{Description, terms_of}
 use Rattle.describe.specs.Dots.{as_fixed, dots_of}
 use Rattle.spend.specs.declared.Left.{Left}
 use Rattle.spend.specs.declared.Wanted.{Wanted}
-use Rattle.spend.specs.declared.Tried as tries
 use Rattle.spend.specs.Ways.{marked, way_number, MemoryIsGivenNothing}
 use Rattle.spend.specs.Spending.{travel_of}
 use Rattle.spend.proofs.Given.{Ungiven, UngivenIf, another_way, either, travel_ungiven}
@@ -47,10 +47,10 @@ abbrev pub AnswerUngiven : Answer → Type 0
 AnswerUngiven a = MemoryIsGivenNothing a.outcome.way a.outcome.spent
 
 -- a rule that is skipped, one that decides, and one that goes on
-or_rest : (skipped : Bool) (t : tries.Tried) (test : Test) (rest : Chosen) → UngivenIf t → ChosenUngiven rest → ChosenUngiven (cond skipped rest (or_next t test rest))
+or_rest : (skipped : Bool) (t : Option Decision) (test : Test) (rest : Chosen) → UngivenIf t → ChosenUngiven rest → ChosenUngiven (cond skipped rest (or_next t test rest))
 or_rest true t test rest h later = later
-or_rest false (tries.TheVariants.Decided d) test rest h later = h
-or_rest false tries.TheVariants.TryNextRule test rest h later = later
+or_rest false (Some d) test rest h later = h
+or_rest false None test rest h later = later
 
 module _ (T : Terms) (returning : Bool) (left : Left) (shape : Shape) (ps : List Piece) where
   by_rule : (s : Search) (rule : Rule) (rest : Chosen) → ChosenUngiven rest → ChosenUngiven (decide_by s T returning left rule shape rest)

@@ -7,6 +7,7 @@ use mathlib.Core.Bool.{Bool, true, false, ◌&&◌, not}
 use native.Mathlib.Omega.{arith}
 use lib.Dec.{ltb}
 use lib.ListN.{length}
+use Rattle.std.specs.Prelude.{Option, Some, None}
 use Rattle.shape.specs.declared.Shape.{Shape}
 use Rattle.shape.specs.declared.Piece.{Piece}
 use Rattle.slots.specs.declared.Slot.{Slot}
@@ -21,7 +22,6 @@ use Rattle.rows.specs.Row.{first_rule, later_rules, listed}
 use Rattle.rows.proofs.Packed.{later_less, listed_none, listed_next, ends_later}
 use Rattle.spend.specs.declared.Left.{Left}
 use Rattle.spend.specs.declared.Decision.{Decision}
-use Rattle.spend.specs.declared.Tried as tries
 use Rattle.spend.specs.Ways.{marked}
 use Rattle.spend.specs.Spending.{travel_of}
 use Rattle.find.specs.declared.Matched.{Matched}
@@ -71,13 +71,13 @@ module _ (T : Terms) (returning : Bool) (left : Left) (shape : Shape) (ps : List
     step_skipped h = rw (e, h)
 
     module _ (h : skipped left returning (floats_in ss) ≡ false) where
-      step_short : travel_of T.banks T.return_pointer returning left rule shape.size (wanted_by rule.when shape.size ss) ≡ tries.TheVariants.TryNextRule
+      step_short : travel_of T.banks T.return_pointer returning left rule shape.size (wanted_by rule.when shape.size ss) ≡ None
           → walked T returning left (rule ∷ rest) shape ps ≡ walked T returning left rest shape ps
       unfolding walked by_rules
       step_short t = rw (e, h, t)
 
       step_decided : (d : Decision)
-          → travel_of T.banks T.return_pointer returning left rule shape.size (wanted_by rule.when shape.size ss) ≡ tries.TheVariants.Decided d
+          → travel_of T.banks T.return_pointer returning left rule shape.size (wanted_by rule.when shape.size ss) ≡ Some d
           → walked T returning left (rule ∷ rest) shape ps ≡ decided d (classes_by rule.when shape ps)
       unfolding walked by_rules
       step_decided d t = rw (e, h, t)
@@ -156,7 +156,7 @@ module _ (T : Terms) (list : Rules) (returning : Bool) (left : Left) (shape : Sh
           let t : skipped left returning (floats_in []) ≡ true = rw q at skip in no_float (marked left && not returning) t)
           (step_skipped T returning left shape ps rule _ some.ss some.is skip)
 
-    module _ (h : skipped left returning m ≡ false) (first : Rule) (ef : first ≡ first_rule R) (t : tries.Tried)
+    module _ (h : skipped left returning m ≡ false) (first : Rule) (ef : first ≡ first_rule R) (t : Option Decision)
         (et : t ≡ travel_of T.banks T.return_pointer returning left first shape.size (record { count = n; floats = m; source = s.source })) where
       kept : skipped left returning (floats_in some.ss) ≡ false
       kept = rw (← some.floats) h
@@ -169,12 +169,12 @@ module _ (T : Terms) (list : Rules) (returning : Bool) (left : Left) (shape : Sh
           let el : first ≡ rule = ef in
           cc
 
-      pub short_next : t ≡ tries.TheVariants.TryNextRule → Remaining T list returning left shape ps R'
+      pub short_next : t ≡ None → Remaining T list returning left shape ps R'
       short_next x =
           goes_on (λ (d : Decides rule). decides_step _ _ _ _ _ _ _ d (sym travelled ∙ x))
           (step_short T returning left shape ps rule _ some.ss some.is kept (sym travelled ∙ x))
 
-      pub decided_here : (d : Decision) → t ≡ tries.TheVariants.Decided d → decided d s.classes ≡ walked T returning left (listed list) shape ps
+      pub decided_here : (d : Decision) → t ≡ Some d → decided d s.classes ≡ walked T returning left (listed list) shape ps
       decided_here d x =
           ap (decided d) classes_are
           ∙ sym (opened ∙ step_decided T returning left shape ps rule _ some.ss some.is kept d (sym travelled ∙ x))

@@ -1,6 +1,6 @@
 -- How an operation spends registers (REFERENCE 9.3 to 9.5), over the lines of spend_scalar/specs/Spending.antt and the ways of
 -- spend/specs/Spending.antt: what each value passes over and is given, and by which rule.
-use Rattle.std.specs.Prelude.{ℕ, List, [], ◌∷◌, Bool, true, false, ◌&&◌, not, cond, ltb, length}
+use Rattle.std.specs.Prelude.{ℕ, List, [], ◌∷◌, Bool, true, false, ◌&&◌, not, cond, ltb, length, Option, Some, None}
 use Rattle.shape.specs.declared.Arg as args
 use Rattle.shape.specs.declared.Piece.{Piece}
 use Rattle.shape.specs.declared.Scalar.{Scalar}
@@ -18,7 +18,6 @@ use Rattle.spend.specs.declared.Left.{Left}
 use Rattle.spend.specs.declared.Way as ways
 use Rattle.spend.specs.declared.Wanted.{Wanted}
 use Rattle.spend.specs.declared.Decision.{Decision}
-use Rattle.spend.specs.declared.Tried as tries
 use Rattle.spend.specs.Ways as made
 use Rattle.spend.specs.Ways.{marked}
 use Rattle.spend.specs.Spending.{travel_of}
@@ -38,9 +37,9 @@ abbrev pub wanted_by : Test → ℕ → List Slot → Wanted
 wanted_by test size ss = record { count = length ss; floats = floats_in ss; source = source_of test size }
 
 -- a decision, or the rules after it
-abbrev pub or_next : tries.Tried → Test → Chosen → Chosen
-or_next (tries.TheVariants.Decided d) test rest = chosen d test
-or_next tries.TheVariants.TryNextRule test rest = rest
+abbrev pub or_next : Option Decision → Test → Chosen → Chosen
+or_next (Some d) test rest = chosen d test
+or_next None test rest = rest
 
 -- a rule whose test came back: nothing moves on, and so does, under integers-only, an argument's rule that found a float slot. The callee would
 -- not look into float registers, so the aggregate is left to the rules behind, as if no piece of it were a float. What comes back is no argument

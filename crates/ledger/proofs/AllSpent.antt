@@ -7,6 +7,7 @@ use mathlib.Core.Bool.{Bool, true, false, ◌&&◌, cond, false≢true}
 use native.Mathlib.Omega.{arith}
 use borrow.Author.Tests.{eqb-true, leb-false, lt-ltb}
 use lib.Dec.{eqb, leb}
+use Rattle.std.specs.Prelude.{Some, None}
 use Rattle.shape.specs.declared.Arg as args
 use Rattle.shape.specs.declared.Piece.{Piece}
 use Rattle.shape.specs.declared.Scalar.{Scalar}
@@ -23,7 +24,6 @@ use Rattle.spend.specs.declared.Wanted.{Wanted}
 use Rattle.spend.specs.declared.Way.{Way}
 use Rattle.spend.specs.declared.Way.TheVariants.{Ignore, Direct, Pieces, Reference, Memory}
 use Rattle.spend.specs.declared.Decision.{Decision}
-use Rattle.spend.specs.declared.Tried as tries
 use Rattle.spend.specs.Ways.{spends, plain, in_pieces, cut_slots, with_mark}
 use Rattle.spend.specs.Spending.{want_of, reference, memory, as_far_as, split_of, in_slots, when_short}
 use Rattle.spend_scalar.specs.Spending.{scalar_argument, scalar_return}
@@ -96,7 +96,7 @@ module _ (name : List ℕ) (float_registers float_width : ℕ) where
       where
         go : (fits : Bool)
             → IfDecided AggregateSpends
-            (cond fits (tries.TheVariants.Decided (in_pieces slots (spends 0 (slots.count - slots.floats) 0 slots.floats))) tries.TheVariants.TryNextRule)
+            (cond fits (Some (in_pieces slots (spends 0 (slots.count - slots.floats) 0 slots.floats))) None)
         go true = λ h. absurd (omega (arith, h))
         go false = tt
 
@@ -115,8 +115,8 @@ module _ (name : List ℕ) (float_registers float_width : ℕ) where
 
         go : (x y : Bool) → leb (n - 0) left.integer ≡ x → leb 0 left.float ≡ y
             → IfDecided AggregateSpends
-            (cond (x && y) (tries.TheVariants.Decided (in_pieces (cut_slots shape.size 8) (spends 0 (n - 0) 0 0)))
-            (tries.TheVariants.Decided (split_of left (cut_slots shape.size 8) (n - 0) 0)))
+            (cond (x && y) (Some (in_pieces (cut_slots shape.size 8) (spends 0 (n - 0) 0 0)))
+            (Some (split_of left (cut_slots shape.size 8) (n - 0) 0)))
         go true true ex ey = λ h. absurd (omega (arith, h))
         go true false ex ey = absurd (omega (arith, leb-false 0 left.float ey))
         go false false ex ey = absurd (omega (arith, leb-false 0 left.float ey))

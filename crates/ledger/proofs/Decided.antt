@@ -6,6 +6,7 @@ use mathlib.Core.List.{List, [], ◌∷◌}
 use mathlib.Core.Bool.{Bool, true, false, ◌&&◌, not, cond, and-false}
 use borrow.Author.Tests.{eqb-false}
 use lib.Dec.{eqb, leb, ltb}
+use Rattle.std.specs.Prelude.{Option, Some, None}
 use Rattle.shape.specs.declared.Piece.{Piece}
 use Rattle.shape.specs.declared.Scalar.{Scalar}
 use Rattle.shape.specs.declared.Shape.{Shape}
@@ -24,7 +25,6 @@ use Rattle.spend.specs.declared.Left.{Left}
 use Rattle.spend.specs.declared.Wanted.{Wanted}
 use Rattle.spend.specs.declared.Way.TheVariants.{Ignore, Direct}
 use Rattle.spend.specs.declared.Decision.{Decision}
-use Rattle.spend.specs.declared.Tried as tries
 use Rattle.spend.specs.Ways as made
 use Rattle.spend.specs.Ways.{spends, plain, in_pieces, cut_slots, marked}
 use Rattle.spend.specs.Spending.{want_of, reference, in_slots, travel_of}
@@ -33,9 +33,9 @@ use Rattle.find.specs.Matches.{matches}
 use Rattle.classify.specs.Spending.{Chosen, wanted_by, or_next, decide_by, by_rules}
 
 -- where a rule's way comes to a decision
-abbrev pub IfDecided : (Decision → Type 0) → tries.Tried → Type 0
-IfDecided P (tries.TheVariants.Decided d) = P d
-IfDecided P tries.TheVariants.TryNextRule = Unit {0}
+abbrev pub IfDecided : (Decision → Type 0) → Option Decision → Type 0
+IfDecided P (Some d) = P d
+IfDecided P None = Unit {0}
 
 module _ (name : List ℕ) (float_registers float_width : ℕ) (P : Decision → Type 0) where
   abbrev riscv : Description
@@ -72,16 +72,16 @@ module _ (name : List ℕ) (float_registers float_width : ℕ) (P : Decision →
   -- ---- an aggregate: each rule that decides, and the rules behind one that doesn't
 
   module _ (returning : Bool) (left : Left) (shape : Shape) (ps : List Piece) where
-    abbrev travelled : Rule → Wanted → tries.Tried
+    abbrev travelled : Rule → Wanted → Option Decision
     travelled rule slots = travel_of riscv.banks riscv.return_pointer returning left rule shape.size slots
 
     abbrev Decides : List Rule → Type 0
     Decides rules = P (by_rules (terms_of riscv) returning left rules shape ps).decision
 
-    or_rest : (skipped : Bool) (t : tries.Tried) (test : Test) (rest : Chosen) → IfDecided P t → P rest.decision → P (cond skipped rest (or_next t test rest)).decision
+    or_rest : (skipped : Bool) (t : Option Decision) (test : Test) (rest : Chosen) → IfDecided P t → P rest.decision → P (cond skipped rest (or_next t test rest)).decision
     or_rest true t test rest h later = later
-    or_rest false (tries.TheVariants.Decided d) test rest h later = h
-    or_rest false tries.TheVariants.TryNextRule test rest h later = later
+    or_rest false (Some d) test rest h later = h
+    or_rest false None test rest h later = later
 
     decided_so : (rule : Rule) (rest : Chosen) → ((slots : Wanted) → IfDecided P (travelled rule slots)) → P rest.decision
         → (s : Search) → P (decide_by s (terms_of riscv) returning left rule shape rest).decision
@@ -95,7 +95,7 @@ module _ (name : List ℕ) (float_registers float_width : ℕ) (P : Decision →
     by_rule rule rules h later = decided_so rule (by_rules (terms_of riscv) returning left rules shape ps) h later (matches riscv.banks rule.when shape ps)
 
     -- the last rule is never skipped: its test finds no slot
-    by_address : (d : Decision) → travelled (rule Anything ByReference) (wanted_by Anything shape.size []) ≡ tries.TheVariants.Decided d → P d → Decides (rule Anything ByReference ∷ [])
+    by_address : (d : Decision) → travelled (rule Anything ByReference) (wanted_by Anything shape.size []) ≡ Some d → P d → Decides (rule Anything ByReference ∷ [])
     unfolding by_rules matches floats_in
     by_address d e h = rw (and-false, e) h
 

@@ -9,6 +9,7 @@ use native.Mathlib.Omega.{arith}
 use borrow.Author.Tests.{eqb-true, eqb-false}
 use lib.Dec.{eqb, leb}
 use lib.ListN.{take, get_elem?}
+use Rattle.std.specs.Prelude.{Some, None}
 use Rattle.shape.specs.declared.Arg as args
 use Rattle.shape.specs.declared.Piece.{Piece}
 use Rattle.shape.specs.declared.Scalar.{Scalar}
@@ -27,7 +28,6 @@ use Rattle.spend.specs.declared.Decision.{Decision}
 use Rattle.spend.specs.declared.Wanted.{Wanted}
 use Rattle.spend.specs.declared.Way.{Way}
 use Rattle.spend.specs.declared.Way.TheVariants.{Ignore, Direct, Pieces, Reference, Memory}
-use Rattle.spend.specs.declared.Tried as tries
 use Rattle.spend.specs.Ways.{way_number, spends, in_pieces, cut_slots}
 use Rattle.spend.specs.Spending.{as_far_as, memory, in_slots, when_short}
 use Rattle.spend_scalar.specs.Spending.{skip_of, scalar_argument, scalar_return}
@@ -57,7 +57,7 @@ module _ (left : Left) where
   unfolding in_slots when_short
   found_slots slots = go (leb (slots.count - slots.floats) left.integer && leb slots.floats left.float)
     where
-      go : (fits : Bool) → IfDecided PassesNone (cond fits (tries.TheVariants.Decided (in_pieces slots (spends 0 (slots.count - slots.floats) 0 slots.floats))) tries.TheVariants.TryNextRule)
+      go : (fits : Bool) → IfDecided PassesNone (cond fits (Some (in_pieces slots (spends 0 (slots.count - slots.floats) 0 slots.floats))) None)
       go true = (refl, refl)
       go false = tt
 
@@ -70,8 +70,8 @@ module _ (left : Left) where
 
       go : (fits none : Bool)
           → IfDecided PassesNone
-          (cond fits (tries.TheVariants.Decided (in_pieces slots (spends 0 i 0 slots.floats)))
-          (tries.TheVariants.Decided (cond none (memory 0 0 0 0) (as_far_as left slots i slots.floats))))
+          (cond fits (Some (in_pieces slots (spends 0 i 0 slots.floats)))
+          (Some (cond none (memory 0 0 0 0) (as_far_as left slots i slots.floats))))
       go true none = (refl, refl)
       go false true = (refl, refl)
       go false false = (refl, refl)

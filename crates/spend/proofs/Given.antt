@@ -4,6 +4,7 @@ use mathlib.Core.Path.{◌≡◌, refl}
 use mathlib.Core.Bool.{Bool, true, false, ◌&&◌, cond}
 use native.Mathlib.Omega.{arith}
 use lib.Dec.{T, eqb, leb, ltb, ltb→lt}
+use Rattle.std.specs.Prelude.{Option, Some, None}
 use Rattle.shape.specs.Numbers.{integer}
 use Rattle.describe.specs.declared.Banks.{Banks}
 use Rattle.describe.specs.declared.Rule.{Rule}
@@ -17,7 +18,6 @@ use Rattle.spend.specs.declared.Left.{Left}
 use Rattle.spend.specs.declared.Way as ways
 use Rattle.spend.specs.declared.Wanted.{Wanted}
 use Rattle.spend.specs.declared.Decision.{Decision}
-use Rattle.spend.specs.declared.Tried as tries
 use Rattle.spend.specs.Ways.{way_number, in_pieces, spends, cut_slots, one_slot, MemoryIsGivenNothing}
 use Rattle.spend.specs.Spending.{integer_cost, float_cost, by_pointer, by_reference, in_memory_and_spend, when_short, in_slots, travel_by, travel_of}
 
@@ -25,9 +25,9 @@ use Rattle.spend.specs.Spending.{integer_cost, float_cost, by_pointer, by_refere
 abbrev pub Ungiven : Decision → Type 0
 Ungiven d = MemoryIsGivenNothing (way_number d.way) d.spent
 
-abbrev pub UngivenIf : tries.Tried → Type 0
-UngivenIf (tries.TheVariants.Decided d) = Ungiven d
-UngivenIf tries.TheVariants.TryNextRule = Unit {0}
+abbrev pub UngivenIf : Option Decision → Type 0
+UngivenIf (Some d) = Ungiven d
+UngivenIf None = Unit {0}
 
 -- every other way's number is below Memory's, so that anything holds there
 pub another_way : {A : Type 0} {n : ℕ} → T (ltb n (way_number ways.TheVariants.Memory)) → n ≡ way_number ways.TheVariants.Memory → A
@@ -64,8 +64,8 @@ slots_ungiven shared returning left short found =
   where
     go : (back fits : Bool) (i f : ℕ)
         → UngivenIf
-        (cond back (tries.TheVariants.Decided (in_pieces found (spends 0 0 0 0)))
-        (cond fits (tries.TheVariants.Decided (in_pieces found (spends 0 i 0 f))) (when_short short left found i f)))
+        (cond back (Some (in_pieces found (spends 0 0 0 0)))
+        (cond fits (Some (in_pieces found (spends 0 i 0 f))) (when_short short left found i f)))
     go true fits i f = another_way tt
     go false true i f = another_way tt
     go false false i f = short_ungiven short left found i f

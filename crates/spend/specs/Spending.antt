@@ -1,7 +1,7 @@
 -- How an aggregate that a rule matched spends registers (REFERENCE 9.3): how it travels, and what it passes over and is given. I and F are the
 -- counts left. A scalar's spending (9.2, 9.4) is spend_scalar/specs/Spending.antt, and the parts that both are said with stand first here.
 -- This says nothing of the counts left afterwards: those are the Rust's, in classify/specs/Classify.antt, and a theorem has the two agree.
-use Rattle.std.specs.Prelude.{ℕ, ◌-◌, min, max, Bool, ◌&&◌, cond, eqb, leb, ltb}
+use Rattle.std.specs.Prelude.{ℕ, ◌-◌, min, max, Bool, ◌&&◌, cond, eqb, leb, ltb, Option, Some, None}
 use Rattle.shape.specs.Numbers.{integer}
 use Rattle.slots.specs.Cut.{ceil_div}
 use Rattle.describe.specs.declared.Banks.{Banks}
@@ -16,7 +16,6 @@ use Rattle.spend.specs.declared.Left.{Left}
 use Rattle.spend.specs.declared.Way as ways
 use Rattle.spend.specs.declared.Wanted.{Wanted}
 use Rattle.spend.specs.declared.Decision.{Decision}
-use Rattle.spend.specs.declared.Tried as tries
 use Rattle.spend.specs.Ways.{spends, nothing, plain, in_pieces, cut_slots, one_slot}
 
 -- "takes n": n, or all that is left, whichever is less
@@ -69,22 +68,22 @@ split_of left found integer float = cond (eqb left.integer 0) (memory 0 0 0 0) (
 
 -- short of registers: Unchanged gives what is left up to the cost; Memory spends nothing; MemoryAndDrain passes over each short bank whole;
 -- TryNextRule goes on; Split gives what is left, where that is something. Who has which, and why, is said at `Short` (describe/src/lib.rt)
-unfoldable pub when_short : Short → Left → Wanted → ℕ → ℕ → tries.Tried
-when_short Unchanged left found integer float = tries.TheVariants.Decided (as_far_as left found integer float)
-when_short Memory left found integer float = tries.TheVariants.Decided (memory 0 0 0 0)
+unfoldable pub when_short : Short → Left → Wanted → ℕ → ℕ → Option Decision
+when_short Unchanged left found integer float = Some (as_far_as left found integer float)
+when_short Memory left found integer float = Some (memory 0 0 0 0)
 when_short MemoryAndDrain left found integer float =
-    tries.TheVariants.Decided (memory (drain_of integer left.integer) 0 (drain_of float left.float) 0)
-when_short TryNextRule left found integer float = tries.TheVariants.TryNextRule
-when_short Split left found integer float = tries.TheVariants.Decided (split_of left found integer float)
+    Some (memory (drain_of integer left.integer) 0 (drain_of float left.float) 0)
+when_short TryNextRule left found integer float = None
+when_short Split left found integer float = Some (split_of left found integer float)
 
 -- a slot rule: on a return it spends nothing, for the registers of a result aren't counted with the arguments'; on an argument, where it fits,
 -- the cost is given
-unfoldable pub in_slots : Bool → Bool → Left → Short → Wanted → tries.Tried
+unfoldable pub in_slots : Bool → Bool → Left → Short → Wanted → Option Decision
 in_slots shared returning left short found =
     let integer : ℕ = integer_cost shared found.count found.floats in
     let float : ℕ = float_cost shared found.floats in
-    cond returning (tries.TheVariants.Decided (in_pieces found nothing))
-    (cond (leb integer left.integer && leb float left.float) (tries.TheVariants.Decided (in_pieces found (spends 0 integer 0 float)))
+    cond returning (Some (in_pieces found nothing))
+    (cond (leb integer left.integer && leb float left.float) (Some (in_pieces found (spends 0 integer 0 float)))
     (when_short short left found integer float))
 
 -- ByReference: given takes 1 of I for an argument, or for a return unless the pointer is Dedicated. The address of a copy is an argument like
@@ -97,15 +96,15 @@ by_reference pointer returning I = cond returning (by_pointer pointer I) (refere
 abbrev pub in_memory_and_spend : Bool → ℕ → ℕ → Decision
 in_memory_and_spend returning I want = cond returning (memory 0 0 0 0) (memory (takes want I) 0 0 0)
 
-abbrev pub travel_by : Travel → Banks → ReturnPointer → Bool → Left → Short → ℕ → Wanted → tries.Tried
-travel_by Ignore B pointer returning left short size found = tries.TheVariants.Decided (plain ways.TheVariants.Ignore nothing)
+abbrev pub travel_by : Travel → Banks → ReturnPointer → Bool → Left → Short → ℕ → Wanted → Option Decision
+travel_by Ignore B pointer returning left short size found = Some (plain ways.TheVariants.Ignore nothing)
 travel_by AsFound B pointer returning left short size found = in_slots B.shared returning left short found
 travel_by AsIntegers B pointer returning left short size found = in_slots B.shared returning left short (cut_slots size B.integer_width)
 travel_by AsOneInteger B pointer returning left short size found = in_slots B.shared returning left short (one_slot integer size 0)
-travel_by ByReference B pointer returning left short size found = tries.TheVariants.Decided (by_reference pointer returning left.integer)
-travel_by InMemory B pointer returning left short size found = tries.TheVariants.Decided (memory 0 0 0 0)
+travel_by ByReference B pointer returning left short size found = Some (by_reference pointer returning left.integer)
+travel_by InMemory B pointer returning left short size found = Some (memory 0 0 0 0)
 travel_by InMemoryAndSpend B pointer returning left short size found =
-    tries.TheVariants.Decided (in_memory_and_spend returning left.integer (want_of size B.integer_width))
+    Some (in_memory_and_spend returning left.integer (want_of size B.integer_width))
 
-unfoldable pub travel_of : Banks → ReturnPointer → Bool → Left → Rule → ℕ → Wanted → tries.Tried
+unfoldable pub travel_of : Banks → ReturnPointer → Bool → Left → Rule → ℕ → Wanted → Option Decision
 travel_of B pointer returning left rule size found = travel_by rule.then B pointer returning left rule.short size found

@@ -4,7 +4,7 @@
 #![tactic(auto)]
 
 ghost use Rattle.std.specs.Prelude.{◌≡◌, min};
-ghost use Rattle.spend.specs.Ways.{way_number, way_from, with_mark, spends, nothing, plain, in_pieces, cut_slots, one_slot, left_after};
+ghost use Rattle.spend.specs.Ways.{way_number, way_from, with_mark, spends, plain, in_pieces, cut_slots, one_slot, left_after};
 ghost use Rattle.spend.specs.Spending.{want_of, by_pointer, travel_of, by_reference, in_memory_and_spend, in_slots, when_short, as_far_as, split_of, integer_cost, float_cost, drain_of};
 
 use describe::{Banks, ReturnPointer, Rule, Short, Travel};
@@ -25,14 +25,64 @@ pub const NO_MARK: u64 = 0;
 
 pub const MARK: u64 = 1;
 
+impl Left {
+    // The same registers, with the mark.
+    pub fn with_mark(self) -> Left
+        ensures { result ≡ with_mark self }
+    {
+        Left {
+            integers_only: MARK,
+            ..self
+        }
+    }
+
+    // What a call has left after an operation: what was left before, less what is passed over and given.
+    pub fn after(self, spent: Spent) -> Left
+        ensures { result ≡ left_after self spent }
+    {
+        Left {
+            integer: minus(
+                minus(self.integer, spent.integers_passed),
+                spent.integers_given,
+            ),
+            float: minus(minus(self.float, spent.floats_passed), spent.floats_given),
+            ..self
+        }
+    }
+}
+
 // How a value travels.
-#[derive(Clone, Copy)]
+#[derive(Clone, Copy, PartialEq, Eq)]
 pub enum Way {
     Ignore,
     Direct,
     Pieces,
     Reference,
     Memory,
+}
+
+impl Way {
+    // As answers in numbers have it (REFERENCE 9).
+    pub fn number(self) -> u64
+        ensures { result ≡ way_number self }
+    {
+        self as u64
+    }
+}
+
+// The way that a number stands for.
+impl From<u64> for Way {
+    ghost from_gives = { λ number way. way ≡ way_from number };
+
+    fn from(number: u64) -> Way {
+        match number {
+            0 => Way::Ignore,
+            1 => Way::Direct,
+            2 => Way::Pieces,
+            3 => Way::Reference,
+            _ => Way::Memory,
+        }
+    }
 }
 
 // The registers that one operation passes over and gives, in each bank.
@@ -45,6 +95,26 @@ pub struct Spent {
     pub floats_given: u64,
 }
 
+impl Spent {
+    pub const NOTHING: Spent = Spent {
+        integers_passed: 0,
+        integers_given: 0,
+        floats_passed: 0,
+        floats_given: 0,
+    };
+
+    // So many registers of each bank, and none passed over.
+    fn giving(integers: u64, floats: u64) -> Spent
+        ensures { result ≡ spends 0 integers 0 floats }
+    {
+        Spent {
+            integers_given: integers,
+            floats_given: floats,
+            ..Spent::NOTHING
+        }
+    }
+}
+
 // How a value travels, where its slots stand and how many they are, and what it spends.
 #[derive(Clone, Copy)]
 pub struct Decision {
@@ -54,11 +124,31 @@ pub struct Decision {
     pub spent: Spent,
 }
 
-// What a rule that matched comes to: a decision, or the rule ran short and the next one is tried.
-#[derive(Clone, Copy)]
-pub enum Tried {
-    Decided(Decision),
-    TryNextRule,
+impl Decision {
+    // Without slots.
+    pub fn plain(way: Way, spent: Spent) -> Decision
+        ensures { result ≡ plain way spent }
+    {
+        Decision {
+            way,
+            source: Source::Empty,
+            count: 0,
+            spent,
+        }
+    }
+
+    // In these slots.
+    pub fn pieces(found: Wanted, spent: Spent) -> Decision
+        ensures { result ≡ in_pieces found spent }
+    {
+        let source = found.source;
+        Decision {
+            way: Way::Pieces,
+            source,
+            count: found.count,
+            spent,
+        }
+    }
 }
 
 // The slots that a rule travels in: how many, how many of them floats, and where they stand.
@@ -69,33 +159,35 @@ pub struct Wanted {
     pub source: Source,
 }
 
-// A way's number, as answers in numbers have it (REFERENCE 9).
-pub fn way_number(way: Way) -> u64
-    ensures { result ≡ way_number way }
-{
-    match way {
-        Way::Ignore => 0,
-        Way::Direct => 1,
-        Way::Pieces => 2,
-        Way::Reference => 3,
-        Way::Memory => 4,
+impl Wanted {
+    // A size cut into integers of a width.
+    pub fn cut(size: u64, width: u64) -> Wanted
+        ensures { result ≡ cut_slots size width }
+    {
+        Wanted {
+            count: slots::parts(size, width),
+            floats: 0,
+            source: Source::Cut { size, width },
+        }
+    }
+
+    // One slot at the start: its kind, its size, and 1 where it is a float.
+    pub fn one(kind: u64, size: u64, floats: u64) -> Wanted
+        ensures { result ≡ one_slot kind size floats }
+    {
+        Wanted {
+            count: 1,
+            floats,
+            source: Source::One {
+                kind,
+                offset: 0,
+                size,
+            },
+        }
     }
 }
 
-// The way that a number stands for.
-pub fn way_from(number: u64) -> Way
-    ensures { result ≡ way_from number }
-{
-    match number {
-        0 => Way::Ignore,
-        1 => Way::Direct,
-        2 => Way::Pieces,
-        3 => Way::Reference,
-        _ => Way::Memory,
-    }
-}
-
-// An aggregate of this size under a rule whose test found these slots (REFERENCE 9.3).
+// An aggregate of this size under a rule whose test found these slots (REFERENCE 9.3); none where the rule ran short and the next one is tried.
 pub fn travel(
     banks: Banks,
     pointer: ReturnPointer,
@@ -104,32 +196,32 @@ pub fn travel(
     rule: Rule,
     size: u64,
     found: Wanted,
-) -> Tried
+) -> Option<Decision>
     ensures { result ≡ travel_of banks pointer returning left rule size found }
 {
     let then = rule.then;
     let short = rule.short;
     let width = banks.integer_width;
     match then {
-        Travel::Ignore => Tried::Decided(integers(Way::Ignore, 0, 0)),
+        Travel::Ignore => Some(Decision::plain(Way::Ignore, Spent::NOTHING)),
         Travel::AsFound => in_slots(banks.shared, returning, left, short, found),
         Travel::AsIntegers => in_slots(
             banks.shared,
             returning,
             left,
             short,
-            cut_slots(size, width),
+            Wanted::cut(size, width),
         ),
         Travel::AsOneInteger => in_slots(
             banks.shared,
             returning,
             left,
             short,
-            one_slot(shape::INTEGER, size, 0),
+            Wanted::one(shape::INTEGER, size, 0),
         ),
-        Travel::ByReference => Tried::Decided(by_reference(pointer, returning, left.integer)),
-        Travel::InMemory => Tried::Decided(integers(Way::Memory, 0, 0)),
-        Travel::InMemoryAndSpend => Tried::Decided(in_memory_and_spend(
+        Travel::ByReference => Some(by_reference(pointer, returning, left.integer)),
+        Travel::InMemory => Some(Decision::plain(Way::Memory, Spent::NOTHING)),
+        Travel::InMemoryAndSpend => Some(in_memory_and_spend(
             returning,
             left.integer,
             registers(size, width),
@@ -151,10 +243,20 @@ pub fn by_pointer(pointer: ReturnPointer, left: u64) -> Decision
     ensures { result ≡ by_pointer pointer left }
 {
     match pointer {
-        ReturnPointer::Dedicated => integers(Way::Reference, 0, 0),
-        ReturnPointer::FirstArgument => by_address(left),
-        ReturnPointer::FirstArgumentPopped => by_address(left),
+        ReturnPointer::Dedicated => Decision::plain(Way::Reference, Spent::NOTHING),
+        ReturnPointer::FirstArgument | ReturnPointer::FirstArgumentPopped => by_address(left),
     }
+}
+
+// Reference, and given takes 1 of the integer registers that are left.
+pub fn by_address(left: u64) -> Decision
+    ensures { result ≡ plain Way.Reference (spends 0 (min 1 left) 0 0) }
+{
+    let spent = Spent {
+        integers_given: shape::least(1, left),
+        ..Spent::NOTHING
+    };
+    Decision::plain(Way::Reference, spent)
 }
 
 // In memory, and on an argument its words are counted against the registers, which carry nothing: they are passed over.
@@ -162,39 +264,53 @@ fn in_memory_and_spend(returning: bool, left: u64, want: u64) -> Decision
     ensures { result ≡ in_memory_and_spend returning left want }
 {
     if returning {
-        return integers(Way::Memory, 0, 0);
+        return Decision::plain(Way::Memory, Spent::NOTHING);
     }
-    integers(Way::Memory, shape::least(want, left), 0)
+    let spent = Spent {
+        integers_passed: shape::least(want, left),
+        ..Spent::NOTHING
+    };
+    Decision::plain(Way::Memory, spent)
 }
 
 // Slots on a return spend nothing; on an argument they cost registers.
-fn in_slots(shared: bool, returning: bool, left: Left, short: Short, found: Wanted) -> Tried
+fn in_slots(
+    shared: bool,
+    returning: bool,
+    left: Left,
+    short: Short,
+    found: Wanted,
+) -> Option<Decision>
     ensures { result ≡ in_slots shared returning left short found }
 {
     if returning {
-        return Tried::Decided(pieces(found, 0, 0));
+        return Some(Decision::pieces(found, Spent::NOTHING));
     }
     let integer = integer_cost(shared, found.count, found.floats);
     let float = float_cost(shared, found.floats);
     if (integer <= left.integer) & (float <= left.float) {
-        return Tried::Decided(pieces(found, integer, float));
+        return Some(Decision::pieces(found, Spent::giving(integer, float)));
     }
     when_short(short, left, found, integer, float)
 }
 
 // Slots that cost more than is left: what happens is the rule's.
-fn when_short(short: Short, left: Left, found: Wanted, integer: u64, float: u64) -> Tried
+fn when_short(short: Short, left: Left, found: Wanted, integer: u64, float: u64) -> Option<Decision>
     ensures { result ≡ when_short short left found integer float }
 {
     match short {
-        Short::Unchanged => Tried::Decided(as_far_as(left, found, integer, float)),
-        Short::Memory => Tried::Decided(integers(Way::Memory, 0, 0)),
-        Short::MemoryAndDrain => Tried::Decided(drained(
-            drain(integer, left.integer),
-            drain(float, left.float),
+        Short::Unchanged => Some(as_far_as(left, found, integer, float)),
+        Short::Memory => Some(Decision::plain(Way::Memory, Spent::NOTHING)),
+        Short::MemoryAndDrain => Some(Decision::plain(
+            Way::Memory,
+            Spent {
+                integers_passed: drain(integer, left.integer),
+                floats_passed: drain(float, left.float),
+                ..Spent::NOTHING
+            },
         )),
-        Short::TryNextRule => Tried::TryNextRule,
-        Short::Split => Tried::Decided(split(left, found, integer, float)),
+        Short::TryNextRule => None,
+        Short::Split => Some(split(left, found, integer, float)),
     }
 }
 
@@ -202,11 +318,11 @@ fn when_short(short: Short, left: Left, found: Wanted, integer: u64, float: u64)
 fn as_far_as(left: Left, found: Wanted, integer: u64, float: u64) -> Decision
     ensures { result ≡ as_far_as left found integer float }
 {
-    pieces(
-        found,
+    let spent = Spent::giving(
         shape::least(integer, left.integer),
         shape::least(float, left.float),
-    )
+    );
+    Decision::pieces(found, spent)
 }
 
 // Between the registers that are left and the stack; with no integer register left, there is nothing to split.
@@ -216,7 +332,7 @@ fn split(left: Left, found: Wanted, integer: u64, float: u64) -> Decision
     if left.integer > 0 {
         return as_far_as(left, found, integer, float);
     }
-    integers(Way::Memory, 0, 0)
+    Decision::plain(Way::Memory, Spent::NOTHING)
 }
 
 // Slots by bank: with shared banks every slot costs one of the integer bank.
@@ -244,124 +360,4 @@ pub fn registers(size: u64, width: u64) -> u64
     ensures { result ≡ want_of size width }
 {
     shape::most(slots::parts(size, width), 1)
-}
-
-// Reference, and given takes 1 of the integer registers that are left.
-pub fn by_address(left: u64) -> Decision
-    ensures { result ≡ plain Way.Reference (spends 0 (min 1 left) 0 0) }
-{
-    integers(Way::Reference, 0, shape::least(1, left))
-}
-
-// A decision without slots that spends integer registers alone.
-pub fn integers(way: Way, passed: u64, given: u64) -> Decision
-    ensures { result ≡ plain way (spends passed given 0 0) }
-{
-    Decision {
-        way,
-        source: Source::Empty,
-        count: 0,
-        spent: Spent {
-            integers_passed: passed,
-            integers_given: given,
-            floats_passed: 0,
-            floats_given: 0,
-        },
-    }
-}
-
-fn drained(integers: u64, floats: u64) -> Decision
-    ensures { result ≡ plain Way.Memory (spends integers 0 floats 0) }
-{
-    Decision {
-        way: Way::Memory,
-        source: Source::Empty,
-        count: 0,
-        spent: Spent {
-            integers_passed: integers,
-            integers_given: 0,
-            floats_passed: floats,
-            floats_given: 0,
-        },
-    }
-}
-
-// Slots that are given so many registers of each bank.
-pub fn pieces(found: Wanted, integer: u64, float: u64) -> Decision
-    ensures { result ≡ in_pieces found (spends 0 integer 0 float) }
-{
-    let source = found.source;
-    Decision {
-        way: Way::Pieces,
-        source,
-        count: found.count,
-        spent: Spent {
-            integers_passed: 0,
-            integers_given: integer,
-            floats_passed: 0,
-            floats_given: float,
-        },
-    }
-}
-
-// A size cut into integers of a width.
-pub fn cut_slots(size: u64, width: u64) -> Wanted
-    ensures { result ≡ cut_slots size width }
-{
-    Wanted {
-        count: slots::parts(size, width),
-        floats: 0,
-        source: Source::Cut { size, width },
-    }
-}
-
-// One slot at the start: its kind, its size, and 1 where it is a float.
-pub fn one_slot(kind: u64, size: u64, floats: u64) -> Wanted
-    ensures { result ≡ one_slot kind size floats }
-{
-    Wanted {
-        count: 1,
-        floats,
-        source: Source::One {
-            kind,
-            offset: 0,
-            size,
-        },
-    }
-}
-
-// The same registers, with the mark.
-pub fn with_mark(left: Left) -> Left
-    ensures { result ≡ with_mark left }
-{
-    Left {
-        integer: left.integer,
-        float: left.float,
-        integers_only: MARK,
-    }
-}
-
-pub fn nothing_spent() -> Spent
-    ensures { result ≡ nothing }
-{
-    Spent {
-        integers_passed: 0,
-        integers_given: 0,
-        floats_passed: 0,
-        floats_given: 0,
-    }
-}
-
-// What a call has left after an operation: what was left before, less what is passed over and given.
-pub fn left_after(left: Left, spent: Spent) -> Left
-    ensures { result ≡ left_after left spent }
-{
-    Left {
-        integer: minus(
-            minus(left.integer, spent.integers_passed),
-            spent.integers_given,
-        ),
-        float: minus(minus(left.float, spent.floats_passed), spent.floats_given),
-        integers_only: left.integers_only,
-    }
 }
