@@ -6,6 +6,7 @@ use mathlib.Core.Bool.{Bool, true, false, ◌&&◌, not, cond, false≢true}
 use native.Mathlib.Omega.{arith}
 use borrow.Author.Tests.{eq-eqb, ne_eqb, eqb-true, eqb-false}
 use lib.Dec.{eqb, leb}
+use denote.Enum.Bare.{sameb}
 use Rattle.shape.specs.Numbers.{most_word}
 use Rattle.shape.specs.Arithmetic.{plus}
 use Rattle.describe.specs.declared.Banks.{Banks}
@@ -13,6 +14,9 @@ use Rattle.describe.specs.declared.Dots.{Dots}
 use Rattle.spend.specs.declared.Decision.{Decision}
 use Rattle.spend.specs.declared.Left.{Left}
 use Rattle.spend.specs.declared.Spent.{Spent}
+use Rattle.spend.specs.declared.Way.{Way}
+use Rattle.spend.specs.declared.Way.TheVariants.{Ignore, Direct, Pieces, Reference, Memory}
+use Rattle.spend.specs.contracts.Way.{the_type}
 use Rattle.spend.specs.Ways.{with_mark, spends, nothing}
 use Rattle.spend_scalar.specs.Spending.{skip_of}
 use Rattle.after_dots.specs.AfterDots.{is_pair, skipped_for, behind_start, left_for, is_ignored, spent_behind, spent_for, settled_for}
@@ -76,15 +80,22 @@ module _ (dots : Dots) (skipped : ℕ) (left : Left) where
 
 -- ---- what it spends
 
-module _ (I skipped : ℕ) (d : Decision) (ignored : Bool) (ei : ignored ≡ is_ignored d.way) where
+told_ignored : (way : Way) → sameb the_type way Ignore ≡ is_ignored way
+told_ignored Ignore = refl
+told_ignored Direct = refl
+told_ignored Pieces = refl
+told_ignored Reference = refl
+told_ignored Memory = refl
+
+module _ (I skipped : ℕ) (d : Decision) (ignored : Bool) (ei : ignored ≡ sameb the_type d.way Ignore) where
   pub behind_ignored : ignored ≡ true → (r : Spent) → r ≡ nothing → r ≡ spent_behind I skipped d
-  behind_ignored h r er = rw (er, ← ei, h)
+  behind_ignored h r er = rw (er, ← told_ignored d.way, ← ei, h)
 
   pub behind_passed : ignored ≡ false → (passed : ℕ) → passed ≡ plus skipped d.spent.integers_passed → (n : ℕ) → n ≡ min passed I → I ≤ most_word
       → spends n d.spent.integers_given d.spent.floats_passed d.spent.floats_given ≡ spent_behind I skipped d
   behind_passed h passed ep n en fits =
       let same : n ≡ min (skipped + d.spent.integers_passed) I = omega arith in
-      rw (same, ← ei, h)
+      rw (same, ← told_ignored d.way, ← ei, h)
 
 module _ (dots : Dots) (I skipped : ℕ) (d : Decision) where
   pub spent_nothing : dots.emptied ≡ true → (r : Spent) → r ≡ nothing → r ≡ spent_for dots I skipped d

@@ -3,7 +3,7 @@
 #![tactic(auto)]
 
 ghost use Rattle.std.specs.Prelude.{◌≡◌};
-ghost use Rattle.after_dots.specs.AfterDots.{is_pair, skipped_for, behind_start, left_for, is_ignored, spent_behind, spent_for, settled_for};
+ghost use Rattle.after_dots.specs.AfterDots.{is_pair, skipped_for, behind_start, left_for, spent_behind, spent_for, settled_for};
 
 use describe::{Banks, Dots};
 use shape::minus;
@@ -38,12 +38,12 @@ pub fn left_for(dots: Dots, left: Left, skipped: u64) -> Left
         return Left {
             integer: 0,
             float: 0,
-            integers_only: left.integers_only,
+            ..left
         };
     }
     let behind = behind_start(dots, left, skipped);
     if dots.integers_only {
-        return spend::with_mark(behind);
+        return behind.with_mark();
     }
     behind
 }
@@ -54,8 +54,7 @@ fn behind_start(dots: Dots, left: Left, skipped: u64) -> Left
     if dots.starts_even {
         return Left {
             integer: minus(left.integer, skipped),
-            float: left.float,
-            integers_only: left.integers_only,
+            ..left
         };
     }
     left
@@ -65,13 +64,9 @@ fn behind_start(dots: Dots, left: Left, skipped: u64) -> Left
 pub fn settled(dots: Dots, left: u64, skipped: u64, decision: Decision) -> Decision
     ensures { result ≡ settled_for dots left skipped decision }
 {
-    let way = decision.way;
-    let source = decision.source;
     Decision {
-        way,
-        source,
-        count: decision.count,
         spent: spent_for(dots, left, skipped, decision),
+        ..decision
     }
 }
 
@@ -79,7 +74,7 @@ fn spent_for(dots: Dots, left: u64, skipped: u64, decision: Decision) -> Spent
     ensures { result ≡ spent_for dots left skipped decision }
 {
     if dots.emptied {
-        return spend::nothing_spent();
+        return Spent::NOTHING;
     }
     if dots.starts_even {
         return spent_behind(left, skipped, decision);
@@ -91,28 +86,13 @@ fn spent_for(dots: Dots, left: u64, skipped: u64, decision: Decision) -> Spent
 fn spent_behind(left: u64, skipped: u64, decision: Decision) -> Spent
     ensures { result ≡ spent_behind left skipped decision }
 {
-    let way = decision.way;
-    if is_ignored(way) {
-        return spend::nothing_spent();
+    if decision.way == Way::Ignore {
+        return Spent::NOTHING;
     }
     let spent = decision.spent;
     let passed = shape::sum(skipped, spent.integers_passed);
     Spent {
         integers_passed: shape::least(passed, left),
-        integers_given: spent.integers_given,
-        floats_passed: spent.floats_passed,
-        floats_given: spent.floats_given,
-    }
-}
-
-fn is_ignored(way: Way) -> bool
-    ensures { result ≡ is_ignored way }
-{
-    match way {
-        Way::Ignore => true,
-        Way::Direct => false,
-        Way::Pieces => false,
-        Way::Reference => false,
-        Way::Memory => false,
+        ..spent
     }
 }

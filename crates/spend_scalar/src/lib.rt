@@ -11,8 +11,7 @@ ghost use Rattle.spend_scalar.specs.Spending.{scalar_argument, narrow_float, int
 
 use describe::{Banks, ReturnPointer, Scalars};
 use shape::{Scalar, minus};
-use slots::Source;
-use spend::{Decision, Left, Spent, Way};
+use spend::{Decision, Left, Spent, Wanted, Way};
 
 // A scalar argument: the first of the ten lines of REFERENCE 9.2 that applies. The kind is asked once: an integer has the lines 3, 5 and 8 to
 // 10, a float the lines 2 and 4 to 7.
@@ -50,7 +49,11 @@ fn float_argument(banks: Banks, scalars: Scalars, left: Left, s: Scalar) -> Deci
     // 4: integers-only
     if left.integers_only != spend::NO_MARK {
         let given = shape::least(spend::registers(s.size, banks.integer_width), left.integer);
-        return spend::pieces(spend::cut_slots(s.size, banks.integer_width), given, 0);
+        let spent = Spent {
+            integers_given: given,
+            ..Spent::NOTHING
+        };
+        return Decision::pieces(Wanted::cut(s.size, banks.integer_width), spent);
     }
     // 5: a shared bank
     if banks.shared {
@@ -69,7 +72,11 @@ fn narrow_float(scalars: Scalars, left: Left, size: u64, width: u64) -> Decision
     ensures { result ≡ narrow_float scalars left (want_of size width) }
 {
     if left.float > 0 {
-        return floats(1);
+        let spent = Spent {
+            floats_given: 1,
+            ..Spent::NOTHING
+        };
+        return Decision::plain(Way::Direct, spent);
     }
     if scalars.float_falls_to_integers {
         return taking(spend::registers(size, width), left.integer);
@@ -121,7 +128,8 @@ pub fn scalar_return(scalars: Scalars, pointer: ReturnPointer, left: Left, s: Sc
         return direct(0, 0);
     }
     if (s.kind == shape::INTEGER) & (scalars.wide_integer_returns_in != shape::INTEGER) {
-        return spend::pieces(spend::one_slot(scalars.wide_integer_returns_in, 0, 1), 0, 0);
+        let one = Wanted::one(scalars.wide_integer_returns_in, 0, 1);
+        return Decision::pieces(one, Spent::NOTHING);
     }
     spend::by_pointer(pointer, left.integer)
 }
@@ -136,21 +144,10 @@ fn taking(want: u64, left: u64) -> Decision
 fn direct(passed: u64, given: u64) -> Decision
     ensures { result ≡ plain Way.Direct (spends passed given 0 0) }
 {
-    spend::integers(Way::Direct, passed, given)
-}
-
-fn floats(given: u64) -> Decision
-    ensures { result ≡ plain Way.Direct (spends 0 0 0 given) }
-{
-    Decision {
-        way: Way::Direct,
-        source: Source::Empty,
-        count: 0,
-        spent: Spent {
-            integers_passed: 0,
-            integers_given: 0,
-            floats_passed: 0,
-            floats_given: given,
-        },
-    }
+    let spent = Spent {
+        integers_passed: passed,
+        integers_given: given,
+        ..Spent::NOTHING
+    };
+    Decision::plain(Way::Direct, spent)
 }
