@@ -266,40 +266,34 @@ pub fn scalar_at(words: &[u64], at: usize) -> Scalar
 pub fn least(a: u64, b: u64) -> u64
     ensures { result ≡ min a b }
 {
-    if a < b { a } else { b }
+    a.min(b)
 }
 
 pub fn most(a: u64, b: u64) -> u64
     ensures { result ≡ max a b }
 {
-    if a < b { b } else { a }
+    a.max(b)
 }
 
 // What is left of `a` without `b`: 0 where `b` is more.
 pub fn minus(a: u64, b: u64) -> u64
     ensures { result ≡ a - b }
 {
-    if a < b { 0 } else { a - b }
+    a.saturating_sub(b)
 }
 
 // A sum, or the largest number where it passes 64 bits.
 pub fn sum(a: u64, b: u64) -> u64
     ensures { result ≡ plus a b }
 {
-    a + least(b, MOST_WORD - a)
+    a.saturating_add(b)
 }
 
 // A product, or the largest number where it passes 64 bits.
 pub fn product(a: u64, b: u64) -> u64
     ensures { result ≡ times a b }
 {
-    if b == 0 {
-        return 0;
-    }
-    if a > MOST_WORD / b {
-        return MOST_WORD;
-    }
-    a * b
+    a.saturating_mul(b)
 }
 
 // The next multiple of `a`, where 0 counts as 1, or the largest number where that passes 64 bits.
@@ -318,12 +312,12 @@ pub fn round_up(n: u64, a: u64) -> u64
 pub fn one_if(b: bool) -> u64
     ensures { (result ≡ one_if b) × (result ≤ 1) }
 {
-    if b { 1 } else { 0 }
+    u64::from(b)
 }
 
 // A byte as a word.
 pub fn wide(byte: u8) -> u64
     ensures { (result ≡ byte) × (result < 256) }
 {
-    byte as u64
+    u64::from(byte)
 }
