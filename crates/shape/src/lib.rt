@@ -66,7 +66,7 @@ pub const SCALAR: usize = 3;
 pub const PIECE: usize = 4;
 
 // What a scalar is, as numbers that anyone may hand in: a kind above 4 is refused, not impossible.
-#[derive(Clone, Copy)]
+#[derive(Clone, Copy, Debug, Default, PartialEq, Eq)]
 pub struct Scalar {
     pub kind: u64,
     pub size: u64,
@@ -104,7 +104,7 @@ impl Scalar {
 }
 
 // One scalar inside an aggregate, at its offset.
-#[derive(Clone, Copy)]
+#[derive(Clone, Copy, Debug, Default, PartialEq, Eq)]
 pub struct Piece {
     pub kind: u64,
     pub size: u64,
@@ -194,28 +194,12 @@ impl<'a> Iterator for Pieces<'a> {
 pub fn piece_at(words: &[u64], at: usize) -> Piece
     ensures { result ≡ piece_at words.now at }
 {
-    let n = words.len();
-    if n < PIECE {
-        return Piece {
-            kind: 0,
-            size: 0,
-            align: 0,
-            offset: 0,
-        };
-    }
-    if at > n - PIECE {
-        return Piece {
-            kind: 0,
-            size: 0,
-            align: 0,
-            offset: 0,
-        };
-    }
-    Piece {
-        kind: words[at],
-        size: words[at + 1],
-        align: words[at + 2],
-        offset: words[at + 3],
+    let Some((_, rest)) = words.split_at_checked(at) else {
+        return Piece::default();
+    };
+    match each_piece(rest).next() {
+        Some(piece) => piece,
+        None => Piece::default(),
     }
 }
 

@@ -1,13 +1,15 @@
--- `piece_at` reads the four words of the piece at a place, or nothing where no whole piece is left.
-use Rattle.shape.proofs.Words.{read_piece, no_piece}
-use native.Mathlib.Omega.{arith}
+use Rattle.std.proofs.Common.{rules}
+use Rattle.shape.specs.Words.{first_piece, piece_at}
+use Rattle.shape.proofs.Words.{no_piece}
 use Rattle.shape.proofs.piece_at.Goals as goal
 
-pub returns-then-n-lt-PIECE : goal.returns-then-n-lt-PIECE
-returns-then-n-lt-PIECE c = no_piece _ _ (omega arith)
+pub returns-in_default : goal.returns-in_default
+returns-in_default c = search (no_piece, rules)
 
-pub returns-then-at-n : goal.returns-then-at-n
-returns-then-at-n c = no_piece _ _ (omega arith)
+pub returns-in-Some-next : goal.returns-in-Some-next
+unfolding first_piece piece_at
+returns-in-Some-next c = search (rules)
 
-pub returns : goal.returns
-returns c = read_piece _ _ (omega arith)
+pub returns-in-None : goal.returns-in-None
+unfolding first_piece piece_at
+returns-in-None c = search (rules)
