@@ -7,6 +7,7 @@ use native.Mathlib.Omega.{arith}
 use native.Mathlib.Nat.{zero-add}
 use native.Mathlib.Numerals.{add-one}
 use borrow.Author.Tests.{le-leb, lt-leb}
+use borrow.Rule.Slice.PartMut.{put_mid}
 use lib.Dec.{leb}
 use lib.ListN.{length, take, drop, set, length-append, length-drop, take-append-drop}
 use lib.Seq.{sets, sets-eq, length-take-le, take-append_seam, drop-append_seam, drop-append-add, drop-drop, take_at}
@@ -77,13 +78,19 @@ put_stores ws at [] h = sym (put_none ws at (omega arith))
 put_stores ws at (v ∷ vs) h =
     rw add-one at (stores_from_lem (set ws at v) at 1 vs) ∙ sets-eq (v ∷ vs) ws at h ∙ sym (put_fits ws at (v ∷ vs) h)
 
+-- one copy puts them there, too
+pub put_copied : (ws : List ℕ) (at : ℕ) (vs : List ℕ) → at + length vs ≤ length ws → (n : ℕ) → n ≡ length vs
+    → (new : List ℕ) → new ≡ vs → put_mid at n ws new ≡ put_at ws at vs
+put_copied ws at vs h n e new i = rw (put_fits ws at vs h, e, i, drop-drop (length vs) at ws, append_assoc)
+
 -- a writer that answers whether the words fitted
 module _ (ws : List ℕ) (at : ℕ) (vs : List ℕ) where
   pub fitted_not : length ws < at + length vs → (false ≡ leb (at + length vs) (length ws)) × (ws ≡ put_at ws at vs)
   fitted_not h = (sym (lt-leb _ _ h), put_short ws at vs h)
 
-  pub fitted : at + length vs ≤ length ws → (true ≡ leb (at + length vs) (length ws)) × (stores ws at vs ≡ put_at ws at vs)
-  fitted h = (sym (le-leb _ _ h), put_stores ws at vs h)
+  pub copied : at + length vs ≤ length ws → (n : ℕ) → n ≡ length vs → (new : List ℕ) → new ≡ vs
+      → (true ≡ leb (at + length vs) (length ws)) × (put_mid at n ws new ≡ put_at ws at vs)
+  copied h n e new i = (sym (le-leb _ _ h), put_copied ws at vs h n e new i)
 
 -- words put at the front stand there, and those behind them are as they were
 module _ (ws vs : List ℕ) (fits : length vs ≤ length ws) where

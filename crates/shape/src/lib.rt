@@ -207,17 +207,10 @@ pub fn piece_at(words: &[u64], at: usize) -> Piece
 pub fn put_piece(out: &mut [u64], at: usize, piece: Piece) -> bool
     ensures { (result ≡ leb (at + piece_size) (length out.old)) × (out.new ≡ put_at out.old at (piece_words piece)) }
 {
-    let n = out.len();
-    if n < PIECE {
+    if out.len() < PIECE || at > out.len() - PIECE {
         return false;
     }
-    if at > n - PIECE {
-        return false;
-    }
-    out[at] = piece.kind;
-    out[at + 1] = piece.size;
-    out[at + 2] = piece.align;
-    out[at + 3] = piece.offset;
+    out[at..at + PIECE].copy_from_slice(&[piece.kind, piece.size, piece.align, piece.offset]);
     true
 }
 
