@@ -79,8 +79,8 @@ within : (p : Piece) → piece_refusal p ≡ accepted → Within p
 within p e = (within_other p accepted accepted_other e).0
 
 -- so the sum of its offset and its size fits a word
-pub end_fits : (p : Piece) (r : ℕ) → r ≡ piece_refusal p → r ≡ accepted → p.offset + p.size < 2 ^ 64
-end_fits p r er z = let w = within p (rw er at z) in omega (arith, w.size≤, w.offset≤)
+pub end_fits : (p : Piece) → accepted ≡ piece_refusal p → p.offset + p.size < 2 ^ 64
+end_fits p e = let w = within p (sym e) in omega (arith, w.size≤, w.offset≤)
 
 -- the first of some accepted pieces is within the limits, and the rest is accepted
 pub within_first : (p : Piece) (ps : List Piece) → pieces_refusal (p ∷ ps) ≡ accepted → Within p × (pieces_refusal ps ≡ accepted)
