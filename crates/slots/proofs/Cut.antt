@@ -1,10 +1,11 @@
 -- The parts of a size, by index.
-use Prim.Native.Nat.{ℕ, zero, suc, ◌+◌, ◌-◌, ◌*◌, ◌/◌, ◌≤◌, ◌<◌, min, max}
+use Prim.Native.Nat.{ℕ, zero, suc, ◌+◌, ◌-◌, ◌*◌, ◌/◌, ◌%◌, ◌≤◌, ◌<◌, min, max}
 use mathlib.Core.Path.{◌≡◌, refl, ap, sym, ◌∙◌}
 use mathlib.Core.List.{List, ◌++◌}
 use native.Mathlib.Omega.{arith}
 use native.Mathlib.Numerals.{add-one}
-use native.Mathlib.Nat.{add-div_right, div-eq_of_lt, le-div_iff_mul-le, suc-mul}
+use native.Mathlib.Nat.{le-div_iff_mul-le, div-lt_iff_lt-mul, suc-mul}
+use Rattle.std.proofs.lemmas.Grind.{div_ceil_times}
 use lib.ListN.{length, length-append}
 use Rattle.slots.specs.declared.Slot.{Slot}
 use Rattle.shape.specs.Words.{put_at}
@@ -24,17 +25,13 @@ unfolding cut
 length_cut size width = length_up_to _ _
 
 -- what `parts` computes
-pub parts_none : (size width : ℕ) → size ≡ 0 → 0 ≡ length (cut size width)
-parts_none size width e =
-    let w : size + (max width 1 - 1) < max width 1 = omega arith in
-    rw length_cut (sym (div-eq_of_lt w))
-
-pub parts_some : (size width w : ℕ) → w ≡ max width 1 → (size ≡ 0 → ⊥) → (size - 1) / w + 1 ≡ length (cut size width)
-parts_some size width w e h =
+pub length_ceil : (size width w : ℕ) → w ≡ max width 1 → size / w + min 1 (size % w) ≡ length (cut size width)
+length_ceil size width w e =
     let p : 0 < w = omega arith in
-    let q : size + (w - 1) ≡ size - 1 + w = omega arith in
-    let r : (size - 1 + w) / w ≡ (size - 1) / w + 1 = add-div_right (size - 1) p in
-    rw (length_cut, ← e, q, r)
+    let t = div_ceil_times size w p in
+    let up : size / w + min 1 (size % w) ≤ (size + (w - 1)) / w = (le-div_iff_mul-le p).1 (omega arith) in
+    let down : (size + (w - 1)) / w < size / w + min 1 (size % w) + 1 = (div-lt_iff_lt-mul p).1 (omega arith) in
+    rw (length_cut, ← e) (omega arith)
 
 -- a part that is there starts inside
 pub part_inside : (size w i : ℕ) → 0 < w → i < ceil_div size w → i * w < size
@@ -77,8 +74,7 @@ pub cut_short : (size width count room : ℕ) (ws : List ℕ) → count ≡ leng
     → ws ≡ written (cut size width) ws
 cut_short size width count room ws e er h = written_short (cut size width) ws (omega arith)
 
-pub cut_next : (size w count room i at part : ℕ) (ws out out' : List ℕ) → room ≡ length ws / slot_size → count ≤ room → i < count
-    → at ≡ slot_size * i → out ≡ over (words_of (up_to i (part_of size w))) ws → part ≡ min (size - i * w) w
-    → out' ≡ put_at out at (slot_words (integer_slot (i * w) part)) → out' ≡ over (words_of (up_to (i + 1) (part_of size w))) ws
-cut_next size w count room i at part ws out out' er fits h ea eo ep e =
-    rw (e, ea, eo, ep) (run_next (part_of size w) i ws (omega arith))
+pub cut_next : (size w count room i part : ℕ) (ws out out' : List ℕ) → room ≡ length ws / slot_size → count ≤ room → i < count
+    → out ≡ over (words_of (up_to i (part_of size w))) ws → part ≡ min (size - i * w) w
+    → out' ≡ put_at out (slot_size * i) (slot_words (integer_slot (i * w) part)) → out' ≡ over (words_of (up_to (i + 1) (part_of size w))) ws
+cut_next size w count room i part ws out out' er fits h eo ep e = rw (e, eo, ep) (run_next (part_of size w) i ws (omega arith))

@@ -2,10 +2,10 @@
 -- slot has.
 use Prim.Native.Nat.{ℕ, ◌+◌, ◌*◌, ◌/◌, ◌≤◌, ◌<◌}
 use mathlib.Core.Path.{◌≡◌, refl, ap, ◌∙◌}
-use mathlib.Core.List.{List, [], ◌∷◌, ◌++◌}
+use mathlib.Core.List.{List, [], ◌∷◌, ◌++◌, append_assoc}
 use native.Mathlib.Omega.{arith}
 use borrow.Author.Tests.{le-leb}
-use lib.ListN.{length, drop, length-append, length-drop}
+use lib.ListN.{length, take, drop, length-append, length-drop}
 use lib.Seq.{take-append_seam, drop-append-add, drop-drop}
 use Rattle.shape.specs.Words.{put_at}
 use Rattle.shape.proofs.Put.{put_fits, put_short, put_first}
@@ -25,6 +25,11 @@ put_next p vs ws h =
     let l : length (over p ws) ≡ length ws = length_over p ws (omega arith) in
     put_fits (over p ws) (length p) vs (omega arith)
     ∙ rw (take-append_seam, drop-append-add, drop-drop, length-append)
+
+-- a part of the buffer that was replaced by as many words
+pub put_part : (ws : List ℕ) (at : ℕ) (vs part : List ℕ) (n : ℕ) → part ≡ vs → n ≡ length vs → at + length vs ≤ length ws
+    → take at ws ++ (part ++ drop n (drop at ws)) ≡ put_at ws at vs
+put_part ws at vs part n e en h = rw (e, en, put_fits ws at vs h, append_assoc, drop-drop)
 
 -- slots in a row
 pub length_words : (ss : List Slot) → length (words_of ss) ≡ slot_size * length ss

@@ -34,12 +34,12 @@ impl Slot {
     }
 }
 
-// What a search inside a shape comes back with: how many slots it found and how many of them are floats, or nothing. The slots themselves
-// stand beside it.
-#[derive(Clone, Copy)]
-pub enum Found {
-    Slots { count: u64, floats: u64 },
-    Nothing,
+// What a search inside a shape found: how many slots, and how many of them are floats. The slots themselves stand beside it; a search that
+// found nothing answers None.
+#[derive(Clone, Copy, PartialEq, Eq)]
+pub struct Found {
+    pub count: u64,
+    pub floats: u64,
 }
 
 // Where the slots of a value that travels as Pieces stand: there are none, each piece of the shape is one, the classes of its eightbytes say
@@ -69,22 +69,18 @@ pub fn integer_slots(size: u64, width: u64, out: &mut [u64]) -> u64
     if count > room(out.len()) as u64 {
         return count;
     }
-    let mut at = 0;
-    let mut i = 0;
-    while i < count {
+    for i in 0..count {
         let offset = i * w;
         let part = shape::least(size - offset, w);
         put_slot(
             out,
-            at,
+            SLOT * i as usize,
             Slot {
                 kind: shape::INTEGER,
                 offset,
                 size: part,
             },
         );
-        at += SLOT;
-        i += 1;
     }
     count
 }
@@ -93,24 +89,15 @@ pub fn integer_slots(size: u64, width: u64, out: &mut [u64]) -> u64
 pub fn parts(size: u64, width: u64) -> u64
     ensures { result ≡ length (cut size width) }
 {
-    if size == 0 {
-        return 0;
-    }
-    (size - 1) / shape::most(width, 1) + 1
+    size.div_ceil(shape::most(width, 1))
 }
 
 // Writes a slot from a place of the buffer on, where it fits.
 pub fn put_slot(out: &mut [u64], at: usize, s: Slot)
     ensures { out.new ≡ put_at out.old at (slot_words s) }
 {
-    let n = out.len();
-    if n < SLOT {
+    if out.len().saturating_sub(at) < SLOT {
         return;
     }
-    if at > n - SLOT {
-        return;
-    }
-    out[at] = s.kind;
-    out[at + 1] = s.offset;
-    out[at + 2] = s.size;
+    out[at..at + SLOT].copy_from_slice(&[s.kind, s.offset, s.size]);
 }

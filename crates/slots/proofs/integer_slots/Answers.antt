@@ -1,5 +1,4 @@
 use Prim.Native.Nat.{◌<◌, ◌*◌}
-use mathlib.Core.Path.{refl}
 use Rattle.slots.proofs.Cut.{run_none, cut_inside, cut_done, cut_short, cut_next}
 use native.Mathlib.Omega.{arith}
 use Rattle.slots.proofs.integer_slots.Goals as goal
@@ -12,7 +11,7 @@ pub returns-then-count-room : goal.returns-then-count-room
 returns-then-count-room c = search (cut_short)
 
 pub loop-i-init : goal.loop-i-init
-loop-i-init c = (omega arith, omega arith, refl, run_none _ _)
+loop-i-init c = run_none _ _
 
 pub overflow_mul-offset : goal.overflow_mul-offset
 overflow_mul-offset c = omega (arith, inside c)
@@ -21,10 +20,7 @@ pub overflow_sub-size : goal.overflow_sub-size
 overflow_sub-size c = omega (arith, inside c)
 
 pub loop-i-preserved : goal.loop-i-preserved
-loop-i-preserved c = (omega arith, omega arith, omega arith, search (cut_next))
-
-pub shape_of-out : goal.shape_of-out
-shape_of-out c = omega arith
+loop-i-preserved c = search (cut_next)
 
 pub returns : goal.returns
 returns c = search (cut_done)
