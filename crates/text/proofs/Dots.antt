@@ -1,57 +1,52 @@
 -- A text up to its first dot: where a search for that stands, and what is appended of it.
 use Prim.Native.Nat.{ℕ, ◌+◌, ◌-◌, ◌≤◌, ◌<◌}
-use mathlib.Core.Path.{◌≡◌, refl, ap, sym, ◌∙◌}
+use mathlib.Core.Path.{◌≡◌, refl, ap, sym}
 use mathlib.Core.List.{List, [], ◌∷◌, ◌++◌, append-nil}
 use mathlib.Core.Bool.{Bool, true, false, cond}
 use native.Mathlib.Omega.{arith}
-use native.Mathlib.Numerals.{add-one}
-use borrow.Author.Tests.{eq-eqb, ne_eqb}
-use lib.Dec.{leb, eqb}
-use lib.ListN.{length, take, drop, get_or, length-drop, take-append-drop, drop_of_length-le}
-use lib.Seq.{drop-cons}
+use lib.Dec.{leb, ltb, eqb}
+use lib.ListN.{length, take, drop, length-drop, take-append-drop, drop_of_length-le}
+use Rattle.std.specs.Prelude.{Some, None, position}
+use Rattle.std.specs.List.{position_or_len}
+use Rattle.std.specs.Option.{unwrap_or}
+use Rattle.std.proofs.lemmas.List.Sums.{prefix_len-le-length}
+use Rattle.std.proofs.lemmas.List.Recursion.{is_position_or_len}
+use Rattle.std.proofs.lemmas.Bool.Decides.{nat_tests}
 use Rattle.shape.specs.Words.{pick_words, put_at}
 use Rattle.text.specs.Text.{dot, up_to_dot, end_from, append_end}
 
 -- ---- the search
 
-module _ (bs : List ℕ) (i : ℕ) where
-  ends_here : up_to_dot (drop i bs) ≡ [] → i ≡ end_from bs i
-  unfolding end_from
-  ends_here e = let n : length (up_to_dot (drop i bs)) ≡ 0 = ap length e in omega arith
-
-  at_dot : i < length bs → get_or bs i 0 ≡ dot → up_to_dot (drop i bs) ≡ []
-  unfolding up_to_dot
-  at_dot h e = rw (drop-cons bs i 0 h, eq-eqb (get_or bs i 0) dot e)
-
-  at_end : length bs ≤ i → up_to_dot (drop i bs) ≡ []
-  unfolding up_to_dot
-  at_end h = rw (drop_of_length-le bs h)
-
-  one_further : i < length bs → (get_or bs i 0 ≡ dot → ⊥) → end_from bs i ≡ end_from bs (i + 1)
-  unfolding end_from up_to_dot
-  one_further h n = rw (drop-cons bs i 0 h, ne_eqb (get_or bs i 0) dot n, add-one) (omega arith)
-
-  -- the whole search, from where it began
-  module _ (start : ℕ) (so : end_from bs start ≡ end_from bs i) where
-    pub end_dot : i < length bs → get_or bs i 0 ≡ dot → i ≡ end_from bs start
-    end_dot h e = ends_here (at_dot h e) ∙ sym so
-
-    pub end_last : length bs ≤ i → i ≡ end_from bs start
-    end_last h = ends_here (at_end h) ∙ sym so
-
-    pub end_next : i < length bs → (get_or bs i 0 ≡ dot → ⊥) → end_from bs start ≡ end_from bs (i + 1)
-    end_next h n = so ∙ one_further h n
-
--- ---- where it ends
+up_to_first : (bs : List ℕ) → length (up_to_dot bs) ≡ position_or_len (λ b. eqb b dot) bs
+unfolding up_to_dot
+up_to_first = is_position_or_len (λ bs. length (up_to_dot bs)) (λ b. eqb b dot) refl (λ b bs. by (eqb b dot) b bs)
+  where
+    by : (c : Bool) (b : ℕ) (bs : List ℕ) → length (cond c [] (b ∷ up_to_dot bs)) ≡ cond c 0 (1 + length (up_to_dot bs))
+    by true b bs = refl
+    by false b bs = omega arith
 
 up_to_within : (bs : List ℕ) → length (up_to_dot bs) ≤ length bs
+up_to_within bs = rw (up_to_first bs) (prefix_len-le-length _ bs)
+
+at_end : (bs : List ℕ) (i : ℕ) → length bs ≤ i → up_to_dot (drop i bs) ≡ []
 unfolding up_to_dot
-up_to_within [] = omega arith
-up_to_within (b ∷ bs) = by (eqb b dot) (up_to_within bs)
-  where
-    by : (c : Bool) → length (up_to_dot bs) ≤ length bs → length (cond c [] (b ∷ up_to_dot bs)) ≤ length (b ∷ bs)
-    by true h = omega arith
-    by false h = omega arith
+at_end bs i h = rw (drop_of_length-le bs h)
+
+module _ (bs : List ℕ) (start : ℕ) where
+  -- no text starts behind the last
+  pub end_nowhere : length bs < start → start ≡ end_from bs start
+  unfolding end_from
+  end_nowhere h = rw (at_end bs start (omega arith)) (omega arith)
+
+  pub end_found : (text : List ℕ) (r : ℕ) → text ≡ drop start bs → r ≡ unwrap_or (position (λ b. eqb b dot) text) (length text)
+      → start + r ≡ end_from bs start
+  unfolding end_from
+  end_found text r e f = rw (f, up_to_first, e) (by (position_or_len (λ b. eqb b dot) (drop start bs)) (length (drop start bs)) (rw (up_to_first (drop start bs)) at (up_to_within (drop start bs))))
+    where
+      by : (n m : ℕ) → n ≤ m → start + unwrap_or (cond (ltb n m) (Some n) None) m ≡ start + n
+      by n m h = grind (arith, nat_tests)
+
+-- ---- where it ends
 
 module _ (bs : List ℕ) (start end : ℕ) (e : end ≡ end_from bs start) where
   pub end_behind : start ≤ end
@@ -90,7 +85,6 @@ module _ (bs : List ℕ) (start end : ℕ) (e : end ≡ end_from bs start) where
     pub part_appended : (after : List ℕ) → after ≡ put_at out at (take (end - start) (drop start bs)) → after ≡ put_at out at (up_to_dot (drop start bs))
     part_appended after h = rw part at h
 
--- no text starts behind the last
 module _ (out : List ℕ) (at : ℕ) where
   none_by : (b : Bool) → (at ≡ cond b (at + 0) at) × (out ≡ pick_words b (take at out ++ [] ++ drop (at + 0) out) out)
   none_by true =

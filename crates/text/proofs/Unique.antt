@@ -2,6 +2,7 @@
 use mathlib.Core.Path.{sym, ◌∙◌}
 use contract.Lifetimes.{Lfts}
 use Rattle.shape.proofs.OneAnswer.{OneAnswer, OneExit}
+use Rattle.text.proofs.Copy.{told_decides}
 use Rattle.text.proofs.put.Reads as put
 use Rattle.text.proofs.append.Reads as append
 use Rattle.text.proofs.append_up_to_dot.Reads as append_up_to_dot
@@ -9,7 +10,7 @@ use Rattle.text.proofs.end_of.Reads as end_of_lem
 use Rattle.text.proofs.append_number.Reads as append_number
 
 put_decides : (κs : Lfts 2) → OneAnswer (put.Post κs)
-put_decides κs a r q s t p p' = p.0 ∙ sym p'.0
+put_decides κs a r q s t p p' = told_decides r q (p.0 ∙ sym p'.0)
 
 put_bytes : (κs : Lfts 2) → OneExit (put.Post κs) (λ s. s.1.0.now)
 put_bytes κs a r q s t p p' = p.1 ∙ sym p'.1

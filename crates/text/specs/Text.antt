@@ -1,18 +1,29 @@
 -- Texts as bytes, and what writing one into a buffer answers and leaves (REFERENCE 3, 5.5, 6.4).
-use Rattle.std.specs.Prelude.{ℕ, ◌+◌, ◌≤◌, ◌≡◌, List, [], ◌∷◌, cond, leb, eqb, length, drop}
+use Rattle.std.specs.Prelude.{ℕ, Ok, Err, Result, ◌+◌, ◌≤◌, ◌≡◌, List, [], ◌∷◌, cond, leb, eqb, length, drop}
 use Prim.Native.Char.{code}
 use Prim.Native.String.{String, [] as ends, ◌∷◌ as ◌then◌}
 use Rattle.shape.specs.Numbers.{accepted, no_room}
 use Rattle.shape.specs.Words.{put_at}
-use Rattle.text.specs.declared.Written.{Written}
+use Rattle.shape.specs.declared.refusals.Refusal.{Refusal}
+use Rattle.shape.specs.Refusals.{number_of}
 
 -- the bytes of a text of ASCII characters
 abbrev pub bytes : String → List ℕ
 bytes ends = []
 bytes (c then s) = code c ∷ bytes s
 
+-- a refusal's number, or 0 and how many bytes were written
+pub record Written : Type 0 where
+  pub refusal : ℕ
+  pub length : ℕ
+
 abbrev pub wrote : ℕ → ℕ → Written
 wrote refusal count = record { refusal = refusal; length = count }
+
+-- what the code's answer tells
+abbrev pub told : Result ℕ Refusal → Written
+told (Ok count) = wrote accepted count
+told (Err r) = wrote (number_of r) 0
 
 -- the number of bytes, or NO_ROOM where they don't all fit
 unfoldable pub put_answer : List ℕ → ℕ → Written

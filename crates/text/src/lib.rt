@@ -1,10 +1,12 @@
 // Bytes of text, written into a lent buffer: the one way that names leave (REFERENCE 5.5, 6.4), and that programs make their lines.
 #![tactic(auto)]
 
-ghost use Rattle.std.specs.Prelude.{◌≡◌, [], ◌∷◌, ◌+◌, ◌<◌, ◌≤◌, length, drop};
-ghost use Rattle.text.specs.Text.{put_answer, put_written, append_end, up_to_dot, end_from, Put};
+ghost use Rattle.std.specs.Prelude.{◌≡◌, [], ◌∷◌, ◌+◌, ◌<◌, ◌≤◌, length, drop, position, ◌==◌};
+ghost use Rattle.text.specs.Text.{told, put_answer, put_written, append_end, up_to_dot, end_from, dot, Put};
 ghost use Rattle.text.specs.Numbers.{decimal, decimal_in, digit_of, most_digits, number_end, number_written};
 ghost use Rattle.shape.specs.Words.{put_at};
+
+use shape::Refusal;
 
 // The digits of the largest 64-bit number.
 const DIGITS: u64 = 20;
@@ -12,28 +14,14 @@ const DIGITS: u64 = 20;
 // The bytes of the longest number behind its mark.
 pub const MOST_PART: usize = 1 + DIGITS as usize;
 
-// A refusal, or how many bytes were written. Who has no name to write answers none for the number.
-#[derive(Clone, Copy)]
-pub struct Written {
-    pub refusal: u64,
-    pub length: u64,
-}
-
-// The bytes go to the front of `out`, where they all fit. A refusal writes nothing.
-pub fn put(bytes: &[u8], out: &mut [u8]) -> Written
-    ensures { (result ≡ put_answer bytes.now (length out.old)) × (out.new ≡ put_written bytes.now out.old) }
+// The bytes go to the front of `out`, where they all fit; how many they are. A refusal writes nothing.
+pub fn put(bytes: &[u8], out: &mut [u8]) -> Result<usize, Refusal>
+    ensures { (told result ≡ put_answer bytes.now (length out.old)) × (out.new ≡ put_written bytes.now out.old) }
 {
     if bytes.len() > out.len() {
-        return Written {
-            refusal: shape::NO_ROOM,
-            length: 0,
-        };
+        return Err(Refusal::NoRoom);
     }
-    append(out, 0, bytes);
-    Written {
-        refusal: shape::ACCEPTED,
-        length: bytes.len() as u64,
-    }
+    Ok(append(out, 0, bytes))
 }
 
 // The bytes go to a place of `out`, where they all fit behind it; the place behind them. What doesn't fit is left out whole.
@@ -46,12 +34,9 @@ pub fn append(out: &mut [u8], at: usize, bytes: &[u8]) -> usize
     if bytes.len() > out.len() - at {
         return at;
     }
-    let mut i = 0;
-    while i < bytes.len() {
-        out[at + i] = bytes[i];
-        i += 1;
-    }
-    at + bytes.len()
+    let end = at + bytes.len();
+    out[at..end].copy_from_slice(bytes);
+    end
 }
 
 // Texts of unlike lengths can stand in one, each filled up with dots: the one that starts at a place goes to a place of `out`, up to its first
@@ -70,14 +55,16 @@ pub fn append_up_to_dot(out: &mut [u8], at: usize, texts: &[u8], start: usize) -
 pub fn end_of(texts: &[u8], start: usize) -> usize
     ensures { result ≡ end_from texts.now start }
 {
-    let mut end = start;
-    while end < texts.len() {
-        if texts[end] == b'.' {
-            return end;
-        }
-        end += 1;
-    }
-    end
+    let Some(text) = texts.get(start..) else {
+        return start;
+    };
+    start + first_dot(text).unwrap_or(text.len())
+}
+
+fn first_dot(text: &[u8]) -> Option<usize>
+    ensures { result ≡ position (λ b. b == dot) text.now }
+{
+    text.iter().position(|b| *b == b'.')
 }
 
 // A number goes to a place of `out`, in decimal digits behind a mark; the place behind them. It is left out where the longest number wouldn't fit,

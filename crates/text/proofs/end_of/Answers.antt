@@ -1,15 +1,14 @@
-use mathlib.Core.Path.{refl}
-use Rattle.text.proofs.Dots.{end_dot, end_next, end_last}
+-- `end_of` answers where the next dot stands.
+use mathlib.Core.Path.{◌∙◌}
+use native.Mathlib.Omega.{arith}
+use Rattle.std.proofs.lemmas.Slice.{between_to_end}
+use Rattle.text.proofs.Dots.{end_nowhere, end_found}
 use Rattle.text.proofs.end_of.Goals as goal
 
-pub loop-end-init : goal.loop-end-init
-loop-end-init c = refl
-
-pub returns-then-texts-end-eq46 : goal.returns-then-texts-end-eq46
-returns-then-texts-end-eq46 c = search (end_dot)
-
-pub loop-end-preserved : goal.loop-end-preserved
-loop-end-preserved c = search (end_next)
+pub returns-in_default : goal.returns-in_default
+returns-in_default c = end_nowhere _ _ (grind arith)
 
 pub returns : goal.returns
-returns c = search (end_last)
+returns c =
+    let behind = c.in-Some.ensures.lookup.0.2 ∙ between_to_end c.args.texts.now c.args.start _ (omega arith) in
+    end_found _ _ _ _ behind (rw c.first_dot.ensures at c.unwrap_or.ensures)
