@@ -145,6 +145,7 @@ pub enum Arg {
 }
 
 // Whether some words hold a piece and every piece is of this kind.
+#[tactic(auto, using(crate::proofs::Questions::all_where_any, crate::proofs::Questions::not_all_none), unfolding(crate::specs::Questions::all_of))]
 pub fn is_all_of(words: &[u64], kind: u64) -> bool
     ensures { result ≡ is_all_of kind (pieces_of words.now) }
 {
@@ -191,6 +192,7 @@ impl<'a> Iterator for Pieces<'a> {
 }
 
 // The piece that starts at a place of the words: all zeros where no whole piece is left there.
+#[tactic(auto, using(crate::proofs::Words::no_piece), unfolding(crate::specs::Words::first_piece, crate::specs::Words::piece_at))]
 pub fn piece_at(words: &[u64], at: usize) -> Piece
     ensures { result ≡ piece_at words.now at }
 {
@@ -207,7 +209,7 @@ pub fn piece_at(words: &[u64], at: usize) -> Piece
 pub fn put_piece(out: &mut [u64], at: usize, piece: Piece) -> bool
     ensures { (result ≡ leb (at + piece_size) (length out.old)) × (out.new ≡ put_at out.old at (piece_words piece)) }
 {
-    if out.len() < PIECE || at > out.len() - PIECE {
+    if out.len().saturating_sub(at) < PIECE {
         return false;
     }
     out[at..at + PIECE].copy_from_slice(&[piece.kind, piece.size, piece.align, piece.offset]);
@@ -274,6 +276,7 @@ pub fn product(a: u64, b: u64) -> u64
 }
 
 // The next multiple of `a`, where 0 counts as 1, or the largest number where that passes 64 bits.
+#[tactic(auto, using(crate::proofs::Rounding::over_less, crate::proofs::Rounding::rounds_exact, crate::proofs::Rounding::rounds_over))]
 pub fn round_up(n: u64, a: u64) -> u64
     ensures { result ≡ rounded n a }
 {
