@@ -27,7 +27,7 @@ use Rattle.spend.proofs.Given.{Ungiven, UngivenIf, another_way, either, travel_u
 use Rattle.spend_scalar.proofs.Given as lone
 use Rattle.after_dots.proofs.Given.{settled_ungiven}
 use Rattle.find.specs.Matches.{matches}
-use Rattle.stack_place.specs.declared.Placed.{Placed}
+use Rattle.stack_place.specs.Stacked.{Placed}
 use Rattle.classify.specs.declared.Call.{Call}
 use Rattle.classify.specs.declared.Answer.{Answer}
 use Rattle.classify.specs.Pass.{way_of}

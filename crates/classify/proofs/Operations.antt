@@ -48,7 +48,7 @@ use Rattle.after_dots.specs.AfterDots.{skipped_for, left_for, settled_for}
 use Rattle.find.specs.Matches.{no_classes}
 use Rattle.slot_writing.specs.Sources.{source_slots, scalar_slots}
 use Rattle.slot_writing.proofs.Writing.{nothing_written}
-use Rattle.stack_place.specs.declared.Placed.{Placed}
+use Rattle.stack_place.specs.Stacked.{Placed}
 use Rattle.stack_place.specs.Stacked.{behind}
 use Rattle.stack_place.proofs.Placing.{no_length}
 use Rattle.classify.specs.declared.Call.{Call}

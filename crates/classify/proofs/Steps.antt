@@ -35,7 +35,7 @@ use Rattle.spend.specs.declared.Way.TheVariants.{Ignore}
 use Rattle.spend.specs.Ways.{nothing, no_mark, with_mark, way_number, left_after}
 use Rattle.stack_align.specs.InMemory.{in_memory_by}
 use Rattle.stack_place.specs.declared.Area.{Area}
-use Rattle.stack_place.specs.declared.Placed.{Placed}
+use Rattle.stack_place.specs.Stacked.{Placed}
 use Rattle.stack_place.specs.Stacked.{most_stack, aggregate_bytes, is_held, aggregate_rounding, stands, nowhere, placed_of, return_placed, scalar_placed}
 use Rattle.stack_place.proofs.Placing.{held_none, place_none, place_capped}
 use Rattle.classify.specs.declared.Call.{Call}

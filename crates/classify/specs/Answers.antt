@@ -24,7 +24,7 @@ use Rattle.spend.specs.Ways as made
 use Rattle.spend.specs.Ways.{marked, way_number}
 use Rattle.stack_align.specs.InMemory.{in_memory}
 use Rattle.stack_place.specs.declared.Stacked.{Stacked}
-use Rattle.stack_place.specs.declared.Placed.{Placed}
+use Rattle.stack_place.specs.Stacked.{Placed}
 use Rattle.stack_place.specs.Stacked.{most_stack, stands}
 use Rattle.classify.specs.declared.Call.{Call}
 use Rattle.classify.specs.declared.Answer.{Answer}

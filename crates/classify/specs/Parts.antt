@@ -25,7 +25,7 @@ use Rattle.spend.specs.declared.Decision.{Decision}
 use Rattle.spend.specs.Ways.{with_mark, left_after}
 use Rattle.find.specs.Matches.{no_classes, classes_by}
 use Rattle.slot_writing.specs.Sources.{source_slots}
-use Rattle.stack_place.specs.declared.Placed.{Placed}
+use Rattle.stack_place.specs.Stacked.{Placed}
 use Rattle.classify.specs.declared.Call.{Call}
 use Rattle.classify.specs.declared.Answer.{Answer}
 use Rattle.classify.specs.declared.Decided.{Decided}

@@ -10,7 +10,7 @@ use Rattle.spend.specs.declared.Spent.{Spent}
 use Rattle.spend.specs.declared.Way.{Way}
 use Rattle.stack_align.specs.InMemory.{in_memory_by}
 use Rattle.stack_place.specs.declared.Area.{Area}
-use Rattle.stack_place.specs.declared.Placed.{Placed}
+use Rattle.stack_place.specs.Stacked.{Placed}
 use Rattle.stack_place.specs.Stacked.{return_bytes, scalar_bytes, aggregate_bytes, scalar_rounding, aggregate_rounding, rounding_of, length_of, behind}
 
 -- what placing reads of a description. No row's number is asked: a packed area is a field's, and banks that are emptied after the dots are the

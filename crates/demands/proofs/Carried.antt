@@ -30,7 +30,7 @@ use Rattle.spend.specs.declared.Way as ways
 use Rattle.spend.specs.declared.Decision.{Decision}
 use Rattle.spend.specs.Ways.{way_number, plain, nothing}
 use Rattle.spend.specs.Spending.{takes, want_of, memory}
-use Rattle.stack_place.specs.declared.Placed.{Placed}
+use Rattle.stack_place.specs.Stacked.{Placed}
 use Rattle.stack_place.specs.declared.Stacked.{Stacked}
 use Rattle.stack_place.specs.Stacked.{stands, behind}
 use Rattle.stack_place.proofs.Standing.{behind_accepted}

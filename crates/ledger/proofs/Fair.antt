@@ -13,7 +13,7 @@ use Rattle.slots.specs.declared.Slot.{Slot}
 use Rattle.describe.specs.Description.{Description}
 use Rattle.describe.specs.Dots.{as_fixed, dots_of}
 use Rattle.spend.specs.declared.Decision.{Decision}
-use Rattle.stack_place.specs.declared.Placed.{Placed}
+use Rattle.stack_place.specs.Stacked.{Placed}
 use Rattle.stack_place.specs.Stacked.{stands}
 use Rattle.stack_place.proofs.Standing.{Stands}
 use Rattle.classify.specs.declared.Call.{Call}

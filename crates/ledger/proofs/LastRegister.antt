@@ -24,7 +24,7 @@ use Rattle.abis.specs.Apart.{is_riscv_psabi}
 use Rattle.abis.proofs.Apart.{riscv_known, riscv_described}
 use Rattle.spend.specs.declared.Left.{Left}
 use Rattle.spend.specs.declared.Decision.{Decision}
-use Rattle.stack_place.specs.declared.Placed.{Placed}
+use Rattle.stack_place.specs.Stacked.{Placed}
 use Rattle.stack_place.specs.Stacked as places
 use Rattle.classify.specs.declared.Call.{Call}
 use Rattle.classify.specs.declared.Answer.{Answer}

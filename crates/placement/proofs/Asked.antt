@@ -28,7 +28,7 @@ use Rattle.spend.specs.declared.Decision.{Decision}
 use Rattle.spend.specs.Spending as rules
 use Rattle.spend.specs.Ways.{no_mark, spends, nothing}
 use Rattle.spend_scalar.specs.Spending as lone
-use Rattle.stack_place.specs.declared.Placed.{Placed}
+use Rattle.stack_place.specs.Stacked.{Placed}
 use Rattle.stack_place.specs.Stacked.{scalar_rest, behind}
 use Rattle.after_dots.specs.AfterDots.{skipped_for, settled_for}
 use Rattle.classify.specs.declared.Call.{Call}

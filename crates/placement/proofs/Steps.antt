@@ -19,7 +19,7 @@ use Rattle.abis.specs.Abis as abis
 use Rattle.abis.specs.Abis.{described}
 use Rattle.spend.specs.declared.Spent.{Spent}
 use Rattle.spend.specs.Ways.{spends, nothing}
-use Rattle.stack_place.specs.declared.Placed.{Placed}
+use Rattle.stack_place.specs.Stacked.{Placed}
 use Rattle.stack_place.specs.Stacked.{most_stack, scalar_rest, nowhere, without_room, from, behind}
 use Rattle.classify.specs.declared.Call.{Call}
 use Rattle.classify.specs.declared.Answer.{Answer}

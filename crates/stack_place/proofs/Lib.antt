@@ -1,3 +1,4 @@
 pub mod Placing
 pub mod Standing
+pub mod Told
 mod Unique

@@ -2,7 +2,7 @@
 use Prim.Native.Nat.{ℕ, ◌+◌, ◌*◌, ◌-◌, ◌≤◌, ◌<◌, min, max}
 use mathlib.Core.Path.{◌≡◌, refl, sym, subst, ◌∙◌}
 use mathlib.Core.Bool.{Bool, true, false, ◌&&◌, not, cond}
-use mathlib.Core.Logic.{⊎_elim}
+use mathlib.Core.Logic.{◌⊎◌, inl, inr, ⊎_elim}
 use native.Mathlib.Nat.{mul-le-mul_left}
 use native.Mathlib.Omega.{arith}
 use borrow.Author.Tests.{lt-ltb, le-ltb, eq-eqb, ne_eqb, eqb-true}
@@ -19,7 +19,7 @@ use Rattle.spend.specs.declared.Spent.{Spent}
 use Rattle.spend.specs.declared.Way.{Way}
 use Rattle.spend.specs.declared.Way.TheVariants.{Ignore, Direct, Pieces, Reference, Memory}
 use Rattle.stack_place.specs.declared.Area.{Area}
-use Rattle.stack_place.specs.declared.Placed.{Placed}
+use Rattle.stack_place.specs.Stacked.{Placed}
 use Rattle.stack_place.proofs.Standing.{length_least}
 use Rattle.stack_place.specs.Stacked.{most_stack, pointer_bytes, address_bytes, return_bytes, scalar_rest, scalar_bytes, slots_beyond, aggregate_bytes, is_held, value_rounding, wide_or, scalar_rounding, aggregate_rounding, rounding_of, in_words, length_of, stands, nowhere, without_room, behind, placed_of, return_placed, scalar_placed}
 
@@ -33,11 +33,9 @@ module _ (spent : Spent) (w : ℕ) where
   pointer_given h = rw (ne_eqb spent.integers_given 0 h)
 
   module _ (r : ℕ) (er : r ≡ pointer_bytes spent w) where
-    pub address_first : (pointer : ReturnPointer) → pointer ≡ FirstArgument → r ≡ address_bytes pointer spent w
-    address_first pointer e = rw e er
-
-    pub address_popped : (pointer : ReturnPointer) → pointer ≡ FirstArgumentPopped → r ≡ address_bytes pointer spent w
-    address_popped pointer e = rw e er
+    pub address_first : (pointer : ReturnPointer) → (pointer ≡ FirstArgument) ⊎ (pointer ≡ FirstArgumentPopped) → r ≡ address_bytes pointer spent w
+    address_first pointer (inl e) = rw e er
+    address_first pointer (inr e) = rw e er
 
     pub scalar_pointer : (way : Way) (size : ℕ) → way ≡ Reference → r ≡ scalar_bytes way spent size w
     scalar_pointer way size e = rw e er
@@ -60,11 +58,9 @@ module _ (spent : Spent) (w : ℕ) where
   aggregate_ignored way slots size e = rw e
 
   module _ (way : Way) (slots size : ℕ) (l : size ≤ most_word) where
-    pub aggregate_direct : way ≡ Direct → size ≡ min (aggregate_bytes way spent slots size w) most_word
-    aggregate_direct e = rw e (omega arith)
-
-    pub aggregate_memory : way ≡ Memory → size ≡ min (aggregate_bytes way spent slots size w) most_word
-    aggregate_memory e = rw e (omega arith)
+    pub aggregate_whole : (way ≡ Direct) ⊎ (way ≡ Memory) → size ≡ min (aggregate_bytes way spent slots size w) most_word
+    aggregate_whole (inl e) = rw e (omega arith)
+    aggregate_whole (inr e) = rw e (omega arith)
 
   module _ (size : ℕ) where
     pub rest_in_float : 0 < spent.floats_given → 0 ≡ scalar_rest spent size w
@@ -88,11 +84,9 @@ module _ (spent : Spent) (w : ℕ) where
           rest_left l h = rw (le-ltb _ _ f) (omega arith)
 
     module _ (way : Way) (r : ℕ) (er : r ≡ scalar_rest spent size w) where
-      pub scalar_direct : way ≡ Direct → r ≡ scalar_bytes way spent size w
-      scalar_direct e = rw e er
-
-      pub scalar_pieces : way ≡ Pieces → r ≡ scalar_bytes way spent size w
-      scalar_pieces e = rw e er
+      pub scalar_part : (way ≡ Direct) ⊎ (way ≡ Pieces) → r ≡ scalar_bytes way spent size w
+      scalar_part (inl e) = rw e er
+      scalar_part (inr e) = rw e er
 
 -- ---- what is held by registers
 

@@ -12,7 +12,7 @@ use Rattle.shape.specs.Numbers.{accepted, no_room}
 use Rattle.shape.specs.Arithmetic.{round_up}
 use Rattle.shape.proofs.Rounding.{round_least, round_bound}
 use Rattle.stack_place.specs.declared.Area.{Area}
-use Rattle.stack_place.specs.declared.Placed.{Placed}
+use Rattle.stack_place.specs.Stacked.{Placed}
 use Rattle.stack_place.specs.Stacked.{most_stack, rounding_of, is_packed, in_words, length_of, stands, nowhere, without_room, from, behind}
 
 pub record Stands (stack bytes rounding : ℕ) (p : Placed) : Type 0 where

@@ -1,9 +1,11 @@
 -- Where what isn't in registers stands (REFERENCE 9.9), line by line: how many bytes of a value go to the stack, what their offset is rounded to,
 -- and their place behind those of the operations before. It is said of the way that a value travels and of what it was given, whatever the call
 -- has left. w is the width of an integer register.
-use Rattle.std.specs.Prelude.{ℕ, ◌+◌, ◌*◌, ◌-◌, max, Bool, true, false, ◌&&◌, not, cond, eqb, ltb}
+use Rattle.std.specs.Prelude.{ℕ, ◌+◌, ◌*◌, ◌-◌, max, Bool, true, false, ◌&&◌, not, cond, eqb, ltb, Result, Ok, Err}
 use Rattle.shape.specs.declared.Scalar.{Scalar}
+use Rattle.shape.specs.declared.refusals.Refusal.{Refusal}
 use Rattle.shape.specs.Numbers.{accepted, no_room}
+use Rattle.shape.specs.Refusals.{number_of}
 use Rattle.shape.specs.Arithmetic.{round_up}
 use Rattle.describe.specs.declared.ReturnPointer.{ReturnPointer}
 use Rattle.describe.specs.declared.ReturnPointer.TheVariants.{FirstArgument, FirstArgumentPopped, Dedicated}
@@ -14,7 +16,7 @@ use Rattle.spend.specs.declared.Way.{Way}
 use Rattle.spend.specs.declared.Way.TheVariants.{Ignore, Direct, Pieces, Reference, Memory}
 use Rattle.stack_place.specs.declared.Area.{Area}
 use Rattle.stack_place.specs.declared.Stacked.{Stacked}
-use Rattle.stack_place.specs.declared.Placed.{Placed}
+use Rattle.stack_place.specs.declared.Place.{Place}
 
 -- the most bytes that a call's arguments take on the stack: 2^40
 abbrev pub most_stack : ℕ
@@ -124,6 +126,17 @@ length_of area bytes = cond (is_packed area.arguments && not area.dots) bytes (i
 
 abbrev pub stands : ℕ → ℕ → Stacked
 stands at bytes = record { at = at; bytes = bytes }
+
+-- a value's bytes, with the next offset; or NO_ROOM where that would pass the limit, with the offset as it was
+pub record Placed : Type 0 where
+  pub refusal : ℕ
+  pub stacked : Stacked
+  pub next : ℕ
+
+-- what the code answers, where the offset was this one
+abbrev pub told : ℕ → Result Place Refusal → Placed
+told stack (Ok place) = record { refusal = accepted; stacked = place.stacked; next = place.next }
+told stack (Err refusal) = record { refusal = number_of refusal; stacked = stands 0 0; next = stack }
 
 -- nothing goes there: no place, no length, and the offset stays as it is, unrounded
 abbrev pub nowhere : ℕ → Placed

@@ -3,12 +3,12 @@
 // left: the offset moves by what was decided, and decides nothing.
 #![tactic(auto)]
 
-ghost use Rattle.std.specs.Prelude.{◌≡◌, cond, min, max};
+ghost use Rattle.std.specs.Prelude.{◌≡◌, Ok, cond, min, max};
 ghost use Rattle.shape.specs.Numbers.{most_word};
 ghost use Rattle.stack_place.specs.Stacked as specs;
 
 use describe::{ReturnPointer, StackArgs};
-use shape::{Scalar, minus, most};
+use shape::{Refusal, Scalar, minus, most};
 use spend::{Spent, Way};
 
 // The most bytes that a call's arguments take on the stack.
@@ -37,47 +37,125 @@ pub struct Stacked {
     pub bytes: u64,
 }
 
-// A value's bytes, with the next offset; or NO_ROOM where that would pass the limit, with the offset as it was.
+// A value's bytes, with the next offset. Bytes that would pass the limit have no place: that is NoRoom, and the offset stays as it was.
 #[derive(Clone, Copy)]
-pub struct Placed {
-    pub refusal: u64,
+pub struct Place {
     pub stacked: Stacked,
     pub next: u64,
 }
 
-// What comes back: only the address of it may stand there.
-pub fn place_return(
-    area: Area,
-    stack: u64,
-    way: Way,
-    pointer: ReturnPointer,
-    spent: Spent,
-) -> Placed
-    ensures { result ≡ specs.return_placed area stack way pointer spent }
-{
-    let bytes = return_bytes(way, pointer, spent, area.width);
-    if bytes == 0 {
-        return nowhere(stack);
-    }
-    place(area, stack, bytes, area.width)
+impl Stacked {
+    pub const NOWHERE: Stacked = Stacked { at: 0, bytes: 0 };
 }
 
-// A scalar argument.
-pub fn place_scalar(area: Area, stack: u64, way: Way, spent: Spent, s: Scalar) -> Placed
-    ensures { result ≡ specs.scalar_placed area stack way spent s }
-{
-    let bytes = scalar_bytes(way, spent, s.size, area.width);
-    if bytes == 0 {
-        return nowhere(stack);
+impl Place {
+    // Nothing goes to the stack, and the offset stays.
+    pub fn nowhere(stack: u64) -> Place
+        ensures { specs.told stack (Ok result) ≡ specs.nowhere stack }
+    {
+        Place {
+            stacked: Stacked::NOWHERE,
+            next: stack,
+        }
     }
-    place(area, stack, bytes, scalar_rounding(way, area, s))
 }
 
-// An aggregate argument, which has so many bytes for the stack (`aggregate_bytes`) and this alignment in memory.
-pub fn place_aggregate(area: Area, stack: u64, way: Way, bytes: u64, align: u64) -> Placed
-    ensures { result ≡ specs.placed_of area stack bytes (specs.aggregate_rounding way area align) }
-{
-    place(area, stack, bytes, aggregate_rounding(way, area, align))
+impl Area {
+    // What comes back: only the address of it may stand there.
+    pub fn place_return(
+        self,
+        stack: u64,
+        way: Way,
+        pointer: ReturnPointer,
+        spent: Spent,
+    ) -> Result<Place, Refusal>
+        ensures { specs.told stack result ≡ specs.return_placed self stack way pointer spent }
+    {
+        let bytes = return_bytes(way, pointer, spent, self.width);
+        if bytes == 0 {
+            return Ok(Place::nowhere(stack));
+        }
+        self.place(stack, bytes, self.width)
+    }
+
+    // A scalar argument.
+    pub fn place_scalar(
+        self,
+        stack: u64,
+        way: Way,
+        spent: Spent,
+        s: Scalar,
+    ) -> Result<Place, Refusal>
+        ensures { specs.told stack result ≡ specs.scalar_placed self stack way spent s }
+    {
+        let bytes = scalar_bytes(way, spent, s.size, self.width);
+        if bytes == 0 {
+            return Ok(Place::nowhere(stack));
+        }
+        self.place(stack, bytes, self.scalar_rounding(way, s))
+    }
+
+    // An aggregate argument, which has so many bytes for the stack (`aggregate_bytes`) and this alignment in memory.
+    pub fn place_aggregate(
+        self,
+        stack: u64,
+        way: Way,
+        bytes: u64,
+        align: u64,
+    ) -> Result<Place, Refusal>
+        ensures { specs.told stack result ≡ specs.placed_of self stack bytes (specs.aggregate_rounding way self align) }
+    {
+        self.place(stack, bytes, self.aggregate_rounding(way, align))
+    }
+
+    // ---- what the offset is rounded to
+
+    fn scalar_rounding(self, way: Way, s: Scalar) -> u64
+        ensures { result ≡ specs.scalar_rounding way self s }
+    {
+        match self.arguments {
+            StackArgs::RegisterSized => {
+                value_rounding(way, self.width, wide_or(s.align, self.width))
+            }
+            StackArgs::Packed => value_rounding(way, self.width, wide_or(s.align, s.size)),
+        }
+    }
+
+    fn aggregate_rounding(self, way: Way, align: u64) -> u64
+        ensures { result ≡ specs.aggregate_rounding way self align }
+    {
+        match self.arguments {
+            StackArgs::RegisterSized => value_rounding(way, self.width, most(align, self.width)),
+            StackArgs::Packed => value_rounding(way, self.width, align),
+        }
+    }
+
+    fn rounding(self, rounding: u64) -> u64
+        ensures { result ≡ specs.rounding_of self rounding }
+    {
+        if self.dots {
+            return most(most(rounding, LEAST_AFTER_DOTS), 1);
+        }
+        most(rounding, 1)
+    }
+
+    // ---- how long it is there, and its place
+
+    fn place(self, stack: u64, bytes: u64, rounding: u64) -> Result<Place, Refusal>
+        ensures { specs.told stack result ≡ specs.placed_of self stack bytes rounding }
+    {
+        put_behind(stack, self.length(bytes), self.rounding(rounding))
+    }
+
+    // In words, but for a packed area; the largest number where that passes 64 bits.
+    fn length(self, bytes: u64) -> u64
+        ensures { result ≡ min (specs.length_of self bytes) most_word }
+    {
+        match self.arguments {
+            StackArgs::RegisterSized => shape::round_up(bytes, self.width),
+            StackArgs::Packed => packed_length(self.dots, bytes, self.width),
+        }
+    }
 }
 
 // Whether the registers that an aggregate was given hold it, or its address: then it has no bytes for the stack. It is asked before these are counted
@@ -87,10 +165,9 @@ pub fn is_held(way: Way, spent: Spent, slots: u64) -> bool
 {
     match way {
         Way::Ignore => true,
-        Way::Direct => false,
+        Way::Direct | Way::Memory => false,
         Way::Pieces => beyond(spent, slots) == 0,
         Way::Reference => spent.integers_given != 0,
-        Way::Memory => false,
     }
 }
 
@@ -100,11 +177,8 @@ fn return_bytes(way: Way, pointer: ReturnPointer, spent: Spent, width: u64) -> u
     ensures { result ≡ specs.return_bytes way pointer spent width }
 {
     match way {
-        Way::Ignore => 0,
-        Way::Direct => 0,
-        Way::Pieces => 0,
         Way::Reference => address_bytes(pointer, spent, width),
-        Way::Memory => 0,
+        Way::Ignore | Way::Direct | Way::Pieces | Way::Memory => 0,
     }
 }
 
@@ -113,8 +187,9 @@ fn address_bytes(pointer: ReturnPointer, spent: Spent, width: u64) -> u64
 {
     match pointer {
         ReturnPointer::Dedicated => 0,
-        ReturnPointer::FirstArgument => pointer_bytes(spent, width),
-        ReturnPointer::FirstArgumentPopped => pointer_bytes(spent, width),
+        ReturnPointer::FirstArgument | ReturnPointer::FirstArgumentPopped => {
+            pointer_bytes(spent, width)
+        }
     }
 }
 
@@ -123,8 +198,7 @@ fn scalar_bytes(way: Way, spent: Spent, size: u64, width: u64) -> u64
 {
     match way {
         Way::Ignore => 0,
-        Way::Direct => scalar_rest(spent, size, width),
-        Way::Pieces => scalar_rest(spent, size, width),
+        Way::Direct | Way::Pieces => scalar_rest(spent, size, width),
         Way::Reference => pointer_bytes(spent, width),
         Way::Memory => size,
     }
@@ -136,10 +210,9 @@ pub fn aggregate_bytes(way: Way, spent: Spent, slots: u64, size: u64, width: u64
 {
     match way {
         Way::Ignore => 0,
-        Way::Direct => size,
+        Way::Direct | Way::Memory => size,
         Way::Pieces => shape::product(width, beyond(spent, slots)),
         Way::Reference => pointer_bytes(spent, width),
-        Way::Memory => size,
     }
 }
 
@@ -182,16 +255,6 @@ fn scalar_rest(spent: Spent, size: u64, width: u64) -> u64
 
 // ---- what the offset is rounded to
 
-fn scalar_rounding(way: Way, area: Area, s: Scalar) -> u64
-    ensures { result ≡ specs.scalar_rounding way area s }
-{
-    let arguments = area.arguments;
-    match arguments {
-        StackArgs::RegisterSized => value_rounding(way, area.width, wide_or(s.align, area.width)),
-        StackArgs::Packed => value_rounding(way, area.width, wide_or(s.align, s.size)),
-    }
-}
-
 // 16 where the alignment is 16, or else this. It is asked for each kind of area by itself: of one that isn't packed the compiler knows then that it
 // isn't 0.
 fn wide_or(align: u64, step: u64) -> u64
@@ -204,54 +267,13 @@ fn wide_or(align: u64, step: u64) -> u64
     }
 }
 
-fn aggregate_rounding(way: Way, area: Area, align: u64) -> u64
-    ensures { result ≡ specs.aggregate_rounding way area align }
-{
-    let arguments = area.arguments;
-    match arguments {
-        StackArgs::RegisterSized => value_rounding(way, area.width, most(align, area.width)),
-        StackArgs::Packed => value_rounding(way, area.width, align),
-    }
-}
-
 // That of a pointer, or the value's own.
 fn value_rounding(way: Way, width: u64, own: u64) -> u64
     ensures { result ≡ specs.value_rounding way width own }
 {
     match way {
-        Way::Ignore => own,
-        Way::Direct => own,
-        Way::Pieces => own,
         Way::Reference => width,
-        Way::Memory => own,
-    }
-}
-
-fn rounding_in(area: Area, rounding: u64) -> u64
-    ensures { result ≡ specs.rounding_of area rounding }
-{
-    if area.dots {
-        return most(most(rounding, LEAST_AFTER_DOTS), 1);
-    }
-    most(rounding, 1)
-}
-
-// ---- how long it is there, and its place
-
-fn place(area: Area, stack: u64, bytes: u64, rounding: u64) -> Placed
-    ensures { result ≡ specs.placed_of area stack bytes rounding }
-{
-    put_behind(stack, length_in(area, bytes), rounding_in(area, rounding))
-}
-
-// In words, but for a packed area; the largest number where that passes 64 bits.
-fn length_in(area: Area, bytes: u64) -> u64
-    ensures { result ≡ min (specs.length_of area bytes) most_word }
-{
-    let arguments = area.arguments;
-    match arguments {
-        StackArgs::RegisterSized => shape::round_up(bytes, area.width),
-        StackArgs::Packed => packed_length(area.dots, bytes, area.width),
+        Way::Ignore | Way::Direct | Way::Pieces | Way::Memory => own,
     }
 }
 
@@ -265,35 +287,19 @@ fn packed_length(dots: bool, bytes: u64, width: u64) -> u64
 }
 
 // Behind what stands there already. A sum that passes 64 bits passes the limit, too.
-fn put_behind(stack: u64, bytes: u64, rounding: u64) -> Placed
-    ensures { result ≡ specs.behind stack bytes (max rounding 1) }
+fn put_behind(stack: u64, bytes: u64, rounding: u64) -> Result<Place, Refusal>
+    ensures { specs.told stack result ≡ specs.behind stack bytes (max rounding 1) }
 {
     if bytes == 0 {
-        return nowhere(stack);
+        return Ok(Place::nowhere(stack));
     }
     let at = shape::round_up(stack, rounding);
     let next = shape::sum(at, bytes);
     if next > MOST_STACK {
-        return Placed {
-            refusal: shape::NO_ROOM,
-            stacked: Stacked { at: 0, bytes: 0 },
-            next: stack,
-        };
+        return Err(Refusal::NoRoom);
     }
-    Placed {
-        refusal: shape::ACCEPTED,
+    Ok(Place {
         stacked: Stacked { at, bytes },
         next,
-    }
-}
-
-// Nothing goes to the stack, and the offset stays.
-pub fn nowhere(stack: u64) -> Placed
-    ensures { result ≡ specs.nowhere stack }
-{
-    Placed {
-        refusal: shape::ACCEPTED,
-        stacked: Stacked { at: 0, bytes: 0 },
-        next: stack,
-    }
+    })
 }

@@ -1,6 +1,6 @@
--- `length_in` is the length within 64 bits.
+-- `length` is the length within 64 bits.
 use Rattle.stack_place.proofs.Placing.{length_words, length_packed}
-use Rattle.stack_place.proofs.length_in.Goals as goal
+use Rattle.stack_place.proofs.Area.length.Goals as goal
 
 pub returns-in-RegisterSized : goal.returns-in-RegisterSized
 returns-in-RegisterSized c = search (length_words)
