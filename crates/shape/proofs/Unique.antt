@@ -1,8 +1,10 @@
 -- No second answer, and no other words in a lent buffer, meet the promise of a public function.
 use mathlib.Core.Path.{sym, ◌∙◌}
 use contract.Lifetimes.{Lfts}
-use Rattle.shape.proofs.OneAnswer.{OneAnswer, OneExit}
+use Rattle.shape.specs.Words.{pieces_left}
+use Rattle.shape.proofs.OneAnswer.{OneAnswer, OneExit, OneShown}
 use Rattle.shape.proofs.is_all_of.Reads as is_all_of
+use Rattle.shape.proofs.each_piece.Reads as each_piece
 use Rattle.shape.proofs.piece_at.Reads as piece_at
 use Rattle.shape.proofs.put_piece.Reads as put_piece
 use Rattle.shape.proofs.scalar_at.Reads as scalar_at
@@ -19,9 +21,13 @@ use Rattle.shape.proofs.product.Reads as product
 use Rattle.shape.proofs.round_up.Reads as round_up
 use Rattle.shape.proofs.one_if.Reads as one_if
 use Rattle.shape.proofs.wide.Reads as wide
+use Rattle.shape.proofs.refusals.Refusal.number.Reads as refusal_number
 
 is_all_of_decides : (κs : Lfts 1) → OneAnswer (is_all_of.Post κs)
 is_all_of_decides κs a r q s t p p' = p ∙ sym p'
+
+each_piece_decides : (κs : Lfts 1) → OneShown (each_piece.Post κs) pieces_left
+each_piece_decides κs a r q s t p p' = p ∙ sym p'
 
 piece_at_decides : (κs : Lfts 1) → OneAnswer (piece_at.Post κs)
 piece_at_decides κs a r q s t p p' = p ∙ sym p'
@@ -73,3 +79,6 @@ one_if_decides κs a r q s t p p' = p.0 ∙ sym p'.0
 
 wide_decides : (κs : Lfts 0) → OneAnswer (wide.Post κs)
 wide_decides κs a r q s t p p' = p.0 ∙ sym p'.0
+
+refusal_number_decides : (κs : Lfts 0) → OneAnswer (refusal_number.Post κs)
+refusal_number_decides κs a r q s t p p' = p ∙ sym p'
