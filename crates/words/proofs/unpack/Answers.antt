@@ -1,27 +1,21 @@
-use mathlib.Core.Path.{refl}
 use native.Mathlib.Omega.{arith}
-use borrow.Author.Rules.{rules}
-use lib.ListN.{length-set}
-use Rattle.words.proofs.Unpacking.{unpack_next, unpack_last, unpack_full}
+use Rattle.std.proofs.lemmas.List.{set-get_or}
+use Rattle.words.proofs.Unpacking.{unpack_behind, unpack_within, unpack_next, unpack_last, unpack_full}
 use Rattle.words.proofs.unpack.Goals as goal
 
-pub loop-i-init : goal.loop-i-init
-loop-i-init c = (refl, omega arith, omega arith, refl, search rules)
+pub returns-in_default : goal.returns-in_default
+returns-in_default c =
+    let l = c.loop-word.invariant in
+    rw set-get_or (unpack_last _ _ _ _ _ l.0 l.2 l.1 (omega arith) (grind arith))
 
-pub shape_of-words-then-bytes-at-lt-WORD : goal.shape_of-words-then-bytes-at-lt-WORD
-shape_of-words-then-bytes-at-lt-WORD c = omega arith
-
-pub returns-then-bytes-at-lt-WORD : goal.returns-then-bytes-at-lt-WORD
-returns-then-bytes-at-lt-WORD c = search (unpack_last)
-
-pub offset_bounds-words-i : goal.offset_bounds-words-i
-offset_bounds-words-i c = omega arith
-
-pub loop-i-preserved : goal.loop-i-preserved
-loop-i-preserved c = (omega arith, omega arith, omega arith, simp length-set (omega arith), search (unpack_next))
-
-pub shape_of-words : goal.shape_of-words
-shape_of-words c = omega arith
+pub loop-word-preserved : goal.loop-word-preserved
+loop-word-preserved c =
+    let l = c.loop-word.invariant in
+    let s = c.in-Some.ensures.cases in (
+      unpack_behind _ _ _ _ _ l.0 l.2 l.1 _ s.1,
+      unpack_within _ _ _ _ _ l.0 l.2 l.1 _ s.2,
+      rw c.from_le_bytes.ensures (unpack_next _ _ _ _ _ l.0 l.2 l.1 (omega arith) (omega arith) _ s.2 _ s.0),
+    )
 
 pub returns : goal.returns
-returns c = search (unpack_full)
+returns c = let l = c.loop-word.invariant in unpack_full _ _ _ _ _ l.0 l.2 l.1 (omega arith) (omega arith) (omega arith)
