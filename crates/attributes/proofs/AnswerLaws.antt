@@ -6,24 +6,11 @@ use mathlib.Core.Bool.{Bool, true, false, not}
 use Rattle.shape.specs.Numbers.{accepted}
 use Rattle.text.specs.Text.{wrote}
 use Rattle.text.specs.declared.Written.{Written}
-use Rattle.targets.specs.Codes.{is_target, is_convention, architecture_of, system_of, convention_of, none_number, code_of}
-use Rattle.targets.specs.declared.codes.Architecture.{Architecture}
-use Rattle.targets.specs.declared.codes.System.{System}
+use Rattle.targets.specs.Codes.{is_convention, convention_of, none_number}
 use Rattle.targets.specs.declared.codes.Convention.{Convention}
 use Rattle.targets.proofs.CodeLaws.{known, unknown}
-use Rattle.attributes.specs.Attributes.{asked}
 use Rattle.attributes.specs.Spellings.{attribute, spelling_answer, spelling_written}
-use Rattle.attributes.specs.Answers.{asked_answer, attribute_answer, attribute_written}
-
-module _ (architecture system : ℕ) {t : Bool} (e : t ≡ is_target architecture system) where
-  pub asked_unknown : not t ≡ true → (msvc : Bool) (name : List ℕ) → none_number ≡ asked_answer architecture system msvc name
-  unfolding asked_answer
-  asked_unknown n msvc name = rw (unknown e n)
-
-  module _ (k : not t ≡ false) {a : Architecture} {s : System} (ea : a ≡ architecture_of architecture) (es : s ≡ system_of system) where
-    pub asked_known : (msvc : Bool) (name : List ℕ) {r : ℕ} → r ≡ code_of (asked a s name) → r ≡ asked_answer architecture system msvc name
-    unfolding asked_answer
-    asked_known msvc name h = rw (known e k, ← ea, ← es) h
+use Rattle.attributes.specs.Answers.{attribute_answer, attribute_written}
 
 module _ (convention : ℕ) {u : Bool} (e : u ≡ is_convention convention) where
   module _ (n : not u ≡ true) where

@@ -1,5 +1,4 @@
 pub mod NameLaws
-pub mod AskedLaws
 pub mod SpellingLaws
 pub mod AnswerLaws
 pub mod Answered

@@ -6,21 +6,21 @@ mod asking;
 mod spellings;
 
 ghost use Rattle.std.specs.Prelude.{◌≡◌, length};
-ghost use Rattle.attributes.specs.Answers.{asked_answer, attribute_answer, attribute_written};
+ghost use Rattle.targets.specs.Decoded.{optional};
+ghost use Rattle.attributes.specs.Answers.{convention_asked, code_asked, attribute_answer, attribute_written};
 
 pub use asking::by_name;
 pub use spellings::write_attribute;
-use targets::{NONE, architecture_of, convention_of, is_convention, is_target, system_of};
+use targets::{Architecture, NONE, System, convention_of, is_convention};
 use text::Written;
 
 // The code of the convention that an attribute's name asks for on a target. MSVC changes nothing here; a target is passed whole all the same.
-pub fn asked(architecture: u64, system: u64, msvc: bool, name: &[u8]) -> u64
-    ensures { result ≡ asked_answer architecture system msvc name.now }
+pub fn asked(architecture: u64, system: u64, msvc: bool, name: &[u8]) -> Option<u64>
+    ensures { result ≡ optional (code_asked (convention_asked architecture system msvc name.now)) }
 {
-    if !is_target(architecture, system) {
-        return NONE;
-    }
-    by_name(architecture_of(architecture), system_of(system), name)
+    let architecture = Architecture::try_from(architecture).ok()?;
+    let system = System::try_from(system).ok()?;
+    by_name(architecture, system, name)
 }
 
 // The name of the attribute that asks for a convention, written to the front of `out`.

@@ -1,4 +1,4 @@
--- What codes stand for: the decoders' last arms, and that a code and what it stands for decide each other.
+-- What codes stand for: that a code and what it stands for decide each other.
 use Prim.Native.Nat.{ℕ, zero, suc, ◌+◌, ◌-◌, ◌≤◌}
 use mathlib.Core.Path.{◌≡◌, refl, ap, sym, ◌∙◌}
 use mathlib.Core.Bool.{Bool, true, false, not}
@@ -6,9 +6,7 @@ use native.Mathlib.Omega.{arith}
 use borrow.Author.Tests.{leb-true, lt-leb, not-false, not-true}
 use lib.ListN.{get_or-eq_default}
 use Rattle.shape.proofs.Bools.{both_true}
-use Rattle.targets.specs.Codes.{is_convention, architectures, systems, conventions, architecture_of, system_of, convention_of, convention_code}
-use Rattle.targets.specs.declared.codes.Architecture.TheVariants.{Other as OtherArchitecture}
-use Rattle.targets.specs.declared.codes.System.TheVariants.{Other as OtherSystem}
+use Rattle.targets.specs.Codes.{is_convention, conventions, convention_of, convention_code}
 use Rattle.targets.specs.declared.codes.Convention.{Convention}
 use Rattle.targets.specs.declared.codes.Convention.TheVariants.{Target, Ms, Sysv, Stdcall, Fastcall, Regparm, NoCalleeSaved, PreserveNone}
 
@@ -18,14 +16,6 @@ known e t = sym e ∙ not-false _ t
 
 pub unknown : {b r : Bool} → r ≡ b → not r ≡ true → b ≡ false
 unknown e t = sym e ∙ not-true _ t
-
-pub other_architecture : (code : ℕ) → 4 ≤ code → OtherArchitecture ≡ architecture_of code
-unfolding architecture_of
-other_architecture code h = sym (get_or-eq_default architectures OtherArchitecture h)
-
-pub other_system : (code : ℕ) → 3 ≤ code → OtherSystem ≡ system_of code
-unfolding system_of
-other_system code h = sym (get_or-eq_default systems OtherSystem h)
 
 -- above the named conventions there is regparm alone
 module _ (code : ℕ) (above : 7 ≤ code) where

@@ -1,3 +1,4 @@
 pub mod Codes
+pub mod Decoded
 pub mod Followed
 pub mod Answers

@@ -1,11 +1,15 @@
 // The codes of architectures, systems and conventions, and what each stands for (REFERENCE 6.1).
 ghost use Rattle.std.specs.Prelude.{◌≡◌};
 ghost use Rattle.targets.specs.Codes.{is_target, is_convention, architecture_of, system_of, convention_of, is_windows, is_elf};
+ghost use Rattle.targets.specs.Decoded.{architecture_coded, system_coded, convention_coded};
 
-// The answer where there is nothing to answer: no description, no convention, no attribute (REFERENCE 1.5).
+use std::error::Error;
+use std::fmt;
+
+// The number that leaves for C where there is nothing to answer: no description, no convention, no attribute (REFERENCE 1.5).
 pub const NONE: u64 = 18446744073709551615;
 
-#[derive(Clone, Copy)]
+#[derive(Clone, Copy, Debug, PartialEq, Eq)]
 pub enum Architecture {
     X86,
     X86_64,
@@ -14,7 +18,7 @@ pub enum Architecture {
     Other,
 }
 
-#[derive(Clone, Copy)]
+#[derive(Clone, Copy, Debug, PartialEq, Eq)]
 pub enum System {
     Windows,
     MacOs,
@@ -22,7 +26,7 @@ pub enum System {
     Other,
 }
 
-#[derive(Clone, Copy)]
+#[derive(Clone, Copy, Debug, PartialEq, Eq)]
 pub enum Convention {
     Target,
     Ms,
@@ -33,6 +37,18 @@ pub enum Convention {
     NoCalleeSaved,
     PreserveNone,
 }
+
+// A number that stands for no architecture, no system or no convention.
+#[derive(Clone, Copy, Debug, PartialEq, Eq)]
+pub struct UnknownCode(pub u64);
+
+impl fmt::Display for UnknownCode {
+    fn fmt<W: fmt::Write>(&self, f: &mut fmt::Formatter<W>) -> fmt::Result {
+        write!(f, "nothing has the code {}", self.0)
+    }
+}
+
+impl Error for UnknownCode {}
 
 const X86: u64 = 0;
 
@@ -71,75 +87,107 @@ const REGPARM: u64 = 256;
 
 const LAST_REGPARM: u64 = 511;
 
+#[tactic(auto, unfolding(crate::specs::Codes::architecture_of))]
+impl TryFrom<u64> for Architecture {
+    type Error = UnknownCode;
+
+    ghost try_from_gives = { λ code r. r ≡ architecture_coded code };
+
+    fn try_from(code: u64) -> Result<Self, UnknownCode> {
+        match code {
+            X86 => Ok(Architecture::X86),
+            X86_64 => Ok(Architecture::X86_64),
+            AARCH64 => Ok(Architecture::Aarch64),
+            RISCV64 => Ok(Architecture::Riscv64),
+            OTHER_ARCHITECTURE => Ok(Architecture::Other),
+            _ => Err(UnknownCode(code)),
+        }
+    }
+}
+
+#[tactic(auto, unfolding(crate::specs::Codes::system_of))]
+impl TryFrom<u64> for System {
+    type Error = UnknownCode;
+
+    ghost try_from_gives = { λ code r. r ≡ system_coded code };
+
+    fn try_from(code: u64) -> Result<Self, UnknownCode> {
+        match code {
+            WINDOWS => Ok(System::Windows),
+            MAC_OS => Ok(System::MacOs),
+            OTHER_DARWIN => Ok(System::OtherDarwin),
+            OTHER_SYSTEM => Ok(System::Other),
+            _ => Err(UnknownCode(code)),
+        }
+    }
+}
+
+#[tactic(auto, unfolding(crate::specs::Codes::convention_of))]
+impl TryFrom<u64> for Convention {
+    type Error = UnknownCode;
+
+    ghost try_from_gives = { λ code r. r ≡ convention_coded code };
+
+    fn try_from(code: u64) -> Result<Self, UnknownCode> {
+        match code {
+            TARGET => Ok(Convention::Target),
+            MS => Ok(Convention::Ms),
+            SYSV => Ok(Convention::Sysv),
+            STDCALL => Ok(Convention::Stdcall),
+            FASTCALL => Ok(Convention::Fastcall),
+            NO_CALLEE_SAVED => Ok(Convention::NoCalleeSaved),
+            PRESERVE_NONE => Ok(Convention::PreserveNone),
+            REGPARM..=LAST_REGPARM => Ok(Convention::Regparm(code - REGPARM)),
+            _ => Err(UnknownCode(code)),
+        }
+    }
+}
+
 pub fn is_target(architecture: u64, system: u64) -> bool
     ensures { result ≡ is_target architecture system }
 {
-    (architecture <= OTHER_ARCHITECTURE) & (system <= OTHER_SYSTEM)
+    Architecture::try_from(architecture).is_ok() & System::try_from(system).is_ok()
 }
 
 pub fn is_convention(code: u64) -> bool
     ensures { result ≡ is_convention code }
 {
-    (code <= PRESERVE_NONE) | ((REGPARM <= code) & (code <= LAST_REGPARM))
+    Convention::try_from(code).is_ok()
 }
 
+// An unknown code as what stands for every other.
+#[tactic(auto, unfolding(crate::specs::Codes::architecture_of))]
 pub fn architecture_of(code: u64) -> Architecture
     ensures { result ≡ architecture_of code }
 {
-    match code {
-        X86 => Architecture::X86,
-        X86_64 => Architecture::X86_64,
-        AARCH64 => Architecture::Aarch64,
-        RISCV64 => Architecture::Riscv64,
-        _ => Architecture::Other,
-    }
+    Architecture::try_from(code).unwrap_or(Architecture::Other)
 }
 
+// Likewise.
+#[tactic(auto, unfolding(crate::specs::Codes::system_of))]
 pub fn system_of(code: u64) -> System
     ensures { result ≡ system_of code }
 {
-    match code {
-        WINDOWS => System::Windows,
-        MAC_OS => System::MacOs,
-        OTHER_DARWIN => System::OtherDarwin,
-        _ => System::Other,
-    }
+    System::try_from(code).unwrap_or(System::Other)
 }
 
+// An unknown code as regparm of what it has above regparm's first.
+#[tactic(auto, unfolding(crate::specs::Codes::convention_of))]
 pub fn convention_of(code: u64) -> Convention
     ensures { result ≡ convention_of code }
 {
-    match code {
-        TARGET => Convention::Target,
-        MS => Convention::Ms,
-        SYSV => Convention::Sysv,
-        STDCALL => Convention::Stdcall,
-        FASTCALL => Convention::Fastcall,
-        NO_CALLEE_SAVED => Convention::NoCalleeSaved,
-        PRESERVE_NONE => Convention::PreserveNone,
-        _ => Convention::Regparm(shape::minus(code, REGPARM)),
-    }
+    Convention::try_from(code).unwrap_or(Convention::Regparm(shape::minus(code, REGPARM)))
 }
 
 pub fn is_windows(system: System) -> bool
     ensures { result ≡ is_windows system }
 {
-    match system {
-        System::Windows => true,
-        System::MacOs => false,
-        System::OtherDarwin => false,
-        System::Other => false,
-    }
+    matches!(system, System::Windows)
 }
 
 // Neither Windows nor macOS.
 pub fn is_elf(system: System) -> bool
     ensures { result ≡ is_elf system }
 {
-    match system {
-        System::Windows => false,
-        System::MacOs => false,
-        System::OtherDarwin => true,
-        System::Other => true,
-    }
+    matches!(system, System::OtherDarwin | System::Other)
 }
