@@ -2,10 +2,7 @@
 use mathlib.Core.Path.{◌≡◌, refl}
 use mathlib.Core.List.{List}
 use Prim.Native.Nat.{ℕ}
-use Rattle.varargs.specs.declared.Area.{Area}
-use Rattle.varargs.specs.declared.Area.TheVariants.{Nowhere, Save, Overflow}
-use Rattle.varargs.specs.declared.Located.{Located}
-use Rattle.varargs.specs.Lists.{area_number, bytes_of, part_of, shown_at}
+use Rattle.varargs.specs.Lists.{Area, Nowhere, Save, Overflow, Located, area_number, bytes_of, part_of, shown_at}
 use Rattle.export_varargs.specs.Numbers.{area_from, part_numbers, shown_by}
 
 pub area_back : (area : Area) (save overflow : List ℕ) → area_from (area_number area) save overflow ≡ bytes_of area save overflow

@@ -2,9 +2,7 @@
 -- (REFERENCE 15.3).
 use Rattle.std.specs.Prelude.{ℕ, cond, List, [], eqb, take, drop}
 use Rattle.varargs.specs.declared.Offsets.{Offsets}
-use Rattle.varargs.specs.declared.Area.TheVariants.{Save, Overflow}
-use Rattle.varargs.specs.declared.Located.{Located}
-use Rattle.varargs.specs.Lists.{area_number, Shown}
+use Rattle.varargs.specs.Lists.{Save, Overflow, Located, area_number, Shown}
 use Rattle.export_varargs.specs.declared.Part.{Part}
 
 abbrev pub offsets_from : ℕ → ℕ → ℕ → Offsets

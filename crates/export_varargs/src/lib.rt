@@ -7,7 +7,7 @@ ghost use Rattle.shape.specs.Words.{scalar};
 ghost use Rattle.varargs.specs.Lists.{located};
 ghost use Rattle.export_varargs.specs.Numbers.{offsets_from, part_numbers};
 
-use shape::Scalar;
+use shape::{ACCEPTED, Scalar};
 use varargs::Offsets;
 
 // Where a scalar stands, or the refusal.
@@ -41,15 +41,25 @@ pub fn barkpaddle_read_scalar<'a>(
         float: fp_offset,
         overflow: overflow_offset,
     };
-    let found = varargs::find(save, overflow, at, Scalar { kind, size, align });
-    let area = found.area;
-    Part {
-        refusal: found.refusal,
-        area: varargs::area_number(area),
-        start: found.start,
-        length: found.length,
-        gp_offset: found.next.integer,
-        fp_offset: found.next.float,
-        overflow_offset: found.next.overflow,
+    match varargs::find(save, overflow, at, Scalar { kind, size, align }) {
+        Ok(found) => Part {
+            refusal: ACCEPTED,
+            area: found.area.number(),
+            start: found.start,
+            length: found.length,
+            gp_offset: found.next.integer,
+            fp_offset: found.next.float,
+            overflow_offset: found.next.overflow,
+        },
+        // where it is refused: no bytes, and the offsets that were handed in
+        Err(refusal) => Part {
+            refusal: refusal.number(),
+            area: 0,
+            start: 0,
+            length: 0,
+            gp_offset,
+            fp_offset,
+            overflow_offset,
+        },
     }
 }

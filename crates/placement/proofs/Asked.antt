@@ -42,9 +42,7 @@ use Rattle.classify.specs.Answers.{row_refusal, call_refusal, refusal_by, state_
 use Rattle.classify.proofs.Accepted.{Sound, sound, unmarked}
 use Rattle.ledger.specs.Ledger.{variadic_argument, rounding_by}
 use Rattle.varargs.specs.declared.Offsets.{Offsets}
-use Rattle.varargs.specs.declared.Located.{Located}
-use Rattle.varargs.specs.declared.Area.TheVariants.{Save}
-use Rattle.varargs.specs.Lists.{in_overflow, in_integers, in_floats, standing}
+use Rattle.varargs.specs.Lists.{Located, Save, in_overflow, in_integers, in_floats, standing}
 use Rattle.varargs.proofs.Scalars.{Listed, integer_1, integer_2, integer_4, integer_8, integer_16, a_single, a_double, an_x87, a_quad}
 use Rattle.placement.specs.Caller.{behind_dots}
 use Rattle.placement.specs.Back.{offsets_at}

@@ -27,9 +27,7 @@ use Rattle.classify.specs.Answers.{row_refusal, call_refusal, accepted_answer, o
 use Rattle.ledger.specs.Ledger.{variadic_argument, is_refused, integers, floats, given, passed_over}
 use Rattle.ledger.proofs.Fair.{Fair, fair}
 use Rattle.varargs.specs.declared.Offsets.{Offsets}
-use Rattle.varargs.specs.declared.Located.{Located}
-use Rattle.varargs.specs.declared.Area.TheVariants.{Overflow}
-use Rattle.varargs.specs.Lists.{unnamed_refusal, is_save_area, overflow_start, in_overflow, standing, located, part_of, shown_at, reads_as}
+use Rattle.varargs.specs.Lists.{Located, Overflow, unnamed_refusal, is_save_area, overflow_start, in_overflow, standing, located, part_of, shown_at, reads_as}
 use Rattle.varargs.proofs.Lists.{lies_there, ends_within, nowhere_part}
 use Rattle.varargs.proofs.Scalars.{Listed, listed, integer_1, integer_2, integer_4, integer_8, integer_16, a_single, a_double, an_x87, a_quad}
 use Rattle.placement.specs.Caller.{Registers, Machine, Whole, Value, State, behind_dots, spread, to_front, stored, saved, placed_by, place}

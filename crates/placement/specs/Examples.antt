@@ -6,8 +6,7 @@ use Rattle.shape.specs.Words.{scalar}
 use Rattle.classify.specs.Classify.{counts}
 use Rattle.classify.specs.Answers.{call_with}
 use Rattle.varargs.specs.declared.Offsets.{Offsets}
-use Rattle.varargs.specs.declared.Located.{Located}
-use Rattle.varargs.specs.Lists.{area_number, save_bytes, located, Shown}
+use Rattle.varargs.specs.Lists.{Located, area_number, save_bytes, located, Shown}
 use Rattle.placement.specs.Caller.{Machine, Value, State, saved, place_all}
 use Rattle.placement.specs.Back.{offsets_of, readings}
 

@@ -4,19 +4,23 @@ use mathlib.Core.Path.{◌≡◌, refl, sym, ◌∙◌, ap}
 use mathlib.Core.List.{List, []}
 use mathlib.Core.Bool.{Bool, true, false, ◌&&◌, ◌||◌, not, cond}
 use native.Mathlib.Omega.{arith}
-use borrow.Author.Tests.{lt-ltb, le-ltb, le-leb, lt-leb, eq-eqb, ne_eqb, ltb-false, leb-true, eqb-true, eqb-false, not-true, not-false}
+use borrow.Author.Tests.{lt-ltb, le-ltb, eq-eqb, ne_eqb, ltb-false, leb-true, eqb-true, eqb-false, not-true, not-false}
 use lib.Dec.{ltb, leb, eqb}
+use Rattle.std.specs.Prelude.{Result, Ok, Err}
 use lib.ListN.{length, take, drop, length-drop}
 use lib.Seq.{take-take, length-take-le}
 use Rattle.shape.specs.declared.Scalar.{Scalar}
 use Rattle.shape.specs.Numbers.{integer, x87_extended, quad, accepted, bad_kind, bad_size, bad_align, bad_area, most_size, most_align}
+use Rattle.shape.specs.declared.refusals.Refusal.{Refusal}
+use Rattle.shape.specs.Refusals.{number_of}
 use Rattle.shape.proofs.Bools.{both_true}
+use Rattle.shape.proofs.Refused.{number_decides, number_refuses}
 use Rattle.shape.specs.Arithmetic.{round_up}
 use Rattle.varargs.specs.declared.Offsets.{Offsets}
-use Rattle.varargs.specs.declared.Located.{Located}
-use Rattle.varargs.specs.declared.Area.{Area}
-use Rattle.varargs.specs.declared.Area.TheVariants.{Nowhere, Save, Overflow}
-use Rattle.varargs.specs.Lists.{integer_end, float_place, float_end, save_bytes, is_integer_offset, is_own_size, unnamed_refusal, is_save_area, located_nowhere, overflow_start, in_overflow, in_integers, in_floats, standing, located, bytes_of, room_of, Inside, part_of, shown_at}
+use Rattle.varargs.specs.declared.Area as areas
+use Rattle.varargs.specs.declared.Located as places
+use Rattle.varargs.specs.declared.Reading.{Reading}
+use Rattle.varargs.specs.Lists.{Located, Area, Nowhere, Save, Overflow, area_of, placed, told, in_bank, shown, Shown, integer_end, float_place, float_start, is_float_offset, float_end, save_bytes, is_integer_offset, is_own_size, unnamed_refusal, is_save_area, located_nowhere, overflow_start, in_overflow, in_integers, in_floats, standing, located, bytes_of, room_of, Inside, part_of, shown_at}
 use Rattle.varargs.proofs.Scalars.{sized, own_listed, listed}
 
 -- ---- so many bytes behind a start
@@ -27,10 +31,6 @@ module _ (bytes : List ℕ) (start count : ℕ) (h : start + count ≤ length by
 
   pub counted : count ≡ length (take count (take (length bytes - start) (drop start bytes)))
   counted = sym (ap length first_left ∙ length-take-le count (drop start bytes) (omega (arith, length-drop start bytes)))
-
--- where there is no area there are no bytes
-pub nowhere_empty : (start count : ℕ) → start + count ≤ 0 → (r : List ℕ) → r ≡ [] → r ≡ take count (drop start [])
-nowhere_empty start count h r e = let c : count ≡ 0 = omega arith in rw c e
 
 -- ---- the refusals of a scalar: each test's law takes what the tests before it left. Of its own size it keeps the limits of every scalar
 
@@ -100,59 +100,57 @@ pub rounded_small : (size : ℕ) → (1 ≤ size) × (size ≤ 16) → (n : ℕ)
 unfolding round_up
 rounded_small size small n is = omega (arith, is, small.1)
 
-module _ (bytes : ℕ) (at : Offsets) (s : Scalar) (small : (1 ≤ s.size) × (s.size ≤ 16)) where
-  module _ (n : ℕ) (is : n ≡ round_up s.size 8) where
-    pub integers_left : at.integer ≤ integer_end - n
-        → record { refusal = accepted; area = Save; start = at.integer; length = s.size; next = record { integer = at.integer + n; float = at.float; overflow = at.overflow } } ≡ in_integers bytes at s
-    unfolding in_integers
-    integers_left h = rw (← is, le-leb (at.integer + n) integer_end (omega (arith, rounded_small s.size small n is)))
+save_area : (n : ℕ) (at : Offsets) → true ≡ is_save_area n at → (n ≡ save_bytes) × (at.integer ≤ integer_end) × (at.float ≤ float_end)
+save_area n at h =
+    let both = both_true (eqb n save_bytes && is_integer_offset at.integer) (is_float_offset at.float) (sym h) in
+    let first = both_true (eqb n save_bytes) (is_integer_offset at.integer) both.0 in (
+      eqb-true n save_bytes first.0,
+      leb-true at.integer integer_end (both_true (leb at.integer integer_end) _ first.1).0,
+      leb-true at.float float_end (both_true (leb float_start at.float) _ (both_true (leb float_start at.float && leb at.float float_end) _ both.1).0).1,
+    )
 
-    pub integers_gone : integer_end - n < at.integer → in_overflow bytes at s ≡ in_integers bytes at s
-    unfolding in_integers
-    integers_gone h = rw (← is, lt-leb (at.integer + n) integer_end (omega (arith, rounded_small s.size small n is)))
+-- the next offset of a bank is a number
+pub integers_end : (n : ℕ) (at : Offsets) → true ≡ is_save_area n at → (size : ℕ) → (1 ≤ size) × (size ≤ 16) → at.integer + round_up size 8 ≤ 64
+integers_end n at h size small = omega (arith, (save_area n at h).1, rounded_small size small (round_up size 8) refl)
 
-  pub floats_left : at.float ≤ float_end - float_place
-      → record { refusal = accepted; area = Save; start = at.float; length = s.size; next = record { integer = at.integer; float = at.float + float_place; overflow = at.overflow } } ≡ in_floats bytes at s
-  unfolding in_floats
-  floats_left h = rw (le-leb (at.float + float_place) float_end (omega arith))
-
-  pub floats_gone : float_end - float_place < at.float → in_overflow bytes at s ≡ in_floats bytes at s
-  unfolding in_floats
-  floats_gone h = rw (lt-leb (at.float + float_place) float_end (omega arith))
+pub floats_end : (n : ℕ) (at : Offsets) → true ≡ is_save_area n at → at.float + float_place ≤ 192
+floats_end n at h = omega (arith, (save_area n at h).2)
 
 -- ---- which of them it is
 
-pub taken_small : (s : Scalar) (n : ℕ) → n ≡ unnamed_refusal s → n ≡ accepted → (1 ≤ s.size) × (s.size ≤ 16)
-taken_small s n is taken = sized s (listed s (sym is ∙ taken))
+pub taken_small : (s : Scalar) → accepted ≡ unnamed_refusal s → (1 ≤ s.size) × (s.size ≤ 16)
+taken_small s taken = sized s (listed s (sym taken))
 
-module _ (save overflow : ℕ) (at : Offsets) (s : Scalar) (n : ℕ) (is : n ≡ unnamed_refusal s) where
-  pub refused_scalar : (n ≡ accepted → ⊥) → located_nowhere n at ≡ located save overflow at s
+module _ (save overflow : ℕ) (at : Offsets) (s : Scalar) where
+  pub refused_scalar : (r : Refusal) → number_of r ≡ unnamed_refusal s → located_nowhere (number_of r) at ≡ located save overflow at s
   unfolding located
-  refused_scalar h = rw (← is, ne_eqb n accepted h)
+  refused_scalar r is = rw (← is, ne_eqb (number_of r) accepted (number_refuses r))
 
-  module _ (taken : n ≡ accepted) where
-    module _ (good : Bool) (is_good : good ≡ is_save_area save at) where
-      pub refused_area : not good ≡ true → located_nowhere bad_area at ≡ located save overflow at s
+  module _ (taken : accepted ≡ unnamed_refusal s) where
+    pub refused_area : false ≡ is_save_area save at → located_nowhere bad_area at ≡ located save overflow at s
+    unfolding located
+    refused_area h = rw (← taken, ← h)
+
+    module _ (h : true ≡ is_save_area save at) where
+      stands : standing overflow at s ≡ located save overflow at s
       unfolding located
-      refused_area h = rw (← is, eq-eqb n accepted taken, ← is_good, h)
+      stands = rw (← taken, ← h)
 
-      module _ (h : not good ≡ false) where
-        stands : standing overflow at s ≡ located save overflow at s
-        unfolding located
-        stands = rw (← is, eq-eqb n accepted taken, ← is_good, h)
+      pub stands_integer : s.kind ≡ integer
+          → in_bank overflow at s at.integer (leb (at.integer + round_up s.size 8) integer_end) (record { integer = at.integer + round_up s.size 8; float = at.float; overflow = at.overflow })
+          ≡ located save overflow at s
+      unfolding standing in_integers
+      stands_integer k = rw (eq-eqb s.kind integer k) at stands
 
-        pub stands_integer : s.kind ≡ integer → in_integers overflow at s ≡ located save overflow at s
-        unfolding standing
-        stands_integer k = rw (eq-eqb s.kind integer k) at stands
+      pub stands_x87 : s.kind ≡ x87_extended → in_overflow overflow at s ≡ located save overflow at s
+      unfolding standing
+      stands_x87 x = let k : s.kind ≡ integer → ⊥ = λ e. omega (arith, x, e) in rw (ne_eqb s.kind integer k, eq-eqb s.kind x87_extended x) at stands
 
-        module _ (k : s.kind ≡ integer → ⊥) where
-          pub stands_x87 : s.kind ≡ x87_extended → in_overflow overflow at s ≡ located save overflow at s
-          unfolding standing
-          stands_x87 x = rw (ne_eqb s.kind integer k, eq-eqb s.kind x87_extended x) at stands
-
-          pub stands_float : (s.kind ≡ x87_extended → ⊥) → in_floats overflow at s ≡ located save overflow at s
-          unfolding standing
-          stands_float x = rw (ne_eqb s.kind integer k, ne_eqb s.kind x87_extended x) at stands
+      pub stands_float : (s.kind ≡ integer → ⊥) → (s.kind ≡ x87_extended → ⊥)
+          → in_bank overflow at s at.float (leb (at.float + float_place) float_end) (record { integer = at.integer; float = at.float + float_place; overflow = at.overflow })
+          ≡ located save overflow at s
+      unfolding standing in_floats
+      stands_float k x = rw (ne_eqb s.kind integer k, ne_eqb s.kind x87_extended x) at stands
 
 -- ---- what is located lies in its area
 
@@ -185,22 +183,13 @@ module _ (bytes : ℕ) (at : Offsets) (s : Scalar) (small : s.size ≤ 16) where
       by_test (Inside save_bytes bytes) (eqb s.kind integer) _ _ (λ h. integers_inside)
       (λ h. by_test (Inside save_bytes bytes) (eqb s.kind x87_extended) _ _ (λ h'. overflow_inside save_bytes) (λ h'. floats_inside))
 
-save_bytes_lem : (n : ℕ) (at : Offsets) → is_save_area n at ≡ true → n ≡ save_bytes
-save_bytes_lem n at h =
-    eqb-true n save_bytes (both_true (eqb n save_bytes) (is_integer_offset at.integer) (both_true (eqb n save_bytes && is_integer_offset at.integer) _ h).0).0
-
 pub located_inside : (save overflow : ℕ) (at : Offsets) (s : Scalar) → Inside save overflow (located save overflow at s)
 unfolding located
 located_inside save overflow at s =
     by_test (Inside save overflow) (not (eqb (unnamed_refusal s) accepted)) _ _ (λ h. omega arith) (λ h.
     let small : s.size ≤ 16 = (sized s (listed s (eqb-true _ _ (not-false _ h)))).1 in
     by_test (Inside save overflow) (not (is_save_area save at)) _ _ (λ h'. omega arith) (λ h'.
-    rw (save_bytes_lem save at (not-false _ h')) (standing_inside overflow at s small)))
-
--- what shows the parts of what is located shows it
-pub shown_so : (save overflow : List ℕ) (l r : Located) (bytes : List ℕ) → r ≡ l → bytes ≡ part_of save overflow r
-    → record { refusal = r.refusal; bytes = bytes; next = r.next } ≡ shown_at save overflow l
-shown_so save overflow l r bytes e parts = rw (parts, e)
+    rw ((save_area save at (sym (not-false _ h'))).0) (standing_inside overflow at s small)))
 
 -- ---- it is refused, with the offsets that were handed in, or it is a part of the scalar's size
 
@@ -240,3 +229,43 @@ part_length save overflow l inside =
 pub nowhere_part : (save overflow : List ℕ) (refusal : ℕ) (at : Offsets) → part_of save overflow (located_nowhere refusal at) ≡ []
 unfolding part_of
 nowhere_part save overflow refusal at = refl
+
+-- ---- an answer is decided by what it tells
+
+area_back : Area → areas.Area
+area_back Nowhere = areas.TheVariants.Save
+area_back Save = areas.TheVariants.Save
+area_back Overflow = areas.TheVariants.Overflow
+
+same_area : (a : areas.Area) → area_back (area_of a) ≡ a
+unfolding area_back
+same_area areas.TheVariants.Save = refl
+same_area areas.TheVariants.Overflow = refl
+
+placed_back : Located → places.Located
+placed_back l = record { area = area_back l.area; start = l.start; length = l.length; next = l.next }
+
+same_place : (l : places.Located) → placed_back (placed l) ≡ l
+unfolding placed_back
+same_place l = rw (same_area l.area)
+
+pub told_decides : (at : Offsets) (a b : Result places.Located Refusal) → told a at ≡ told b at → a ≡ b
+told_decides at (Ok l) (Ok m) e = ap Ok (sym (same_place l) ∙ ap placed_back e ∙ same_place m)
+told_decides at (Ok l) (Err q) e = absurd (number_refuses q (sym (ap (λ (x : Located). x.refusal) e)))
+told_decides at (Err r) (Ok m) e = absurd (number_refuses r (ap (λ (x : Located). x.refusal) e))
+told_decides at (Err r) (Err q) e = ap Err (number_decides r q (ap (λ (x : Located). x.refusal) e))
+
+-- what shows the same at some offsets shows the same at all
+pub shown_decides : (at : Offsets) (a b : Result Reading Refusal) → shown a at ≡ shown b at → shown a ≡ shown b
+shown_decides at (Ok r) (Ok q) e = ap (λ (x : Shown). λ (at' : Offsets). x) e
+shown_decides at (Ok r) (Err q) e = absurd (number_refuses q (sym (ap (λ (x : Shown). x.refusal) e)))
+shown_decides at (Err r) (Ok q) e = absurd (number_refuses r (ap (λ (x : Shown). x.refusal) e))
+shown_decides at (Err r) (Err q) e = ap (λ (n : ℕ). λ (at' : Offsets). record { refusal = n; bytes = []; next = at' }) (ap (λ (x : Shown). x.refusal) e)
+
+-- what shows the parts of what is located shows it
+pub shown_so : (save overflow : List ℕ) (l r : Located) (bytes : List ℕ) → r ≡ l → bytes ≡ part_of save overflow r
+    → record { refusal = r.refusal; bytes = bytes; next = r.next } ≡ shown_at save overflow l
+shown_so save overflow l r bytes e parts = rw (parts, e)
+
+pub inside_so : (save overflow : ℕ) {r l : Located} → r ≡ l → Inside save overflow l → Inside save overflow r
+inside_so save overflow e h = rw e h

@@ -1,15 +1,30 @@
 -- The callee's side of a variable argument list on description 0 (REFERENCE 15), from the psABI, 3.5.7: what is refused, in which area and where
 -- a scalar's own bytes stand, and the offsets after it.
-use Rattle.std.specs.Prelude.{ℕ, ◌≤◌, ◌+◌, ◌%◌, Bool, ◌&&◌, ◌||◌, not, cond, List, [], ltb, leb, eqb, length, take, drop}
+use Rattle.std.specs.Prelude.{ℕ, ◌≤◌, ◌+◌, ◌%◌, Bool, ◌&&◌, ◌||◌, not, cond, List, [], ltb, leb, eqb, length, take, drop, Result, Ok, Err}
 use Rattle.shape.specs.declared.Scalar.{Scalar}
 use Rattle.shape.specs.Numbers.{integer, single, double, x87_extended, quad, accepted, bad_kind, bad_size, bad_align, bad_area, most_size, most_align}
+use Rattle.shape.specs.Refusals.{number_of}
+use Rattle.shape.specs.declared.refusals.Refusal.{Refusal}
 use Rattle.checks.specs.Check.{refuse}
 use Rattle.shape.specs.Arithmetic.{round_up}
 use Rattle.varargs.specs.declared.Offsets.{Offsets}
-use Rattle.varargs.specs.declared.Area.{Area}
-use Rattle.varargs.specs.declared.Area.TheVariants.{Nowhere, Save, Overflow}
-use Rattle.varargs.specs.declared.Located.{Located}
+use Rattle.varargs.specs.declared.Area as areas
+use Rattle.varargs.specs.declared.Located as places
 use Rattle.varargs.specs.declared.Reading.{Reading}
+
+-- ---- where a scalar's own bytes stand, with the offsets after it; or the refusal, with those that were handed in
+
+pub data Area : Type 0 where
+  Nowhere : Area
+  Save : Area
+  Overflow : Area
+
+pub record Located : Type 0 where
+  pub refusal : ℕ
+  pub area : Area
+  pub start : ℕ
+  pub length : ℕ
+  pub next : Offsets
 
 -- ---- the save area: six integer places of 8 bytes from 0, and eight float places of 16 behind them
 
@@ -66,6 +81,20 @@ is_save_area bytes at = (eqb bytes save_bytes && is_integer_offset at.integer) &
 abbrev pub located_nowhere : ℕ → Offsets → Located
 located_nowhere refusal at = record { refusal = refusal; area = Nowhere; start = 0; length = 0; next = at }
 
+-- ---- what an answer of the code tells: the code has an area only where nothing is refused, and an error has no offsets of its own
+
+abbrev pub area_of : areas.Area → Area
+area_of areas.TheVariants.Save = Save
+area_of areas.TheVariants.Overflow = Overflow
+
+abbrev pub placed : places.Located → Located
+placed l = record { refusal = accepted; area = area_of l.area; start = l.start; length = l.length; next = l.next }
+
+-- of the offsets that were handed in
+abbrev pub told : Result places.Located Refusal → Offsets → Located
+told (Ok l) at = placed l
+told (Err r) at = located_nowhere (number_of r) at
+
 -- ---- where a scalar stands
 
 -- an alignment above 8 rounds the overflow offset up to 16
@@ -84,6 +113,11 @@ in_overflow bytes at s =
       length = s.size;
       next = record { integer = at.integer; float = at.float; overflow = start + round_up s.size 8 };
     })
+
+-- at a start in a bank of the save area, with the offsets behind it, where the bank has room
+abbrev pub in_bank : ℕ → Offsets → Scalar → ℕ → Bool → Offsets → Located
+in_bank bytes at s start room next =
+    cond room (record { refusal = accepted; area = Save; start = start; length = s.size; next = next }) (in_overflow bytes at s)
 
 -- all of the integer places that it needs, or none
 unfoldable pub in_integers : ℕ → Offsets → Scalar → Located
@@ -149,9 +183,10 @@ pub record Shown : Type 0 where
   pub bytes : List ℕ
   pub next : Offsets
 
--- a reference is more than its bytes, but all that its holder sees is these
-abbrev pub shown : Reading → Shown
-shown r = record { refusal = r.refusal; bytes = r.part.now; next = r.next }
+-- a reference is more than its bytes, but all that its holder sees is these; a refusal leaves the offsets that were handed in
+abbrev pub shown : Result Reading Refusal → Offsets → Shown
+shown (Ok r) at = record { refusal = accepted; bytes = r.part.now; next = r.next }
+shown (Err r) at = record { refusal = number_of r; bytes = []; next = at }
 
 abbrev pub shown_at : List ℕ → List ℕ → Located → Shown
 shown_at save overflow l = record { refusal = l.refusal; bytes = part_of save overflow l; next = l.next }

@@ -4,12 +4,10 @@
 
 ghost use Rattle.std.specs.Prelude.{◌≡◌, ◌+◌, ◌≤◌, ◌<◌, length, take, drop};
 ghost use Rattle.shape.specs.Arithmetic.{round_up};
-ghost use Rattle.varargs.specs.Lists.{area_number, is_own_size, unnamed_refusal, is_save_area, overflow_start, located_nowhere, in_overflow, in_integers, in_floats, located, part_of, Inside, shown, reads_as};
+ghost use Rattle.shape.specs.Refusals.{refusal_of};
+ghost use Rattle.varargs.specs.Lists.{area_number, area_of, is_own_size, unnamed_refusal, is_save_area, overflow_start, in_overflow, in_bank, located, part_of, placed, told, Inside, shown, reads_as};
 
-use shape::{
-    ACCEPTED, BAD_ALIGN, BAD_AREA, BAD_KIND, BAD_SIZE, DOUBLE, INTEGER, QUAD, SINGLE, Scalar,
-    X87_EXTENDED,
-};
+use shape::{DOUBLE, INTEGER, QUAD, Refusal, SINGLE, Scalar, X87_EXTENDED};
 
 // The save area: the integer places, 8 bytes each from 0, and behind them the float places, 16 bytes each.
 const INTEGER_PLACE: u64 = 8;
@@ -32,56 +30,63 @@ pub struct Offsets {
     pub overflow: u64,
 }
 
+// Which of the two areas it is. Nowhere, where there is none, is 0.
 #[derive(Clone, Copy)]
 pub enum Area {
-    Nowhere,
-    Save,
-    Overflow,
+    Save = 1,
+    Overflow = 2,
 }
 
-// Where a scalar's own bytes stand, with the offsets after it; or the refusal, with those that were handed in.
+impl Area {
+    // Its number.
+    pub fn number(self) -> u64
+        ensures { result ≡ area_number (area_of self) }
+    {
+        self as u64
+    }
+}
+
+// Where a scalar's own bytes stand, with the offsets after it.
 #[derive(Clone, Copy)]
 pub struct Located {
-    pub refusal: u64,
     pub area: Area,
     pub start: u64,
     pub length: u64,
     pub next: Offsets,
 }
 
-// A scalar's own bytes, with the offsets after it; or the refusal, with no bytes and the offsets that were handed in.
+// A scalar's own bytes, with the offsets after it.
 #[derive(Drop)]
 pub struct Reading<'a> {
-    pub refusal: u64,
     pub part: &'a [u8],
     pub next: Offsets,
 }
 
 // The next scalar of a list: a part of whichever of the two areas holds it. The overflow area starts at an address that is a multiple of 16.
-pub fn read<'a>(save: &'a [u8], overflow: &'a [u8], at: Offsets, s: Scalar) -> Reading<'a>
-    ensures { shown result ≡ reads_as save.now overflow.now at s }
+pub fn read<'a>(
+    save: &'a [u8],
+    overflow: &'a [u8],
+    at: Offsets,
+    s: Scalar,
+) -> Result<Reading<'a>, Refusal>
+    ensures { shown result at ≡ reads_as save.now overflow.now at s }
 {
-    let found = find(save, overflow, at, s);
-    let bytes = part(save, overflow, found);
-    Reading {
-        refusal: found.refusal,
-        part: bytes,
+    let found = find(save, overflow, at, s)?;
+    let part = part(save, overflow, found);
+    Ok(Reading {
+        part,
         next: found.next,
-    }
+    })
 }
 
 // The bytes of what was located.
 fn part<'a>(save: &'a [u8], overflow: &'a [u8], found: Located) -> &'a [u8]
-    requires { Inside (length save.now) (length overflow.now) found }
-    ensures { result.now ≡ part_of save.now overflow.now found }
+    requires { Inside (length save.now) (length overflow.now) (placed found) }
+    ensures { result.now ≡ part_of save.now overflow.now (placed found) }
 {
-    let start = found.start;
-    let length = found.length;
-    let area = found.area;
-    match area {
-        Area::Save => bytes_at(save, start, length),
-        Area::Overflow => bytes_at(overflow, start, length),
-        Area::Nowhere => bytes_at(save, 0, 0),
+    match found.area {
+        Area::Save => bytes_at(save, found.start, found.length),
+        Area::Overflow => bytes_at(overflow, found.start, found.length),
     }
 }
 
@@ -95,79 +100,61 @@ fn bytes_at<'a>(area: &'a [u8], start: u64, count: u64) -> &'a [u8]
 }
 
 // Where the next scalar of a list stands: of the two areas only the lengths matter.
-pub fn find<'a>(save: &'a [u8], overflow: &'a [u8], at: Offsets, s: Scalar) -> Located
-    ensures { result ≡ located (length save.now) (length overflow.now) at s }
+pub fn find<'a>(
+    save: &'a [u8],
+    overflow: &'a [u8],
+    at: Offsets,
+    s: Scalar,
+) -> Result<Located, Refusal>
+    ensures { told result at ≡ located (length save.now) (length overflow.now) at s }
 {
-    let refusal = check_unnamed(s);
-    if refusal != ACCEPTED {
-        return located_nowhere(refusal, at);
-    }
+    check_unnamed(s)?;
     if !is_save_area(save.len() as u64, at) {
-        return located_nowhere(BAD_AREA, at);
+        return Err(Refusal::BadArea);
     }
-    if s.kind == INTEGER {
-        return in_integers(overflow, at, s);
-    }
-    if s.kind == X87_EXTENDED {
-        return in_overflow(overflow, at, s);
-    }
-    in_floats(overflow, at, s)
-}
-
-// The number of an area.
-pub fn area_number(area: Area) -> u64
-    ensures { result ≡ area_number area }
-{
-    match area {
-        Area::Nowhere => 0,
-        Area::Save => 1,
-        Area::Overflow => 2,
+    match s.kind {
+        INTEGER => {
+            let integer = at.integer + rounded(s.size);
+            let next = Offsets { integer, ..at };
+            in_bank(overflow, at, s, at.integer, integer <= INTEGER_END, next)
+        }
+        X87_EXTENDED => in_overflow(overflow, at, s),
+        _ => {
+            let float = at.float + FLOAT_PLACE;
+            let next = Offsets { float, ..at };
+            in_bank(overflow, at, s, at.float, float <= FLOAT_END, next)
+        }
     }
 }
 
 // ---- what is refused
 
-fn located_nowhere(refusal: u64, at: Offsets) -> Located
-    ensures { result ≡ located_nowhere refusal at }
-{
-    Located {
-        refusal,
-        area: Area::Nowhere,
-        start: 0,
-        length: 0,
-        next: at,
-    }
-}
-
 // A list's scalars are of their own sizes and aligned to them, so that the limits of other scalars are kept.
-fn check_unnamed(s: Scalar) -> u64
-    ensures { result ≡ unnamed_refusal s }
+fn check_unnamed(s: Scalar) -> Result<(), Refusal>
+    ensures { refusal_of result ≡ unnamed_refusal s }
 {
     if s.kind > QUAD {
-        return BAD_KIND;
+        return Err(Refusal::BadKind);
     }
     if !is_own_size(s.kind, s.size) {
-        return BAD_SIZE;
+        return Err(Refusal::BadSize);
     }
     if s.align != s.size {
-        return BAD_ALIGN;
+        return Err(Refusal::BadAlign);
     }
-    ACCEPTED
+    Ok(())
 }
 
+#[tactic(auto, unfolding(crate::specs::Lists::is_own_size))]
 fn is_own_size(kind: u64, size: u64) -> bool
     ensures { result ≡ is_own_size kind size }
 {
-    if kind == INTEGER {
-        return (size == 1) | (size == 2) | (size == 4) | (size == 8) | (size == 16);
+    match kind {
+        INTEGER => matches!(size, 1 | 2 | 4 | 8 | 16),
+        SINGLE => size == 4,
+        DOUBLE => size == 8,
+        _ => size == 16,
     }
-    if kind == SINGLE {
-        return size == 4;
-    }
-    if kind == DOUBLE {
-        return size == 8;
-    }
-    size == 16
 }
 
 fn is_save_area(length: u64, at: Offsets) -> bool
@@ -180,71 +167,51 @@ fn is_save_area(length: u64, at: Offsets) -> bool
 
 // ---- where a scalar stands
 
-fn in_integers(overflow: &[u8], at: Offsets, s: Scalar) -> Located
+// At a start in a bank of the save area, with the offsets behind it, where the bank has room for it; in the overflow area where it hasn't.
+fn in_bank(
+    overflow: &[u8],
+    at: Offsets,
+    s: Scalar,
+    start: u64,
+    room: bool,
+    next: Offsets,
+) -> Result<Located, Refusal>
     requires { (1 ≤ s.size) × (s.size ≤ 16) }
-    ensures { result ≡ in_integers (length overflow.now) at s }
+    ensures { told result at ≡ in_bank (length overflow.now) at s start room next }
 {
-    let bytes = rounded(s.size);
-    if at.integer <= INTEGER_END - bytes {
-        return Located {
-            refusal: ACCEPTED,
-            area: Area::Save,
-            start: at.integer,
-            length: s.size,
-            next: Offsets {
-                integer: at.integer + bytes,
-                float: at.float,
-                overflow: at.overflow,
-            },
-        };
+    if !room {
+        return in_overflow(overflow, at, s);
     }
-    in_overflow(overflow, at, s)
+    Ok(Located {
+        area: Area::Save,
+        start,
+        length: s.size,
+        next,
+    })
 }
 
-fn in_floats(overflow: &[u8], at: Offsets, s: Scalar) -> Located
+fn in_overflow(overflow: &[u8], at: Offsets, s: Scalar) -> Result<Located, Refusal>
     requires { (1 ≤ s.size) × (s.size ≤ 16) }
-    ensures { result ≡ in_floats (length overflow.now) at s }
-{
-    if at.float <= FLOAT_END - FLOAT_PLACE {
-        return Located {
-            refusal: ACCEPTED,
-            area: Area::Save,
-            start: at.float,
-            length: s.size,
-            next: Offsets {
-                integer: at.integer,
-                float: at.float + FLOAT_PLACE,
-                overflow: at.overflow,
-            },
-        };
-    }
-    in_overflow(overflow, at, s)
-}
-
-fn in_overflow(overflow: &[u8], at: Offsets, s: Scalar) -> Located
-    requires { (1 ≤ s.size) × (s.size ≤ 16) }
-    ensures { result ≡ in_overflow (length overflow.now) at s }
+    ensures { told result at ≡ in_overflow (length overflow.now) at s }
 {
     let length = overflow.len() as u64;
     // an offset past the end goes no further: no number wraps
     if length < at.overflow {
-        return located_nowhere(BAD_AREA, at);
+        return Err(Refusal::BadArea);
     }
     let start = overflow_start(at.overflow, s.align);
     if length < start + s.size {
-        return located_nowhere(BAD_AREA, at);
+        return Err(Refusal::BadArea);
     }
-    Located {
-        refusal: ACCEPTED,
+    Ok(Located {
         area: Area::Overflow,
         start,
         length: s.size,
         next: Offsets {
-            integer: at.integer,
-            float: at.float,
             overflow: start + rounded(s.size),
+            ..at
         },
-    }
+    })
 }
 
 // Where an alignment may start, from an overflow offset on.
