@@ -10,6 +10,7 @@ use shape::minus;
 use spend::{Decision, Left, Spent, Way};
 
 // Integer registers passed over before anything else is decided, so that a value of this size and alignment begins at an even one.
+#[tactic(auto, unfolding(crate::specs::AfterDots::skipped_for, spend_scalar::specs::Spending::skip_of))]
 pub fn skipped(dots: Dots, banks: Banks, left: Left, size: u64, align: u64) -> u64
     ensures { result ≡ skipped_for dots banks left size align }
 {
@@ -61,6 +62,7 @@ fn behind_start(dots: Dots, left: Left, skipped: u64) -> Left
 }
 
 // What was decided by that, with what it spends of the call's own registers, of which so many integers are left.
+#[tactic(auto, unfolding(crate::specs::AfterDots::settled_for))]
 pub fn settled(dots: Dots, left: u64, skipped: u64, decision: Decision) -> Decision
     ensures { result ≡ settled_for dots left skipped decision }
 {
@@ -83,6 +85,7 @@ fn spent_for(dots: Dots, left: u64, skipped: u64, decision: Decision) -> Spent
 }
 
 // The registers before an even start are passed over as well, unless nothing travels.
+#[tactic(auto, using(crate::proofs::AfterDots::told_ignored))]
 fn spent_behind(left: u64, skipped: u64, decision: Decision) -> Spent
     ensures { result ≡ spent_behind left skipped decision }
 {

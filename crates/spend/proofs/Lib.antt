@@ -1,4 +1,3 @@
-pub mod Spending
 pub mod Given
 pub mod Ways
 mod Unique

@@ -188,6 +188,7 @@ impl Wanted {
 }
 
 // An aggregate of this size under a rule whose test found these slots (REFERENCE 9.3); none where the rule ran short and the next one is tried.
+#[tactic(auto, unfolding(crate::specs::Spending::travel_of))]
 pub fn travel(
     banks: Banks,
     pointer: ReturnPointer,
@@ -274,6 +275,7 @@ fn in_memory_and_spend(returning: bool, left: u64, want: u64) -> Decision
 }
 
 // Slots on a return spend nothing; on an argument they cost registers.
+#[tactic(auto, unfolding(crate::specs::Spending::in_slots))]
 fn in_slots(
     shared: bool,
     returning: bool,
@@ -295,6 +297,7 @@ fn in_slots(
 }
 
 // Slots that cost more than is left: what happens is the rule's.
+#[tactic(auto, unfolding(crate::specs::Spending::when_short))]
 fn when_short(short: Short, left: Left, found: Wanted, integer: u64, float: u64) -> Option<Decision>
     ensures { result ≡ when_short short left found integer float }
 {
@@ -356,6 +359,7 @@ fn drain(cost: u64, left: u64) -> u64
 }
 
 // Registers of a width that a size wants: rounded up, at least one.
+#[tactic(auto, using(slots::proofs::Cut::length_cut), unfolding(crate::specs::Spending::want_of))]
 pub fn registers(size: u64, width: u64) -> u64
     ensures { result ≡ want_of size width }
 {

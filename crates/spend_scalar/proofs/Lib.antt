@@ -1,3 +1,2 @@
-pub mod Spending
 pub mod Given
 mod Unique

@@ -15,6 +15,7 @@ use spend::{Decision, Left, Spent, Wanted, Way};
 
 // A scalar argument: the first of the ten lines of REFERENCE 9.2 that applies. The kind is asked once: an integer has the lines 3, 5 and 8 to
 // 10, a float the lines 2 and 4 to 7.
+#[tactic(auto, unfolding(crate::specs::Spending::scalar_argument, crate::specs::Spending::scalar_in_registers))]
 pub fn scalar_argument(banks: Banks, scalars: Scalars, left: Left, s: Scalar) -> Decision
     ensures { result ≡ scalar_argument banks scalars left s }
 {
@@ -38,6 +39,7 @@ pub fn scalar_argument(banks: Banks, scalars: Scalars, left: Left, s: Scalar) ->
 }
 
 // A float that doesn't go by reference: the lines 2 and 4 to 7.
+#[tactic(auto, unfolding(crate::specs::Spending::scalar_argument, crate::specs::Spending::scalar_in_registers))]
 fn float_argument(banks: Banks, scalars: Scalars, left: Left, s: Scalar) -> Decision
     requires { (is_by_reference scalars s.size ≡ false) × (s.kind ≡ integer → ⊥) }
     ensures { result ≡ scalar_argument banks scalars left s }
@@ -85,6 +87,7 @@ fn narrow_float(scalars: Scalars, left: Left, size: u64, width: u64) -> Decision
 }
 
 // The lines 8 to 10: an integer that wants so many registers.
+#[tactic(auto, unfolding(crate::specs::Spending::integer_argument))]
 fn integer_argument(start: u64, scalars: Scalars, left: u64, want: u64) -> Decision
     ensures { result ≡ integer_argument start scalars left want }
 {
@@ -111,6 +114,7 @@ fn integer_argument(start: u64, scalars: Scalars, left: u64, want: u64) -> Decis
 }
 
 // Passed over for an even start: one, where an odd number is used and one is left.
+#[tactic(auto, unfolding(crate::specs::Spending::skip_of))]
 pub fn skip(even: bool, used: u64, left: u64) -> u64
     ensures { result ≡ skip_of even used left }
 {
@@ -121,6 +125,7 @@ pub fn skip(even: bool, used: u64, left: u64) -> u64
 }
 
 // A scalar that comes back (REFERENCE 9.4).
+#[tactic(auto, unfolding(crate::specs::Spending::scalar_return))]
 pub fn scalar_return(scalars: Scalars, pointer: ReturnPointer, left: Left, s: Scalar) -> Decision
     ensures { result ≡ scalar_return scalars pointer left s }
 {

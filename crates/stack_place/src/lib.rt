@@ -62,6 +62,7 @@ impl Place {
 
 impl Area {
     // What comes back: only the address of it may stand there.
+    #[tactic(auto, using(crate::proofs::Placing::place_none), unfolding(crate::specs::Stacked::return_placed))]
     pub fn place_return(
         self,
         stack: u64,
@@ -79,6 +80,7 @@ impl Area {
     }
 
     // A scalar argument.
+    #[tactic(auto, using(crate::proofs::Placing::place_none), unfolding(crate::specs::Stacked::scalar_placed))]
     pub fn place_scalar(
         self,
         stack: u64,
@@ -141,6 +143,7 @@ impl Area {
 
     // ---- how long it is there, and its place
 
+    #[tactic(auto, using(crate::proofs::Placing::place_is))]
     fn place(self, stack: u64, bytes: u64, rounding: u64) -> Result<Place, Refusal>
         ensures { specs.told stack result ≡ specs.placed_of self stack bytes rounding }
     {
@@ -234,6 +237,7 @@ fn pointer_bytes(spent: Spent, width: u64) -> u64
 
 // Where one register holds it whole, nothing is multiplied; and each way on which nothing is left is one of its own, which the compiler takes on to
 // the end of the operation.
+#[tactic(auto, using(crate::proofs::Placing::one_holds))]
 fn scalar_rest(spent: Spent, size: u64, width: u64) -> u64
     ensures { result ≡ specs.scalar_rest spent size width }
 {
@@ -287,6 +291,7 @@ fn packed_length(dots: bool, bytes: u64, width: u64) -> u64
 }
 
 // Behind what stands there already. A sum that passes 64 bits passes the limit, too.
+#[tactic(auto, unfolding(crate::specs::Stacked::behind))]
 fn put_behind(stack: u64, bytes: u64, rounding: u64) -> Result<Place, Refusal>
     ensures { specs.told stack result ≡ specs.behind stack bytes (max rounding 1) }
 {
