@@ -1,4 +1,2 @@
 pub mod Ends
-mod Dotted
-mod References
 mod Unique

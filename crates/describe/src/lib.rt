@@ -8,7 +8,7 @@ ghost use Rattle.describe.specs.Dots.{dots_of, as_fixed};
 
 // What an aggregate has to look like for a rule to apply. A test is an idea that several conventions share; which of them a convention
 // asks, in which order and with which limit, is its description. SizeOneOf has a count, and of the four sizes behind it the first so many.
-#[derive(Clone, Copy)]
+#[derive(Clone, Copy, Debug, PartialEq, Eq)]
 pub enum Test {
     // The last rule of every list, so that some rule decides.
     Anything,
@@ -41,7 +41,7 @@ pub enum Test {
 }
 
 // How it travels where the test matched.
-#[derive(Clone, Copy)]
+#[derive(Clone, Copy, Debug, PartialEq, Eq)]
 pub enum Travel {
     Ignore,
     // In the slots of a test that looked inside: floats in float registers.
@@ -60,7 +60,7 @@ pub enum Travel {
 
 // What happens where the registers that a rule wanted are not there. Tests by hand seldom pass so many arguments, so a wrong case stays
 // unseen for long.
-#[derive(Clone, Copy)]
+#[derive(Clone, Copy, Debug, PartialEq, Eq)]
 pub enum Short {
     // Windows x64, where an argument behind the fourth has the form of the first; and rules that want no registers.
     Unchanged,
@@ -76,7 +76,7 @@ pub enum Short {
 }
 
 // Rules are tried in order, and the first whose test matches decides: a list reads as a convention's document does, exceptions first.
-#[derive(Clone, Copy)]
+#[derive(Clone, Copy, Debug, PartialEq, Eq)]
 pub struct Rule {
     pub when: Test,
     pub then: Travel,
@@ -85,7 +85,7 @@ pub struct Rule {
 
 // The registers that a call starts with. With shared banks every spend comes out of the integer one: on Windows x64 rcx and xmm0 are one
 // position, and a value takes the next position whichever register it has there.
-#[derive(Clone, Copy)]
+#[derive(Clone, Copy, Debug, PartialEq, Eq)]
 pub struct Banks {
     pub integer: u64,
     pub float: u64,
@@ -97,7 +97,7 @@ pub struct Banks {
 }
 
 // How a scalar spends registers. `in_memory` and `wide_integer_returns_in` are kinds of formats, or 0, the integer kind, for none.
-#[derive(Clone, Copy)]
+#[derive(Clone, Copy, Debug, PartialEq, Eq)]
 pub struct Scalars {
     // The x87 format on SysV AMD64: no argument register takes it.
     pub in_memory: u64,
@@ -123,7 +123,7 @@ pub struct Scalars {
 
 // Where the address of a return value in memory travels. The first two spend an argument register where there is one: a function that
 // returns a large record has one fewer for its arguments, so what comes back is asked about first.
-#[derive(Clone, Copy)]
+#[derive(Clone, Copy, Debug, PartialEq, Eq)]
 pub enum ReturnPointer {
     FirstArgument,
     // 32-bit x86 but for Windows: the callee takes it off the stack (ret $4), which its caller has to know.
@@ -133,7 +133,7 @@ pub enum ReturnPointer {
 }
 
 // What an argument after the dots does differently.
-#[derive(Clone, Copy)]
+#[derive(Clone, Copy, Debug, PartialEq, Eq)]
 pub enum Variadic {
     SameAsFixed,
     // Darwin arm64, whatever registers are left.
@@ -150,7 +150,7 @@ pub enum Variadic {
 }
 
 // How arguments without a register sit in the argument area.
-#[derive(Clone, Copy)]
+#[derive(Clone, Copy, Debug, PartialEq, Eq)]
 pub enum StackArgs {
     RegisterSized,
     // Darwin arm64. With whole registers instead, the ninth argument on would be garbage, there and nowhere else.
@@ -159,7 +159,7 @@ pub enum StackArgs {
 
 // What stands above an integer narrower than an int in its register. A bridge does well to extend always: clang's callees trust in it even
 // where no document says so.
-#[derive(Clone, Copy)]
+#[derive(Clone, Copy, Debug, PartialEq, Eq)]
 pub enum Narrow {
     // Whoever receives the value reads the bits of its type alone.
     Unspecified,
@@ -171,7 +171,7 @@ pub enum Narrow {
 
 // What stands above a bit-precise integer in its register: apart from `Narrow`, since documents answer it apart. RISC-V extends a char to
 // 32 bits, and a bit-precise integer to the whole register.
-#[derive(Clone, Copy)]
+#[derive(Clone, Copy, Debug, PartialEq, Eq)]
 pub enum BitInts {
     SpareBits,
     // Nobody has checked the rule, so a generator refuses such a function by name.
@@ -180,14 +180,14 @@ pub enum BitInts {
 
 // Who takes the argument area off the stack. The callee where it is stdcall or fastcall, by ret $n; what is in a register isn't counted. A
 // function with dots can't be either: only its caller knows how many bytes there are.
-#[derive(Clone, Copy)]
+#[derive(Clone, Copy, Debug, PartialEq, Eq)]
 pub enum Cleanup {
     Caller,
     Callee,
 }
 
 // What classification reads of a description, beside its two lists of rules.
-#[derive(Clone, Copy)]
+#[derive(Clone, Copy, Debug, PartialEq, Eq)]
 pub struct Terms {
     pub banks: Banks,
     pub scalars: Scalars,
@@ -198,7 +198,7 @@ pub struct Terms {
 
 // The fields that it doesn't read. They are here because a description says the whole convention, and a generator reads them at the same
 // place.
-#[derive(Clone, Copy)]
+#[derive(Clone, Copy, Debug, PartialEq, Eq)]
 pub struct Others {
     pub narrow: Narrow,
     pub bit_ints: BitInts,
@@ -209,7 +209,7 @@ pub struct Others {
 // arguments too. `emptied`: an argument after the dots is classified as though no register were left, and spends none. `integers_only`: such
 // an argument goes in integer registers alone, and no other does. `starts_even`: one that is aligned to two words, and no larger, begins at an
 // even register.
-#[derive(Clone, Copy)]
+#[derive(Clone, Copy, Debug, Default, PartialEq, Eq)]
 pub struct Dots {
     pub mark: bool,
     pub emptied: bool,
@@ -222,31 +222,23 @@ pub fn dots_of(variadic: Variadic) -> Dots
     ensures { result ≡ dots_of variadic }
 {
     match variadic {
-        Variadic::SameAsFixed => as_fixed(),
+        Variadic::SameAsFixed | Variadic::BothBanks => as_fixed(),
         Variadic::AlwaysMemory => Dots {
-            mark: false,
             emptied: true,
-            integers_only: false,
-            starts_even: false,
+            ..as_fixed()
         },
-        Variadic::BothBanks => as_fixed(),
         Variadic::IntegersOnly => Dots {
             mark: true,
-            emptied: false,
-            integers_only: false,
-            starts_even: false,
+            ..as_fixed()
         },
         Variadic::UnnamedIntegers => Dots {
-            mark: false,
-            emptied: false,
             integers_only: true,
-            starts_even: false,
+            ..as_fixed()
         },
         Variadic::UnnamedIntegersEven => Dots {
-            mark: false,
-            emptied: false,
             integers_only: true,
             starts_even: true,
+            ..as_fixed()
         },
     }
 }
@@ -255,12 +247,7 @@ pub fn dots_of(variadic: Variadic) -> Dots
 pub fn as_fixed() -> Dots
     ensures { result ≡ as_fixed }
 {
-    Dots {
-        mark: false,
-        emptied: false,
-        integers_only: false,
-        starts_even: false,
-    }
+    Dots::default()
 }
 
 // Whether a scalar of this size travels as the address of a copy. The rule knows no more than the size, so whoever writes a call to a
@@ -268,10 +255,7 @@ pub fn as_fixed() -> Dots
 pub fn scalar_is_by_reference(scalars: Scalars, size: u64) -> bool
     ensures { result ≡ is_by_reference scalars size }
 {
-    if scalars.wide_is_by_reference {
-        return !register_size(size);
-    }
-    false
+    scalars.wide_is_by_reference && !register_size(size)
 }
 
 // Whether a scalar of this size comes back through the address that the caller passes.
@@ -293,12 +277,8 @@ pub fn wide_integer_returns_in(scalars: Scalars, size: u64) -> u64
     }
 }
 
-// The sizes beyond a register's, 16 first of all, are told by one comparison.
 fn register_size(size: u64) -> bool
     ensures { result ≡ register_size size }
 {
-    if size > 8 {
-        return false;
-    }
-    (size == 1) | (size == 2) | (size == 4) | (size == 8)
+    matches!(size, 1 | 2 | 4 | 8)
 }
