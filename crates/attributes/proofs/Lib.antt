@@ -1,5 +1,3 @@
 pub mod NameLaws
-pub mod SpellingLaws
-pub mod AnswerLaws
 pub mod Answered
 mod Unique

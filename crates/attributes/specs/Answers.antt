@@ -1,11 +1,13 @@
 -- What is asked by name and what is written, from codes to numbers: a code that isn't known answers none (REFERENCE 6.1, 6.4).
-use Rattle.std.specs.Prelude.{ℕ, List, Bool, cond}
+use Rattle.std.specs.Prelude.{ℕ, List, Bool, cond, Result}
+use Rattle.std.specs.Prelude as found
+use Rattle.shape.specs.declared.refusals.Refusal.{Refusal}
 use Rattle.std.proofs.Math.Option.{Option, none, some}
-use Rattle.text.specs.declared.Written.{Written}
+use Rattle.text.specs.Text.{Written}
 use Rattle.targets.specs.Codes.{is_target, is_convention, architecture_of, system_of, convention_of, convention_code, code_of}
 use Rattle.targets.specs.declared.codes.Convention.{Convention}
 use Rattle.attributes.specs.Attributes.{asked}
-use Rattle.attributes.specs.Spellings.{attribute, spelling_answer, spelling_written}
+use Rattle.attributes.specs.Spellings.{attribute, spelling_put, spelling_answer, spelling_written}
 
 -- the code of the convention that is asked for, if one is
 abbrev pub code_asked : Option Convention → Option ℕ
@@ -23,6 +25,10 @@ asked_answer architecture system msvc name = code_of (convention_asked architect
 abbrev pub name_of : ℕ → Option (List ℕ)
 name_of convention = cond (is_convention convention) (attribute (convention_of convention)) none
 
+abbrev pub attribute_put : ℕ → ℕ → Result (found.Option ℕ) Refusal
+attribute_put convention room = spelling_put (name_of convention) room
+
+-- in numbers
 abbrev pub attribute_answer : ℕ → ℕ → Written
 attribute_answer convention room = spelling_answer (name_of convention) room
 

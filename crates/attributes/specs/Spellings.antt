@@ -1,9 +1,11 @@
 -- Which attribute's name asks for a convention, and what writing it leaves (REFERENCE 6.4).
-use Rattle.std.specs.Prelude.{ℕ, List, [], ◌∷◌, get_or}
+use Rattle.std.specs.Prelude.{ℕ, List, [], ◌∷◌, cond, leb, length, get_or, Ok, Err, Result}
+use Rattle.std.specs.Prelude as found
+use Rattle.shape.specs.declared.refusals.Refusal.{Refusal}
+use Rattle.shape.specs.declared.refusals.Refusal.TheVariants.{NoRoom}
 use Rattle.std.proofs.Math.Option.{Option, none, some}
 use Rattle.shape.specs.Numbers.{accepted}
-use Rattle.text.specs.Text.{bytes, wrote, put_answer, put_written}
-use Rattle.text.specs.declared.Written.{Written}
+use Rattle.text.specs.Text.{Written, bytes, wrote, put_answer, put_written}
 use Rattle.targets.specs.Codes.{none_number}
 use Rattle.targets.specs.declared.codes.Convention.{Convention}
 use Rattle.targets.specs.declared.codes.Convention.TheVariants.{Target, Ms, Sysv, Stdcall, Fastcall, Regparm, NoCalleeSaved, PreserveNone}
@@ -22,7 +24,12 @@ attribute (Regparm n) = some (get_or regparm_names n (bytes "regparm(3)"))
 attribute NoCalleeSaved = some (bytes "no_callee_saved_registers")
 attribute PreserveNone = some (bytes "preserve_none")
 
--- no name: none; a name: what writing it answers
+-- no name: none; a name: how many bytes, where they all fit
+unfoldable pub spelling_put : Option (List ℕ) → ℕ → Result (found.Option ℕ) Refusal
+spelling_put none room = Ok found.None
+spelling_put (some name) room = cond (leb (length name) room) (Ok (found.Some (length name))) (Err NoRoom)
+
+-- in numbers
 unfoldable pub spelling_answer : Option (List ℕ) → ℕ → Written
 spelling_answer none room = wrote accepted none_number
 spelling_answer (some name) room = put_answer name room

@@ -7,12 +7,12 @@ mod spellings;
 
 ghost use Rattle.std.specs.Prelude.{◌≡◌, length};
 ghost use Rattle.targets.specs.Decoded.{optional};
-ghost use Rattle.attributes.specs.Answers.{convention_asked, code_asked, attribute_answer, attribute_written};
+ghost use Rattle.attributes.specs.Answers.{convention_asked, code_asked, attribute_put, attribute_written};
 
 pub use asking::by_name;
 pub use spellings::write_attribute;
-use targets::{Architecture, NONE, System, convention_of, is_convention};
-use text::Written;
+use shape::Refusal;
+use targets::{Architecture, Convention, System};
 
 // The code of the convention that an attribute's name asks for on a target. MSVC changes nothing here; a target is passed whole all the same.
 pub fn asked(architecture: u64, system: u64, msvc: bool, name: &[u8]) -> Option<u64>
@@ -24,14 +24,11 @@ pub fn asked(architecture: u64, system: u64, msvc: bool, name: &[u8]) -> Option<
 }
 
 // The name of the attribute that asks for a convention, written to the front of `out`.
-pub fn attribute(convention: u64, out: &mut [u8]) -> Written
-    ensures { (result ≡ attribute_answer convention (length out.old)) × (out.new ≡ attribute_written convention out.old) }
+pub fn attribute(convention: u64, out: &mut [u8]) -> Result<Option<usize>, Refusal>
+    ensures { (result ≡ attribute_put convention (length out.old)) × (out.new ≡ attribute_written convention out.old) }
 {
-    if !is_convention(convention) {
-        return Written {
-            refusal: shape::ACCEPTED,
-            length: NONE,
-        };
-    }
-    write_attribute(convention_of(convention), out)
+    let Ok(convention) = Convention::try_from(convention) else {
+        return Ok(None);
+    };
+    write_attribute(convention, out)
 }

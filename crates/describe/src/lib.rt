@@ -8,6 +8,7 @@ ghost use Rattle.describe.specs.Dots.{dots_of, as_fixed};
 
 // What an aggregate has to look like for a rule to apply. A test is an idea that several conventions share; which of them a convention
 // asks, in which order and with which limit, is its description. SizeOneOf has a count, and of the four sizes behind it the first so many.
+// kept: a count and four sizes and no slice, since the definitions of specs/ are over this enum (describe/specs/Description.antt).
 #[derive(Clone, Copy, Debug, PartialEq, Eq)]
 pub enum Test {
     // The last rule of every list, so that some rule decides.
@@ -97,6 +98,7 @@ pub struct Banks {
 }
 
 // How a scalar spends registers. `in_memory` and `wide_integer_returns_in` are kinds of formats, or 0, the integer kind, for none.
+// kept: 0 and no Option, since the descriptions of abis/specs/Abis.antt are made of this struct.
 #[derive(Clone, Copy, Debug, PartialEq, Eq)]
 pub struct Scalars {
     // The x87 format on SysV AMD64: no argument register takes it.

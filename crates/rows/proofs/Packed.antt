@@ -180,17 +180,3 @@ module _ (D : Description) where
   arguments_packed h =
       let four = four_packed D.arguments (and_left (leb (length D.arguments) 4) (held_tests D.arguments) h) in
       simp (four.0, four.1)
-
--- The tests of a list, each as it was read from its place.
-pub tests_read : (row : List ℕ) (first : ℕ) {a b c d : ℕ}
-    → a ≡ pair_of (get_or row first 0) (get_or row (first + 1) 0)
-    → b ≡ pair_of (get_or row (first + 3) 0) (get_or row (first + 3 + 1) 0)
-    → c ≡ pair_of (get_or row (first + 6) 0) (get_or row (first + 6 + 1) 0)
-    → d ≡ pair_of (get_or row (first + 9) 0) (get_or row (first + 9 + 1) 0)
-    → tests_of a b c d ≡ (list_of row first).tests
-unfolding list_of
-tests_read row first ea eb ec ed =
-    let second : first + 4 ≡ first + 3 + 1 = omega arith in
-    let third : first + 7 ≡ first + 6 + 1 = omega arith in
-    let fourth : first + 10 ≡ first + 9 + 1 = omega arith in
-    rw (ea, eb, ec, ed, second, third, fourth)

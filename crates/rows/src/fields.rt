@@ -12,6 +12,7 @@ use describe::{
 // formats with the last flag, the other fields in two bytes, then four rules for returns and four for arguments. A rule is three bytes: its test,
 // the test's number, and the way of travel with what happens when short; three zeros stand where a list has ended. The module
 // `codes` names the values.
+// kept: a row of bytes, since what is read of a literal one is a constant, and an indexed one costs by its bytes (docs/DECISIONS.md, "The table").
 pub const WIDTH: usize = 32;
 
 const INTEGER: usize = 0;
@@ -39,6 +40,7 @@ pub const ARGUMENTS: usize = 20;
 pub const RULES: u64 = 4;
 
 // What classification reads.
+#[tactic(auto, unfolding(crate::specs::Row::terms_from))]
 pub fn terms_of(row: [u8; WIDTH]) -> Terms
     ensures { result ≡ terms_from row }
 {
@@ -53,6 +55,7 @@ pub fn terms_of(row: [u8; WIDTH]) -> Terms
 }
 
 // What it doesn't.
+#[tactic(auto, unfolding(crate::specs::Row::others_from))]
 pub fn others_of(row: [u8; WIDTH]) -> Others
     ensures { result ≡ others_from row }
 {
@@ -64,6 +67,7 @@ pub fn others_of(row: [u8; WIDTH]) -> Others
     }
 }
 
+#[tactic(auto, unfolding(crate::specs::Row::banks_from))]
 fn banks_of(row: [u8; WIDTH]) -> Banks
     ensures { result ≡ banks_from row }
 {
@@ -76,6 +80,7 @@ fn banks_of(row: [u8; WIDTH]) -> Banks
     }
 }
 
+#[tactic(auto, unfolding(crate::specs::Row::scalars_from))]
 fn scalars_of(row: [u8; WIDTH]) -> Scalars
     ensures { result ≡ scalars_from row }
 {
@@ -95,6 +100,8 @@ fn scalars_of(row: [u8; WIDTH]) -> Scalars
     }
 }
 
+// kept: six functions for six enums, and no TryFrom: a number past the last case is the last case, so there is nothing to refuse.
+#[tactic(auto, unfolding(crate::specs::Codes::return_pointer_from))]
 fn return_pointer_from(code: u8) -> ReturnPointer
     ensures { result ≡ return_pointer_from code }
 {
@@ -105,6 +112,7 @@ fn return_pointer_from(code: u8) -> ReturnPointer
     }
 }
 
+#[tactic(auto, unfolding(crate::specs::Codes::variadic_from))]
 fn variadic_from(code: u8) -> Variadic
     ensures { result ≡ variadic_from code }
 {
@@ -118,6 +126,7 @@ fn variadic_from(code: u8) -> Variadic
     }
 }
 
+#[tactic(auto, unfolding(crate::specs::Codes::stack_args_from))]
 fn stack_args_from(code: u8) -> StackArgs
     ensures { result ≡ stack_args_from code }
 {
@@ -127,6 +136,7 @@ fn stack_args_from(code: u8) -> StackArgs
     }
 }
 
+#[tactic(auto, unfolding(crate::specs::Codes::narrow_from))]
 fn narrow_from(code: u8) -> Narrow
     ensures { result ≡ narrow_from code }
 {
@@ -137,6 +147,7 @@ fn narrow_from(code: u8) -> Narrow
     }
 }
 
+#[tactic(auto, unfolding(crate::specs::Codes::bit_ints_from))]
 fn bit_ints_from(code: u8) -> BitInts
     ensures { result ≡ bit_ints_from code }
 {
@@ -146,6 +157,7 @@ fn bit_ints_from(code: u8) -> BitInts
     }
 }
 
+#[tactic(auto, unfolding(crate::specs::Codes::cleanup_from))]
 fn cleanup_from(code: u8) -> Cleanup
     ensures { result ≡ cleanup_from code }
 {
@@ -160,59 +172,35 @@ fn cleanup_from(code: u8) -> Cleanup
 pub fn return_pointer_number(pointer: ReturnPointer) -> u64
     ensures { result ≡ return_pointer_code pointer }
 {
-    match pointer {
-        ReturnPointer::FirstArgument => 0,
-        ReturnPointer::FirstArgumentPopped => 1,
-        ReturnPointer::Dedicated => 2,
-    }
+    pointer as u64
 }
 
 pub fn variadic_number(variadic: Variadic) -> u64
     ensures { result ≡ variadic_code variadic }
 {
-    match variadic {
-        Variadic::SameAsFixed => 0,
-        Variadic::AlwaysMemory => 1,
-        Variadic::BothBanks => 2,
-        Variadic::IntegersOnly => 3,
-        Variadic::UnnamedIntegers => 4,
-        Variadic::UnnamedIntegersEven => 5,
-    }
+    variadic as u64
 }
 
 pub fn stack_args_number(stack: StackArgs) -> u64
     ensures { result ≡ stack_args_code stack }
 {
-    match stack {
-        StackArgs::RegisterSized => 0,
-        StackArgs::Packed => 1,
-    }
+    stack as u64
 }
 
 pub fn narrow_number(narrow: Narrow) -> u64
     ensures { result ≡ narrow_code narrow }
 {
-    match narrow {
-        Narrow::Unspecified => 0,
-        Narrow::ToInt => 1,
-        Narrow::ArgsToInt => 2,
-    }
+    narrow as u64
 }
 
 pub fn bit_ints_number(bits: BitInts) -> u64
     ensures { result ≡ bit_ints_code bits }
 {
-    match bits {
-        BitInts::SpareBits => 0,
-        BitInts::Untaught => 1,
-    }
+    bits as u64
 }
 
 pub fn cleanup_number(cleanup: Cleanup) -> u64
     ensures { result ≡ cleanup_code cleanup }
 {
-    match cleanup {
-        Cleanup::Caller => 0,
-        Cleanup::Callee => 1,
-    }
+    cleanup as u64
 }

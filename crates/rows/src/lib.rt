@@ -6,7 +6,8 @@ pub mod codes;
 mod fields;
 
 ghost use Rattle.std.specs.Prelude.{◌≡◌, ◌+◌, ◌≤◌, ◌<◌, get_or};
-ghost use Rattle.rows.specs.Row.{return_rule, argument_rule, rule_of, list_of, pair_of, ways_of, first_rule, later_rules};
+ghost use Rattle.std.specs.Iterator.{YieldsFirstBy, item_count};
+ghost use Rattle.rows.specs.Row.{return_rule, argument_rule, rule_of, list_of, first_rule, later_rules, listed};
 ghost use Rattle.rows.specs.Codes.{test_from, size_from, travel_from, short_from};
 
 use codes::*;
@@ -18,10 +19,30 @@ pub use fields::{
 
 // A list of rules as two numbers, the first rule lowest: two bytes for each test and its number, a byte for each way of travel with what
 // happens when short. A walk takes the first rule off until one decides; nothing is copied for it.
+// kept: with rules in a slice or an array an aggregate costs 200 instructions more (docs/DECISIONS.md, "The table").
 #[derive(Clone, Copy)]
 pub struct Rules {
     pub tests: u64,
     pub ways: u64,
+}
+
+// Each item is the list from a rule on, of which a walk reads the first rule as far as it asks: the rest of a rule only where its test finds
+// something.
+impl Iterator for Rules {
+    type Item = Rules;
+
+    ghost next_gives = { YieldsFirstBy first_rule listed };
+
+    ghost remaining = { item_count listed };
+
+    fn next(&mut self) -> Option<Rules> {
+        if self.tests == 0 {
+            return None;
+        }
+        let these = *self;
+        *self = later_rules(these);
+        Some(these)
+    }
 }
 
 // Rule `i` for returns. A walk begins at 0 and goes on from one rule to the next; past the end stands a rule that ignores anything.
@@ -53,6 +74,7 @@ pub fn argument_rules(row: [u8; WIDTH]) -> Rules
 }
 
 // The first rule of a list. Where none is left stands a rule that ignores anything.
+#[tactic(auto, unfolding(crate::specs::Row::first_rule, crate::specs::Row::rule_from))]
 pub fn first_rule(rules: Rules) -> Rule
     ensures { result ≡ first_rule rules }
 {
@@ -65,6 +87,7 @@ pub fn first_rule(rules: Rules) -> Rule
 }
 
 // Its test alone: a walk needs the rest of a rule only where the test finds something.
+#[tactic(auto, unfolding(crate::specs::Row::first_rule, crate::specs::Row::rule_from))]
 pub fn first_test(rules: Rules) -> Test
     ensures { result ≡ (first_rule rules).when }
 {
@@ -72,6 +95,7 @@ pub fn first_test(rules: Rules) -> Test
 }
 
 // The rules behind the first.
+#[tactic(auto, unfolding(crate::specs::Row::later_rules))]
 pub fn later_rules(rules: Rules) -> Rules
     ensures { result ≡ later_rules rules }
 {
@@ -81,56 +105,33 @@ pub fn later_rules(rules: Rules) -> Rules
     }
 }
 
+#[tactic(auto, unfolding(crate::specs::Row::list_of))]
 fn list_of(row: [u8; WIDTH], first: usize) -> Rules
     requires { first ≤ 20 }
     ensures { result ≡ list_of row first }
 {
     Rules {
-        tests: tests_of(row, first),
-        ways: ways_of(
+        tests: u64::from_le_bytes([
+            row[first],
+            row[first + 1],
+            row[first + 3],
+            row[first + 4],
+            row[first + 6],
+            row[first + 7],
+            row[first + 9],
+            row[first + 10],
+        ]),
+        ways: u64::from(u32::from_le_bytes([
             row[first + 2],
             row[first + 5],
             row[first + 8],
             row[first + 11],
-        ),
+        ])),
     }
 }
 
-// The tests of a list's four rules as one number, the first rule's lowest.
-fn tests_of(row: [u8; WIDTH], first: usize) -> u64
-    requires { first ≤ 20 }
-    ensures { result ≡ (list_of row first).tests }
-{
-    let a = test_at(row, first);
-    let b = test_at(row, first + 3);
-    let c = test_at(row, first + 6);
-    let d = test_at(row, first + 9);
-    a + 65536 * (b + 65536 * (c + 65536 * d))
-}
-
-// The test of the rule whose first byte stands at `at`.
-fn test_at(row: [u8; WIDTH], at: usize) -> u64
-    requires { at ≤ 29 }
-    ensures { (result ≡ pair_of (get_or row at 0) (get_or row (at + 1) 0)) × (result < 65536) }
-{
-    pair(row[at], row[at + 1])
-}
-
-// A test's code and its number as one.
-fn pair(code: u8, number: u8) -> u64
-    ensures { (result ≡ pair_of code number) × (result < 65536) }
-{
-    shape::wide(code) + 256 * shape::wide(number)
-}
-
-// The ways of a list's four rules, likewise.
-fn ways_of(a: u8, b: u8, c: u8, d: u8) -> u64
-    ensures { result ≡ ways_of a b c d }
-{
-    shape::wide(a) + 256 * (shape::wide(b) + 256 * (shape::wide(c) + 256 * shape::wide(d)))
-}
-
 // The rule at place `i` of the list whose first byte stands at `first`.
+#[tactic(auto, unfolding(crate::specs::Row::rule_of, crate::specs::Row::rule_from))]
 fn rule_of(row: [u8; WIDTH], first: usize, i: u64) -> Rule
     requires { first ≤ 20 }
     ensures { result ≡ rule_of row first i }
@@ -152,6 +153,7 @@ fn rule_of(row: [u8; WIDTH], first: usize, i: u64) -> Rule
     }
 }
 
+#[tactic(auto, unfolding(crate::specs::Codes::test_from))]
 fn test_from(code: u8, number: u8) -> Test
     ensures { result ≡ test_from code number }
 {
@@ -178,6 +180,7 @@ fn test_from(code: u8, number: u8) -> Test
 }
 
 // One of the four sizes that a register may hold, by two bits.
+#[tactic(auto, unfolding(crate::specs::Codes::size_from))]
 fn size_from(code: u8) -> u64
     ensures { result ≡ size_from code }
 {
@@ -189,6 +192,7 @@ fn size_from(code: u8) -> u64
     }
 }
 
+#[tactic(auto, unfolding(crate::specs::Codes::travel_from))]
 fn travel_from(code: u8) -> Travel
     ensures { result ≡ travel_from code }
 {
@@ -203,6 +207,7 @@ fn travel_from(code: u8) -> Travel
     }
 }
 
+#[tactic(auto, unfolding(crate::specs::Codes::short_from))]
 fn short_from(code: u8) -> Short
     ensures { result ≡ short_from code }
 {
