@@ -1,10 +1,13 @@
 -- No second answer, and no other words in a lent buffer, meet the promise of a public function.
 use mathlib.Core.Path.{sym, ◌∙◌}
 use contract.Lifetimes.{Lfts}
-use Rattle.shape.specs.Words.{pieces_left}
+use Rattle.shape.specs.Words.{pieces_left, scalars_left}
 use Rattle.shape.proofs.OneAnswer.{OneAnswer, OneExit, OneShown}
 use Rattle.shape.proofs.is_all_of.Reads as is_all_of
 use Rattle.shape.proofs.each_piece.Reads as each_piece
+use Rattle.shape.proofs.each_scalar.Reads as each_scalar
+use Rattle.shape.proofs.PieceRecordPIECE.from_words.Reads as piece_from_words
+use Rattle.shape.proofs.ScalarRecordSCALAR.from_words.Reads as scalar_from_words
 use Rattle.shape.proofs.piece_at.Reads as piece_at
 use Rattle.shape.proofs.put_piece.Reads as put_piece
 use Rattle.shape.proofs.scalar_at.Reads as scalar_at
@@ -28,6 +31,15 @@ is_all_of_decides κs a r q s t p p' = p ∙ sym p'
 
 each_piece_decides : (κs : Lfts 1) → OneShown (each_piece.Post κs) pieces_left
 each_piece_decides κs a r q s t p p' = p ∙ sym p'
+
+each_scalar_decides : (κs : Lfts 1) → OneShown (each_scalar.Post κs) scalars_left
+each_scalar_decides κs a r q s t p p' = p ∙ sym p'
+
+piece_from_words_decides : (κs : Lfts 0) → OneAnswer (piece_from_words.Post κs)
+piece_from_words_decides κs a r q s t p p' = p ∙ sym p'
+
+scalar_from_words_decides : (κs : Lfts 0) → OneAnswer (scalar_from_words.Post κs)
+scalar_from_words_decides κs a r q s t p p' = p ∙ sym p'
 
 piece_at_decides : (κs : Lfts 1) → OneAnswer (piece_at.Post κs)
 piece_at_decides κs a r q s t p p' = p ∙ sym p'

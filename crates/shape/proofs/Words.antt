@@ -1,16 +1,17 @@
 -- Records by place: where a whole record is left at a place of some words, the records from there on are that one and those after it.
--- These are the only laws that open `pieces_of` and `scalars_of`.
+-- These, and those of specs/Reading.antt, are the only laws that open `pieces_of` and `scalars_of`.
 use Prim.Native.Nat.{ℕ, zero, suc, ◌+◌, ◌-◌, ◌/◌, ◌≤◌, ◌<◌}
-use mathlib.Core.Path.{◌≡◌, refl, ap}
+use mathlib.Core.Path.{◌≡◌, refl}
 use mathlib.Core.List.{List, [], ◌∷◌, ◌++◌}
 use mathlib.Core.Bool.{Bool, true, false, not, ◌&&◌}
 use native.Mathlib.Numerals.{add-one}
 use native.Mathlib.Omega.{arith}
 use borrow.Author.Tests.{not-true, not-false}
-use lib.ListN.{length, take, drop, get_or, length-drop}
+use lib.ListN.{length, drop, get_or, length-drop}
 use lib.Seq.{drop-cons}
 use Rattle.shape.specs.declared.Piece.{Piece}
 use Rattle.shape.specs.declared.Scalar.{Scalar}
+use Rattle.shape.specs.Reading.{few_pieces, few_scalars}
 use Rattle.shape.specs.Words.{piece, pieces_of, first_piece, piece_at, scalar, scalars_of, first_scalar, scalar_at}
 
 -- the words from a place are the word there and the words from the next
@@ -40,29 +41,7 @@ drop_reads ws at (suc n) h =
     let e : at + suc n ≡ at + 1 + n = omega arith in
     rw (drop_word ws at (omega arith), e, drop_from ws at 1 n (omega arith))
 
--- what comes off the front leaves fewer
-pub fewer_left : {A : Type 0} (all rest : List A) (x : A) → all ≡ x ∷ rest → length rest < length all
-fewer_left all rest x e = let n : length all ≡ suc (length rest) = ap length e in omega arith
-
 -- ---- pieces
-
-pub few_pieces : (ws : List ℕ) → length ws < 4 → pieces_of ws ≡ []
-unfolding pieces_of
-few_pieces [] h = refl
-few_pieces (k ∷ []) h = refl
-few_pieces (k ∷ s ∷ []) h = refl
-few_pieces (k ∷ s ∷ a ∷ []) h = refl
-few_pieces (k ∷ s ∷ a ∷ o ∷ ws) h = absurd (omega arith)
-
--- what an iterator's turn takes off: the first four words are a piece, and those behind them hold the others
-pub pieces_chunk : (ws first others : List ℕ) → first ≡ take 4 ws → others ≡ drop 4 ws → length others + 4 ≡ length ws
-    → pieces_of ws ≡ piece (get_or first 0 0) (get_or first 1 0) (get_or first 2 0) (get_or first 3 0) ∷ pieces_of others
-unfolding pieces_of
-pieces_chunk [] first others f o h = absurd (omega arith)
-pieces_chunk (k ∷ []) first others f o h = absurd (omega arith)
-pieces_chunk (k ∷ s ∷ []) first others f o h = absurd (omega arith)
-pieces_chunk (k ∷ s ∷ a ∷ []) first others f o h = absurd (omega arith)
-pieces_chunk (k ∷ s ∷ a ∷ d ∷ ws) first others f o h = rw (f, o)
 
 -- how many pieces some words hold
 pub length_pieces : (ws : List ℕ) → length (pieces_of ws) ≡ length ws / 4
@@ -93,13 +72,6 @@ module _ (ws : List ℕ) (at : ℕ) where
   pieces_end h = few_pieces (drop at ws) (simp length-drop (omega arith))
 
 -- ---- scalars
-
-few_scalars : (ws : List ℕ) → length ws < 3 → scalars_of ws ≡ []
-unfolding scalars_of
-few_scalars [] h = refl
-few_scalars (k ∷ []) h = refl
-few_scalars (k ∷ s ∷ []) h = refl
-few_scalars (k ∷ s ∷ a ∷ ws) h = absurd (omega arith)
 
 -- how many scalars some words hold
 pub length_scalars : (ws : List ℕ) → length (scalars_of ws) ≡ length ws / 3

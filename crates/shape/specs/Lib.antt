@@ -1,5 +1,6 @@
 pub mod Numbers
 pub mod Words
+pub mod Reading
 pub mod Arithmetic
 pub mod Questions
 pub mod Refusals

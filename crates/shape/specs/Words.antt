@@ -1,9 +1,9 @@
 -- Pieces and scalars as they stand in words (REFERENCE 1.2): a piece is kind, size, alignment, offset; a scalar is the first three.
 -- Words after the last whole record are no record. And words put at a place of a buffer.
-use Rattle.std.specs.Prelude.{ℕ, ◌+◌, List, [], ◌∷◌, ◌++◌, Bool, true, false, leb, length, take, drop}
+use Rattle.std.specs.Prelude.{ℕ, ◌+◌, List, [], ◌∷◌, ◌++◌, Bool, true, false, leb, length, get_or, take, drop}
 use Rattle.shape.specs.declared.Piece.{Piece}
 use Rattle.shape.specs.declared.Scalar.{Scalar}
-use Rattle.shape.specs.declared.Pieces.{Pieces}
+use Rattle.shape.specs.declared.Records.{Records}
 
 -- words of a piece and of a scalar
 abbrev pub piece_size : ℕ
@@ -22,8 +22,12 @@ pieces_of (k ∷ s ∷ []) = []
 pieces_of (k ∷ s ∷ a ∷ []) = []
 pieces_of (k ∷ s ∷ a ∷ o ∷ ws) = piece k s a o ∷ pieces_of ws
 
+-- a piece from its words
+abbrev pub piece_from : List ℕ → Piece
+piece_from ws = piece (get_or ws 0 0) (get_or ws 1 0) (get_or ws 2 0) (get_or ws 3 0)
+
 -- the pieces that an iterator has still to give
-abbrev pub pieces_left : Pieces → List Piece
+abbrev pub pieces_left : Records Piece piece_size → List Piece
 pieces_left ps = pieces_of ps.words.now
 
 -- the first of some pieces, all zeros where there is none
@@ -43,6 +47,13 @@ scalars_of [] = []
 scalars_of (k ∷ []) = []
 scalars_of (k ∷ s ∷ []) = []
 scalars_of (k ∷ s ∷ a ∷ ws) = scalar k s a ∷ scalars_of ws
+
+abbrev pub scalar_from : List ℕ → Scalar
+scalar_from ws = scalar (get_or ws 0 0) (get_or ws 1 0) (get_or ws 2 0)
+
+-- the scalars that an iterator has still to give
+abbrev pub scalars_left : Records Scalar scalar_size → List Scalar
+scalars_left ss = scalars_of ss.words.now
 
 -- the first of some scalars, all zeros where there is none
 unfoldable pub first_scalar : List Scalar → Scalar

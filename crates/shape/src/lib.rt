@@ -2,13 +2,17 @@
 // alignment, offset. Whether it may be asked, the crate checks says. The rules are those of docs/REFERENCE.md, 1, 2, 4.1 and 4.2.
 #![tactic(auto)]
 
-ghost use Rattle.std.specs.Prelude.{◌≡◌, ◌-◌, ◌<◌, ◌≤◌, min, max, ◌+◌, leb, length};
+ghost use Rattle.std.specs.Prelude.{◌≡◌, ◌-◌, ◌<◌, ◌≤◌, min, max, ◌+◌, leb, length, ℕ, List, [], ◌∷◌, take, drop};
+ghost use native.Mathlib.Omega.{arith};
 ghost use Rattle.shape.specs.Numbers.{one_if};
 ghost use Rattle.shape.specs.Arithmetic.{plus, times, rounded};
-ghost use Rattle.shape.specs.Words.{pieces_of, pieces_left, piece_at, scalar_at, put_at, piece_size, piece_words};
+ghost use Rattle.shape.specs.Words.{pieces_of, pieces_left, scalars_of, scalars_left, piece_from, scalar_from, piece_at, scalar_at, put_at, piece_size, piece_words};
+ghost use Rattle.shape.specs.Reading.{few_pieces, few_scalars, more_pieces, more_scalars};
 ghost use Rattle.shape.specs.Questions.{integer_of, float_of, is_float, end_of, is_all_of};
 ghost use Rattle.shape.specs.Refusals.{number_of};
 ghost use Rattle.std.specs.Iterator.{YieldsFirst, item_count};
+
+use std::marker::PhantomData;
 
 mod refusals;
 
@@ -157,37 +161,111 @@ pub fn is_all_of(words: &[u64], kind: u64) -> bool
     words.len() >= PIECE
 }
 
-// The pieces of some words, from the first; words behind the last whole piece are none.
+// What stands in words, N to a record.
+pub trait Record<const N: usize> {
+    ghost of: { List ℕ → Self };
+
+    ghost all: { List ℕ → List Self };
+
+    fn from_words(words: [u64; N]) -> Self
+        ensures { result ≡ of words.entry };
+
+    ghost short: { N < 64 };
+
+    // Fewer words are no record; else the first are one, and those behind them hold the others.
+    ghost few: { (ws : List ℕ) → length ws < N → all ws ≡ [] };
+
+    ghost more: { (ws : List ℕ) → N ≤ length ws → all ws ≡ of (take N ws) ∷ all (drop N ws) };
+}
+
+impl Record<PIECE> for Piece {
+    ghost of = { piece_from };
+
+    ghost all = { pieces_of };
+
+    fn from_words(words: [u64; PIECE]) -> Piece
+        ensures { result ≡ piece_from words }
+    {
+        let [kind, size, align, offset] = words;
+        Piece {
+            kind,
+            size,
+            align,
+            offset,
+        }
+    }
+
+    ghost short = { Prim.omega arith };
+
+    ghost few = { few_pieces };
+
+    ghost more = { more_pieces };
+}
+
+impl Record<SCALAR> for Scalar {
+    ghost of = { scalar_from };
+
+    ghost all = { scalars_of };
+
+    fn from_words(words: [u64; SCALAR]) -> Scalar
+        ensures { result ≡ scalar_from words }
+    {
+        let [kind, size, align] = words;
+        Scalar { kind, size, align }
+    }
+
+    ghost short = { Prim.omega arith };
+
+    ghost few = { few_scalars };
+
+    ghost more = { more_scalars };
+}
+
+// The records of some words, from the first; words behind the last whole record are none.
 #[derive(Drop)]
-pub struct Pieces<'a> {
+pub struct Records<'a, T, const N: usize> {
     words: &'a [u64],
+    record: PhantomData<T>,
+}
+
+pub type Pieces<'a> = Records<'a, Piece, PIECE>;
+
+pub type Scalars<'a> = Records<'a, Scalar, SCALAR>;
+
+impl<'a, T, const N: usize> Records<'a, T, N> {
+    fn of(words: &'a [u64]) -> Records<'a, T, N>
+        ensures { result.words.now ≡ words.now }
+    {
+        Records {
+            words,
+            record: PhantomData,
+        }
+    }
 }
 
 pub fn each_piece(words: &[u64]) -> Pieces<'_>
     ensures { pieces_left result ≡ pieces_of words.now }
 {
-    Pieces { words }
+    Pieces::of(words)
 }
 
-impl<'a> Iterator for Pieces<'a> {
-    type Item = Piece;
+pub fn each_scalar(words: &[u64]) -> Scalars<'_>
+    ensures { scalars_left result ≡ scalars_of words.now }
+{
+    Scalars::of(words)
+}
 
-    ghost next_gives = { YieldsFirst pieces_left };
+impl<'a, T: Record<N>, const N: usize> Iterator for Records<'a, T, N> {
+    type Item = T;
 
-    ghost remaining = { item_count pieces_left };
+    ghost next_gives = { YieldsFirst (λ s. T.all s.words.now) };
 
-    fn next(&mut self) -> Option<Piece> {
-        let Some((first, others)) = self.words.split_first_chunk::<PIECE>() else {
-            return None;
-        };
-        let [kind, size, align, offset] = *first;
+    ghost remaining = { item_count (λ s. T.all s.words.now) };
+
+    fn next(&mut self) -> Option<T> {
+        let (first, others) = self.words.split_first_chunk::<N>()?;
         self.words = others;
-        Some(Piece {
-            kind,
-            size,
-            align,
-            offset,
-        })
+        Some(T::from_words(*first))
     }
 }
 
@@ -217,28 +295,16 @@ pub fn put_piece(out: &mut [u64], at: usize, piece: Piece) -> bool
 }
 
 // The scalar that starts at a place of the words: all zeros where no whole scalar is left there.
+#[tactic(auto, using(crate::proofs::Words::no_scalar), unfolding(crate::specs::Words::first_scalar, crate::specs::Words::scalar_at))]
 pub fn scalar_at(words: &[u64], at: usize) -> Scalar
     ensures { result ≡ scalar_at words.now at }
 {
-    let n = words.len();
-    if n < SCALAR {
-        return Scalar {
-            kind: 0,
-            size: 0,
-            align: 0,
-        };
-    }
-    if at > n - SCALAR {
-        return Scalar {
-            kind: 0,
-            size: 0,
-            align: 0,
-        };
-    }
-    Scalar {
-        kind: words[at],
-        size: words[at + 1],
-        align: words[at + 2],
+    let Some((_, rest)) = words.split_at_checked(at) else {
+        return Scalar::default();
+    };
+    match each_scalar(rest).next() {
+        Some(scalar) => scalar,
+        None => Scalar::default(),
     }
 }
 
