@@ -1,8 +1,9 @@
 -- The whole search, from what its parts found, and what its users learn: its slots are those of the classes beside it, and how many there can be.
+use Rattle.std.specs.Prelude as Prelude
 use Prim.Native.Nat.{ℕ, suc, ◌+◌, ◌-◌, ◌≤◌, ◌<◌, min}
 use mathlib.Core.Path.{◌≡◌, refl, sym, ap, ◌∙◌}
 use mathlib.Core.Bool.{Bool, true, false, cond, not}
-use mathlib.Core.List.{List, [], ◌∷◌, ◌++◌, map, map-append}
+use mathlib.Core.List.{List, [], ◌∷◌, ◌++◌}
 use mathlib.Core.Option.{Option}
 use mathlib.Core.Option.Option.{none, some}
 use native.Mathlib.Omega.{arith}
@@ -14,28 +15,26 @@ use Rattle.shape.specs.declared.Piece.{Piece}
 use Rattle.shape.specs.declared.Shape.{Shape}
 use Rattle.slots.specs.declared.Slot.{Slot}
 use Rattle.slots.specs.declared.Found.{Found}
-use Rattle.slots.specs.declared.Found.TheVariants.{Nothing}
 use Rattle.shape.specs.Numbers.{one_if}
 use Rattle.slots.specs.Search.{found, found_of}
-use Rattle.eightbytes.specs.Class.{Class, None, SseUp, code, class_of, same, mended}
-use Rattle.eightbytes.specs.Eightbytes.{most_limit, eightbytes_in, mark, classes_after, spoiled, mend, settled, and_then, classified, slots_from, slots_found, eightbytes, codes, classes_of, coded_slots, slot_count}
+use Rattle.eightbytes.specs.Class.{Class, None, SseUp, same, mended}
+use Rattle.eightbytes.specs.Eightbytes.{most_limit, eightbytes_in, mark, classes_after, spoiled, mend, settled, and_then, classified, slots_from, slots_found, eightbytes, eight_of, classes_of, slots_of_eight, slot_count}
 use Rattle.eightbytes.specs.Reach.{fits}
 use Rattle.eightbytes.proofs.Marks.{mark_length}
-use Rattle.eightbytes.proofs.Codes.{classes_codes}
 use Rattle.eightbytes.proofs.Counts.{slots_length}
 
 -- ---- from the parts: `o` is what is known of the classes
 
 module _ (limit : ℕ) (shape : Shape) (ps : List Piece) (o : Option (List Class)) (e : classified limit shape ps ≡ o) where
-  pub found_by : (f : Found) → f ≡ found_of (slots_found shape.size o) → f ≡ found_of (eightbytes limit shape ps)
+  pub found_by : (f : Prelude.Option Found) → f ≡ found_of (slots_found shape.size o) → f ≡ found_of (eightbytes limit shape ps)
   unfolding eightbytes
   found_by f ef = rw e ef
 
-  pub classes_by : (cs : List ℕ) → cs ≡ codes o → cs ≡ classes_of limit shape ps
+  pub classes_by : (cs : List Class) → cs ≡ eight_of o → cs ≡ classes_of limit shape ps
   unfolding classes_of
   classes_by cs ec = rw e ec
 
-pub nothing_by : (size : ℕ) (f : Found) → f ≡ Nothing → f ≡ found_of (slots_found size none)
+pub nothing_by : (size : ℕ) (f : Prelude.Option Found) → f ≡ Prelude.None → f ≡ found_of (slots_found size none)
 unfolding slots_found found_of
 nothing_by size f e = e
 
@@ -50,7 +49,7 @@ module _ (limit : ℕ) (shape : Shape) (ps : List Piece) (m : ℕ) (em : m ≡ m
     unfolding classified
     unfit e = rw (← em, le-ltb _ _ h, ← en, e)
 
-    pub fit : (xs : List ℕ) → classes_after (replicate n None) ps ≡ some (take n (map class_of xs)) → classified limit shape ps ≡ settled (take n (map class_of xs))
+    pub fit : (xs : List Class) → classes_after (replicate n None) ps ≡ some (take n xs) → classified limit shape ps ≡ settled (take n xs)
     unfolding classified
     fit xs e = rw (← em, le-ltb _ _ h, ← en, e)
 
@@ -109,19 +108,19 @@ few_slots (c ∷ cs) = go (same c SseUp) (few_slots cs)
 
 -- the classes beside the answer stand for its slots
 pub record Answer (limit : ℕ) (shape : Shape) (ps : List Piece) (ss : List Slot) : Type 0 where
-  pub slots_are : ss ≡ coded_slots shape.size (classes_of limit shape ps)
+  pub slots_are : ss ≡ slots_of_eight shape.size (classes_of limit shape ps)
   pub few : length ss ≤ eightbytes_in shape.size
   pub within : shape.size ≤ min limit most_limit
 
 pub answer : (limit : ℕ) (shape : Shape) (ps : List Piece) (ss : List Slot) → eightbytes limit shape ps ≡ found ss → Answer limit shape ps ss
-unfolding eightbytes slots_found classes_of codes coded_slots
+unfolding eightbytes slots_found classes_of eight_of slots_of_eight
 answer limit shape ps ss e = go (classified limit shape ps) refl e
   where
     n : ℕ
     n = eightbytes_in shape.size
 
-    back : (cs : List Class) → length cs ≡ n → take n (map class_of (map code cs ++ replicate (8 - length cs) 0)) ≡ cs
-    back cs l = rw (map-append, classes_codes) (take_at cs _ n l)
+    back : (cs : List Class) → length cs ≡ n → take n (cs ++ replicate (8 - length cs) None) ≡ cs
+    back cs l = take_at cs _ n l
 
     go : (o : Option (List Class)) → classified limit shape ps ≡ o → slots_found shape.size o ≡ found ss
         → Answer limit shape ps ss

@@ -2,24 +2,20 @@
 use Prim.Native.Nat.{ℕ, zero, suc, ◌+◌, ◌-◌, ◌/◌, ◌≤◌, ◌<◌}
 use mathlib.Core.Path.{◌≡◌, refl, sym, ap, ◌∙◌}
 use mathlib.Core.Bool.{Bool, true, false, not, ◌&&◌, false≢true}
-use mathlib.Core.List.{List, ◌∷◌, map}
+use mathlib.Core.List.{List, [], ◌∷◌}
 use mathlib.Core.Option.{Option}
 use mathlib.Core.Option.Option.{none, some}
 use native.Mathlib.Omega.{arith}
 use native.Mathlib.Nat.{sub-zero}
 use borrow.Author.Tests.{ltb-true, not-true, not-false}
 use lib.Dec.{ltb}
-use lib.ListN.{length-map, length, get_or, set, take, drop, replicate, length-set, length-take}
+use lib.ListN.{length, get_or, set, take, drop, replicate, length-set, length-take}
 use lib.Seq.{get_or-take, take-set-lt, drop-set-lt}
 use Rattle.shape.specs.declared.Piece.{Piece}
 use Rattle.shape.specs.Questions.{end_of}
-use Rattle.shape.specs.Words.{pieces_of, piece_at}
-use Rattle.shape.proofs.Words.{pieces_step, pieces_end}
-use Rattle.eightbytes.specs.Class.{Class, None, code, class_of, merge, kind_class, later}
-use Rattle.eightbytes.specs.Eightbytes.{cover, mark, classes_after, Coded}
+use Rattle.eightbytes.specs.Class.{Class, None, merge, kind_class, later}
+use Rattle.eightbytes.specs.Eightbytes.{cover, mark, classes_after}
 use Rattle.eightbytes.specs.Reach.{last_of, aligned, fits}
-use Rattle.eightbytes.proofs.Class.{class_code, coded_lt}
-use Rattle.eightbytes.proofs.Codes.{map_set, map_drop, class_at, codes_classes, classes_codes, coded_set}
 
 -- ---- the loop over the eightbytes of a piece
 
@@ -32,35 +28,28 @@ cover_zero : (cs : List Class) (at : ℕ) (c : Class) (n : ℕ) → n ≡ 0 → 
 unfolding cover
 cover_zero cs at c n e = rw e
 
-pub mark_start : (xs : List ℕ) (p : Piece) (e c : ℕ) → e ≡ end_of p → c ≡ code (kind_class p.kind)
-    → cover (map class_of xs) (p.offset / 8) (class_of c) ((e - 1) / 8 + 1 - p.offset / 8) ≡ mark (map class_of xs) p
+pub mark_start : (cs : List Class) (p : Piece) (e : ℕ) (c : Class) → e ≡ end_of p → c ≡ kind_class p.kind
+    → cover cs (p.offset / 8) c ((e - 1) / 8 + 1 - p.offset / 8) ≡ mark cs p
 unfolding mark
-mark_start xs p e c he hc = rw (he, hc, class_code)
+mark_start cs p e c he hc = rw (he, hc)
 
-module _ (total : List Class) (xs : List ℕ) (at class last : ℕ) (inv : cover (map class_of xs) at (class_of class) (last + 1 - at) ≡ total) where
-  pub cover_end : Coded xs → last < at → xs ≡ map code total
-  cover_end h l =
-      let z : last + 1 - at ≡ 0 = omega arith in
-      let e : map class_of xs ≡ total = sym (cover_zero (map class_of xs) at (class_of class) _ z) ∙ inv in
-      sym (codes_classes xs h) ∙ ap (map code) e
+module _ (total cs : List Class) (at : ℕ) (class : Class) (end : ℕ) (inv : cover cs at class (end - at) ≡ total) where
+  pub cover_end : end ≤ at → cs ≡ total
+  cover_end l = let z : end - at ≡ 0 = omega arith in sym (cover_zero cs at class _ z) ∙ inv
 
-  pub cover_turn : (v class' : ℕ) → at ≤ last → v ≡ code (merge (class_of (get_or xs at 0)) (class_of class)) → class' ≡ code (later (class_of class))
-      → cover (map class_of (set xs at v)) (at + 1) (class_of class') (last + 1 - (at + 1)) ≡ total
+  pub cover_turn : (v class' : Class) → at < end → v ≡ merge (get_or cs at None) class → class' ≡ later class
+      → cover (set cs at v) (at + 1) class' (end - (at + 1)) ≡ total
   cover_turn v class' l ev ec =
-      let m : last + 1 - at ≡ suc (last + 1 - (at + 1)) = omega arith in
-      let s = cover_suc (map class_of xs) at (class_of class) (last + 1 - at) (last + 1 - (at + 1)) m in
-      rw (ev, ec, map_set, class_code, class_code) (rw (class_at xs at) at (sym s) ∙ inv)
-
-pub cover_less : (at last : ℕ) → at ≤ last → last + 1 - (at + 1) < last + 1 - at
-cover_less at last h = omega arith
+      let m : end - at ≡ suc (end - (at + 1)) = omega arith in
+      rw (ev, ec) (sym (cover_suc cs at class (end - at) (end - (at + 1)) m) ∙ inv)
 
 -- a piece inside one eightbyte: one turn is all
-pub cover_one : (xs : List ℕ) (at class last v : ℕ) → Coded xs → at ≡ last → v ≡ code (merge (class_of (get_or xs at 0)) (class_of class))
-    → set xs at v ≡ map code (cover (map class_of xs) at (class_of class) (last + 1 - at))
-cover_one xs at class last v h e ev =
-    let total : List Class = cover (map class_of xs) at (class_of class) (last + 1 - at) in
-    let t = cover_turn total xs at class last refl v (code (later (class_of class))) (omega arith) ev refl in
-    cover_end total (set xs at v) (at + 1) (code (later (class_of class))) last t (coded_set xs at v h (coded_lt _ ev)) (omega arith)
+pub cover_one : (cs : List Class) (at : ℕ) (class : Class) (last : ℕ) (v : Class) → at ≡ last → v ≡ merge (get_or cs at None) class
+    → set cs at v ≡ cover cs at class (last + 1 - at)
+cover_one cs at class last v e ev =
+    let total : List Class = cover cs at class (last + 1 - at) in
+    let t = cover_turn total cs at class (last + 1) refl v (later class) (omega arith) ev refl in
+    cover_end total (set cs at v) (at + 1) (later class) (last + 1) t (omega arith)
 
 -- ---- the eightbytes of a shape are the first n of some
 
@@ -90,11 +79,11 @@ cover_drop n cs at c (suc k) h =
     cover_drop n (set cs at (merge (get_or cs at None) c)) (at + 1) (later c) k (λ _. omega arith) ∙ drop-set-lt n cs at _ (omega arith)
 
 module _ (n : ℕ) (cs : List Class) (p : Piece) (h : last_of p < n) where
-  pub mark_take : take n (mark cs p) ≡ mark (take n cs) p
+  mark_take : take n (mark cs p) ≡ mark (take n cs) p
   unfolding mark
   mark_take = cover_take n cs _ _ _ (λ z. omega arith)
 
-  pub mark_drop : drop n (mark cs p) ≡ drop n cs
+  mark_drop : drop n (mark cs p) ≡ drop n cs
   unfolding mark
   mark_drop = cover_drop n cs _ _ _ (λ z. omega arith)
 
@@ -108,52 +97,43 @@ fits_last n p b e h = ltb-true _ _ (go (aligned p) (sym e ∙ not-false b h))
     go true x = x
     go false x = absurd (false≢true x)
 
-module _ (total : Option (List Class)) (ws : List ℕ) (at n : ℕ) (xs : List ℕ)
-    (inv : total ≡ classes_after (take n (map class_of xs)) (pieces_of (drop at ws))) (w : at ≤ length ws) where
-  pub marked_end : length ws - at < 4 → total ≡ some (take n (map class_of xs))
+module _ (total : Option (List Class)) (left : List Piece) (n : ℕ) (cs : List Class) (inv : total ≡ classes_after (take n cs) left) where
+  pub marked_end : left ≡ [] → total ≡ some (take n cs)
   unfolding classes_after
-  marked_end h = rw (inv, pieces_end ws at (omega arith))
+  marked_end e = rw (inv, e)
 
-  module _ (h : 4 ≤ length ws - at) (l : n ≤ length xs) (p : Piece) (ep : p ≡ piece_at ws at) (b : Bool) (eb : b ≡ fits n p) where
-    own : length (take n (map class_of xs)) ≡ n
-    own = simp (length-take, length-map) (omega arith)
+  module _ (p : Piece) (rest : List Piece) (el : left ≡ p ∷ rest) (l : n ≤ length cs) (b : Bool) (eb : b ≡ fits n p) where
+    own : length (take n cs) ≡ n
+    own = simp length-take (omega arith)
 
     pub marked_stop : not b ≡ true → total ≡ none
     unfolding classes_after
-    marked_stop f = rw (inv, pieces_step ws at (omega arith), ← ep, own, ← eb, not-true b f)
+    marked_stop f = rw (inv, el, own, ← eb, not-true b f)
 
     pub inside : not b ≡ false → last_of p < n
     inside f = fits_last n p b eb f
 
-    module _ (f : not b ≡ false) (ys : List ℕ) (ey : ys ≡ map code (mark (map class_of xs) p)) where
-      pub marked_turn : total ≡ classes_after (take n (map class_of ys)) (pieces_of (drop (at + 4) ws))
+    module _ (f : not b ≡ false) (ds : List Class) (ed : ds ≡ mark cs p) where
+      pub marked_turn : total ≡ classes_after (take n ds) rest
       unfolding classes_after
-      marked_turn =
-          let t : take n (map class_of ys) ≡ mark (take n (map class_of xs)) p =
-          rw (ey, classes_codes) (mark_take n (map class_of xs) p (inside f)) in
-          rw (inv, pieces_step ws at (omega arith), ← ep, own, ← eb, not-false b f, t)
+      marked_turn = rw (inv, el, own, ← eb, not-false b f, ed, mark_take n cs p (inside f))
 
-      pub marked_behind : Coded xs → drop n ys ≡ drop n xs
-      marked_behind cx =
-          rw (ey, ← map_drop code n (mark (map class_of xs) p), mark_drop n (map class_of xs) p (inside f), map_drop code, codes_classes xs cx)
+      pub marked_behind : (zs : List Class) → drop n cs ≡ zs → drop n ds ≡ zs
+      marked_behind zs z = rw (ed, mark_drop n cs p (inside f)) z
 
-      pub marked_length : length ys ≡ length xs
-      marked_length = rw (ey, length-map, mark_length, length-map)
-
--- where it starts: eight zeros
+-- where it starts: eight times None
 take_same : (n m : ℕ) (c : Class) → n ≤ m → take n (replicate m c) ≡ replicate n c
 take_same zero m c h = refl
 take_same (suc n) zero c h = absurd (omega arith)
 take_same (suc n) (suc m) c h = ap {B = List Class} (λ r. c ∷ r) (take_same n m c (omega arith))
 
-pub marked_start : (n : ℕ) (ps : List Piece) → n ≤ 8 → classes_after (replicate n None) ps ≡ classes_after (take n (map class_of (replicate 8 0))) ps
-unfolding class_of
+pub marked_start : (n : ℕ) (ps : List Piece) → n ≤ 8 → classes_after (replicate n None) ps ≡ classes_after (take n (replicate 8 None)) ps
 marked_start n ps h = ap (λ (cs : List Class). classes_after cs ps) (sym (take_same n 8 None h))
 
-drop_same : (n m : ℕ) → n ≤ m → drop {A = ℕ} n (replicate m 0) ≡ replicate (m - n) 0
-drop_same zero m h = rw sub-zero
-drop_same (suc n) zero h = absurd (omega arith)
-drop_same (suc n) (suc m) h = let e : suc m - suc n ≡ m - n = omega arith in rw e (drop_same n m (omega arith))
+drop_same : (n m : ℕ) (c : Class) → n ≤ m → drop n (replicate m c) ≡ replicate (m - n) c
+drop_same zero m c h = rw sub-zero
+drop_same (suc n) zero c h = absurd (omega arith)
+drop_same (suc n) (suc m) c h = let e : suc m - suc n ≡ m - n = omega arith in rw e (drop_same n m c (omega arith))
 
-pub behind_start : (n : ℕ) → n ≤ 8 → drop {A = ℕ} n (replicate 8 0) ≡ replicate (8 - n) 0
-behind_start n h = drop_same n 8 h
+pub behind_start : (n : ℕ) → n ≤ 8 → drop n (replicate 8 None) ≡ replicate (8 - n) None
+behind_start n h = drop_same n 8 None h

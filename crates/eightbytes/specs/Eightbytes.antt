@@ -1,5 +1,5 @@
 -- The slots of a shape by the classes of its eightbytes, or nothing (REFERENCE 8), step by step as the Rust's `eightbytes` finds them.
-use Rattle.std.specs.Prelude.{ℕ, zero, suc, ◌+◌, ◌-◌, ◌<◌, min, Bool, false, cond, not, ◌||◌, List, [], ◌∷◌, ◌++◌, map, leb, ltb, length, get_or, set, take, replicate}
+use Rattle.std.specs.Prelude.{ℕ, zero, suc, ◌+◌, ◌-◌, min, Bool, false, cond, not, ◌||◌, List, [], ◌∷◌, ◌++◌, leb, ltb, length, get_or, set, take, replicate}
 use Rattle.std.proofs.Math.Option.{Option}
 use Rattle.std.proofs.Math.Option.Option.{none, some}
 use Rattle.shape.specs.declared.Piece.{Piece}
@@ -9,7 +9,7 @@ use Rattle.slots.specs.declared.Slot.{Slot}
 use Rattle.slots.specs.Words.{integer_slot, float_slot}
 use Rattle.slots.specs.Cut.{ceil_div}
 use Rattle.slots.specs.Search.{Search, found, nothing}
-use Rattle.eightbytes.specs.Class.{Class, None, Sse, SseUp, X87, Memory, code, class_of, same, kind_class, later, merge, mended}
+use Rattle.eightbytes.specs.Class.{Class, None, Sse, SseUp, X87, Memory, same, kind_class, later, merge, mended}
 use Rattle.eightbytes.specs.Reach.{first_of, last_of, fits}
 
 -- a limit above eight eightbytes counts as eight
@@ -100,18 +100,18 @@ eightbytes limit shape ps = slots_found shape.size (classified limit shape ps)
 
 -- ---- the classes that stand beside the answer
 
--- eight codes: one for each eightbyte, 0 behind them, all 0 where nothing is found
-unfoldable pub codes : Option (List Class) → List ℕ
-codes none = replicate 8 0
-codes (some cs) = map code cs ++ replicate (8 - length cs) 0
+-- eight classes: one for each eightbyte, None behind them, all None where nothing is found
+unfoldable pub eight_of : Option (List Class) → List Class
+eight_of none = replicate 8 None
+eight_of (some cs) = cs ++ replicate (8 - length cs) None
 
--- the codes of a shape
-unfoldable pub classes_of : ℕ → Shape → List Piece → List ℕ
-classes_of limit shape ps = codes (classified limit shape ps)
+-- those of a shape
+unfoldable pub classes_of : ℕ → Shape → List Piece → List Class
+classes_of limit shape ps = eight_of (classified limit shape ps)
 
--- the slots that eight codes stand for in a shape of this size: those of the shape's eightbytes, as far as there are codes
-unfoldable pub coded_slots : ℕ → List ℕ → List Slot
-coded_slots size cs = slots_from 0 size (take (eightbytes_in size) (map class_of cs))
+-- the slots that eight classes stand for in a shape of this size: those of the shape's eightbytes, as far as there are classes
+unfoldable pub slots_of_eight : ℕ → List Class → List Slot
+slots_of_eight size cs = slots_from 0 size (take (eightbytes_in size) cs)
 
 -- ---- for the code's own functions
 
@@ -119,7 +119,3 @@ coded_slots size cs = slots_from 0 size (take (eightbytes_in size) (map class_of
 unfoldable pub slot_count : List Class → ℕ
 slot_count [] = 0
 slot_count (c ∷ cs) = one_if (not (same c SseUp)) + slot_count cs
-
--- each is the code of a class
-abbrev pub Coded : List ℕ → Type 0
-Coded cs = (i : ℕ) → get_or cs i 0 < 6

@@ -5,17 +5,16 @@
 
 mod classes;
 
-ghost use Rattle.std.specs.Prelude.{◌≡◌, map, ℕ, ◌-◌, ◌<◌, ◌≤◌, take, drop, replicate};
+ghost use Rattle.std.specs.Prelude.{◌≡◌, ℕ, ◌-◌, ◌<◌, ◌≤◌, take, drop, replicate};
 ghost use Rattle.std.proofs.Math.Option.Option.{none};
 ghost use Rattle.shape.specs.Words.{pieces_of};
 ghost use Rattle.slots.specs.Search.{found_of};
-ghost use Rattle.eightbytes.specs.Class.{code, class_of, merge as merge·};
-ghost use Rattle.eightbytes.specs.Eightbytes.{eightbytes_in, mark as mark·, settled, slots_found, codes, classes_of, Coded};
+ghost use Rattle.eightbytes.specs.Class.{merge as merge·};
+ghost use Rattle.eightbytes.specs.Eightbytes.{eightbytes_in, mark as mark·, settled, slots_found, eight_of, classes_of};
 ghost use Rattle.eightbytes.specs.Reach.{last_of};
 ghost use Rattle.eightbytes.specs.Eightbytes.{eightbytes as eightbytes·};
 
-pub use classes::{EIGHTBYTE, SSE, SSE_UP, class_of, fits, later, mended};
-use classes::{INTEGER, MEMORY, NONE, X87};
+pub use classes::{Class, EIGHTBYTE, fits};
 use shape::{Piece, Shape};
 use slots::Found;
 
@@ -29,8 +28,8 @@ const MOST_LIMIT: u64 = 64;
 // from these.
 #[derive(Clone, Copy)]
 pub struct Classified {
-    pub found: Found,
-    pub classes: [u8; 8],
+    pub found: Option<Found>,
+    pub classes: [Class; 8],
 }
 
 // The slots of a shape of at most so many bytes, by the classes of its eightbytes.
@@ -42,138 +41,114 @@ pub fn eightbytes(shape: Shape, words: &[u64], limit: u64) -> Classified
         return nothing();
     }
     let n = slots::parts(size, EIGHTBYTE) as usize;
-    let mut classes = [NONE; 8];
-    let mut at = 0;
-    while words.len() - at >= shape::PIECE {
-        let p = shape::piece_at(words, at);
+    let mut classes = [Class::None; 8];
+    for p in shape::each_piece(words) {
         if !fits(n, p) {
             return nothing();
         }
-        let next = mark(classes, p);
-        classes = next;
-        at += shape::PIECE;
+        mark(&mut classes, p);
     }
     settle(classes, size, n)
 }
 
+#[tactic(auto, unfolding(crate::specs::Eightbytes::eight_of))]
 fn nothing() -> Classified
-    ensures { (result.found ≡ Found.Nothing) × (result.classes ≡ codes none) }
+    ensures { (result.found ≡ None) × (result.classes ≡ eight_of none) }
 {
     Classified {
-        found: Found::Nothing,
-        classes: [NONE; 8],
+        found: None,
+        classes: [Class::None; 8],
     }
 }
 
 // Merges a piece's class into each eightbyte that it reaches into.
-fn mark(classes: [u8; 8], p: Piece) -> [u8; 8]
-    requires { (Coded classes) × (last_of p < 8) }
-    ensures { result ≡ map code (mark· (map class_of classes) p) }
+fn mark(classes: &mut [Class; 8], p: Piece)
+    requires { last_of p < 8 }
+    ensures { classes.new ≡ mark· classes.old p }
 {
+    let first = (p.offset / EIGHTBYTE) as usize;
     let last = ((p.end() - 1) / EIGHTBYTE) as usize;
-    let mut at = (p.offset / EIGHTBYTE) as usize;
-    let mut class = class_of(p.kind);
-    let mut cs = classes;
-    if at == last {
-        cs[at] = joined(cs[at], class);
-        return cs;
+    let mut class = Class::of(p.kind);
+    if first == last {
+        classes[first] = merge(classes[first], class);
+        return;
     }
-    while at <= last {
-        cs[at] = joined(cs[at], class);
-        class = later(class);
-        at += 1;
+    for at in first..last + 1 {
+        classes[at] = merge(classes[at], class);
+        class = class.later();
     }
-    cs
 }
 
-// What two classes make. Where nothing stands yet, or the same, the one that comes goes in as it is.
-fn joined(a: u8, b: u8) -> u8
-    requires { (a < 6) × (b < 6) }
-    ensures { result ≡ code (merge· (class_of a) (class_of b)) }
+// What two classes make, by the first rule that applies, in the order of `merge` in specs/Class.antt, which has the reasons rule by rule: an
+// eightbyte goes in one register, so an integer takes the float beside it along, and an x87 value beside anything leaves memory only.
+// Comparisons take no constant data, as a table would in every archive that classifies.
+// kept: a match over both classes is compiled to a table of jumps (docs/DECISIONS.md, "The searches")
+#[tactic(auto, unfolding(crate::specs::Class::code, crate::specs::Class::same, crate::specs::Class::merge))]
+fn merge(a: Class, b: Class) -> Class
+    ensures { result ≡ merge· a b }
 {
-    if a == NONE {
+    if (a == b) | (a == Class::None) {
         return b;
     }
-    if a == b {
-        return b;
-    }
-    merge(a, b)
-}
-
-// By the first rule that applies, in the order of `merge` in specs/Class.antt, which has the reasons rule by rule: an eightbyte goes in one
-// register, so an integer takes the float beside it along, and an x87 value beside anything leaves memory only. The codes from X87 on are its
-// own and MEMORY. Comparisons take no constant data, as a table would in every archive that classifies.
-fn merge(a: u8, b: u8) -> u8
-    requires { (a < 6) × (b < 6) }
-    ensures { result ≡ code (merge· (class_of a) (class_of b)) }
-{
-    if a == b {
-        return b;
-    }
-    if a == NONE {
-        return b;
-    }
-    if b == NONE {
+    if b == Class::None {
         return a;
     }
-    if (a >= X87) | (b >= X87) {
-        return MEMORY;
+    if a.spoils() | b.spoils() {
+        return Class::Memory;
     }
-    if (a == INTEGER) | (b == INTEGER) {
-        return INTEGER;
+    if (a == Class::Integer) | (b == Class::Integer) {
+        return Class::Integer;
     }
-    SSE
+    Class::Sse
 }
 
-// The rule after the merge, and the counts. At most two eightbytes whose classes come before SSE_UP stay as they are, a slot for each.
-fn settle(classes: [u8; 8], size: u64, n: usize) -> Classified
-    requires { (Coded classes) × (n ≤ 8) × (drop n classes ≡ replicate (8 - n) 0) × (n ≡ eightbytes_in size) }
-    ensures { (result.found ≡ found_of (slots_found size (settled (take n (map class_of classes))))) × (result.classes ≡ codes (settled (take n (map class_of classes)))) }
+// The rule after the merge, and the counts. At most two eightbytes whose classes come before SseUp stay as they are, a slot for each.
+fn settle(classes: [Class; 8], size: u64, n: usize) -> Classified
+    requires { (n ≤ 8) × (drop n classes ≡ replicate (8 - n) Class.None) × (n ≡ eightbytes_in size) }
+    ensures { (result.found ≡ found_of (slots_found size (settled (take n classes)))) × (result.classes ≡ eight_of (settled (take n classes))) }
 {
     if size > PAIR {
         return settle_all(classes, n);
     }
     let first = classes[0];
-    if first >= SSE_UP {
+    if !first.is_plain() {
         return settle_all(classes, n);
     }
     let second = classes[1];
-    if second >= SSE_UP {
+    if !second.is_plain() {
         return settle_all(classes, n);
     }
     let count = n as u64;
-    let floats = shape::one_if(first == SSE) + shape::one_if(second == SSE);
+    let floats = shape::one_if(first == Class::Sse) + shape::one_if(second == Class::Sse);
     Classified {
-        found: Found::Slots { count, floats },
+        found: Some(Found { count, floats }),
         classes,
     }
 }
 
 // In one pass from the first eightbyte up. How many slots there are doesn't depend on the size.
-fn settle_all(classes: [u8; 8], n: usize) -> Classified
-    requires { (Coded classes) × (n ≤ 8) × (drop n classes ≡ replicate (8 - n) 0) }
-    ensures { ((size : ℕ) → result.found ≡ found_of (slots_found size (settled (take n (map class_of classes))))) × (result.classes ≡ codes (settled (take n (map class_of classes)))) }
+fn settle_all(classes: [Class; 8], n: usize) -> Classified
+    requires { (n ≤ 8) × (drop n classes ≡ replicate (8 - n) Class.None) }
+    ensures { ((size : ℕ) → result.found ≡ found_of (slots_found size (settled (take n classes)))) × (result.classes ≡ eight_of (settled (take n classes))) }
 {
     // said once more: the compiler doesn't know the promise, and makes less of a loop with a bound
     let most = shape::least(n as u64, 8) as usize;
     let mut cs = classes;
-    let mut below = NONE;
+    let mut below = Class::None;
     let mut count = 0;
     let mut floats = 0;
-    let mut i = 0;
-    while i < most {
-        let class = mended(below, cs[i]);
-        if class >= X87 {
+    for class in &mut cs[..most] {
+        let mended = class.mended(below);
+        if mended.spoils() {
             return nothing();
         }
-        cs[i] = class;
-        count += shape::one_if(class != SSE_UP);
-        floats += shape::one_if(class == SSE);
-        below = class;
-        i += 1;
+        *class = mended;
+        count += shape::one_if(mended != Class::SseUp);
+        floats += shape::one_if(mended == Class::Sse);
+        below = mended;
     }
     Classified {
-        found: Found::Slots { count, floats },
+        found: Some(Found { count, floats }),
         classes: cs,
     }
 }
