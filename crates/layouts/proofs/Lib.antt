@@ -1,4 +1,5 @@
 pub mod Making
 pub mod Members
 pub mod Passing
+pub mod Told
 mod Unique

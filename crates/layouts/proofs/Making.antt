@@ -1,35 +1,37 @@
 -- The laws of the largest of a measure, and of the record that pieces make.
-use Prim.Native.Nat.{ℕ, zero, suc, ◌+◌, ◌-◌, ◌/◌, ◌%◌, ◌≤◌, ◌<◌, max}
+use Prim.Native.Nat.{ℕ, zero, suc, ◌%◌, ◌≤◌, ◌<◌, max}
 use mathlib.Core.Path.{◌≡◌, refl, sym, ◌∙◌}
 use mathlib.Core.List.{List, [], ◌∷◌}
-use mathlib.Core.Bool.{Bool, false, ◌&&◌}
+use mathlib.Core.Bool.{Bool, false}
 use native.Mathlib.Omega.{arith}
 use borrow.Author.Tests.{lt-ltb, le-ltb, eq-eqb, ne_eqb}
 use lib.Dec.{ltb, eqb}
-use lib.ListN.{length, drop}
+use lib.ListN.{length}
+use Rattle.std.specs.List.{fold}
 use Rattle.shape.specs.declared.Piece.{Piece}
+use Rattle.shape.specs.declared.refusals.Refusal.{Refusal}
 use Rattle.shape.specs.Numbers.{accepted, bad_size, bad_align, most_offset}
+use Rattle.shape.specs.Refusals.{number_of}
 use Rattle.shape.specs.Arithmetic.{round_up, rounded}
-use Rattle.shape.specs.Words.{pieces_of, piece_at}
-use Rattle.checks.specs.Check.{or_else, list_refusal, pieces_refusal}
-use Rattle.shape.specs.Questions.{is_float}
+use Rattle.shape.specs.Words.{pieces_of}
+use Rattle.checks.specs.Check.{list_refusal, pieces_refusal}
+use Rattle.shape.proofs.Refused.{number_refuses}
 use Rattle.shape.proofs.Rounding.{round_within}
-use Rattle.shape.proofs.Words.{pieces_step, pieces_end, length_pieces}
+use Rattle.shape.proofs.Words.{pieces_step, pieces_end}
 use Rattle.checks.proofs.Accepted.{within_first, whole_list}
-use Rattle.layouts.specs.declared.Recorded.{Recorded}
+use Rattle.checks.proofs.Check.{else_number}
+use Rattle.layouts.specs.Answers.{Recorded}
 use Rattle.layouts.specs.Record.{max_of, largest_align, furthest_end, is_floating, recorded, refuse_record, record_made, or_record, record_answer}
 
--- ---- a loop that keeps the largest: `total` is the largest of what was seen and of the pieces from the place on
+-- ---- the largest of a measure, kept along the pieces
 
-module _ (f : Piece → ℕ) (total : ℕ) (ws : List ℕ) (at best : ℕ) (inv : total ≡ max best (max_of f (pieces_of (drop at ws)))) (w : at ≤ length ws) where
-  pub max_end : length ws - at < 4 → best ≡ total
-  unfolding max_of
-  max_end h = rw (inv, pieces_end ws at (omega arith)) (omega arith)
+max_on : (f : Piece → ℕ) (best : ℕ) (ps : List Piece) → fold (λ b p. max b (f p)) best ps ≡ max best (max_of f ps)
+unfolding max_of
+max_on f best [] = omega arith
+max_on f best (p ∷ ps) = max_on f (max best (f p)) ps ∙ omega arith
 
-  pub max_next : 4 ≤ length ws - at → (p : Piece) → p ≡ piece_at ws at → (v : ℕ) → v ≡ f p → (b : ℕ) → b ≡ max best v
-      → total ≡ max b (max_of f (pieces_of (drop (at + 4) ws)))
-  unfolding max_of
-  max_next h p ep v ev b eb = rw (inv, pieces_step ws at (omega arith), ← ep, ← ev, eb) (omega arith)
+pub max_fold : (f : Piece → ℕ) (ps : List Piece) → fold (λ b p. max b (f p)) 0 ps ≡ max_of f ps
+max_fold f ps = max_on f 0 ps ∙ omega arith
 
 -- ---- bounds of accepted pieces
 
@@ -51,12 +53,6 @@ largest_bound (p ∷ ps) e =
 
 -- ---- the record
 
-float_many : (size : ℕ) (ps : List Piece) → (length ps ≡ 1 → ⊥) → is_floating size ps ≡ false
-unfolding is_floating
-float_many size [] h = refl
-float_many size (p ∷ []) h = absurd (h refl)
-float_many size (p ∷ q ∷ ps) h = refl
-
 record_some : (p : Piece) (qs ps : List Piece) → ps ≡ p ∷ qs
     → record_made ps
     ≡ refuse_record (eqb (largest_align ps) 0) bad_align
@@ -69,28 +65,24 @@ or_refused : (n : ℕ) → (n ≡ accepted → ⊥) → (rest : Recorded) → re
 or_refused zero h rest = absurd (h refl)
 or_refused (suc n) h rest = refl
 
-else_refused : (n m : ℕ) → (n ≡ accepted → ⊥) → (rest : Recorded) → recorded n 0 0 false ≡ or_record (or_else n m) rest
-else_refused zero m h rest = absurd (h refl)
-else_refused (suc n) m h rest = refl
-
-module _ (ws : List ℕ) (list : ℕ) (el : list ≡ list_refusal ws) where
-  pub record_list : (list ≡ accepted → ⊥) → (r : Recorded) → r ≡ recorded list 0 0 false → r ≡ record_answer ws
+module _ (ws : List ℕ) where
+  pub record_list : (r : Refusal) → number_of r ≡ list_refusal ws → recorded (number_of r) 0 0 false ≡ record_answer ws
   unfolding record_answer
-  record_list h r er = rw (er, ← el) (else_refused list _ h _)
+  record_list r e = rw (← e, ← else_number) (or_refused (number_of r) (number_refuses r) _)
 
-  module _ (zl : list ≡ accepted) (refusal : ℕ) (ef : refusal ≡ pieces_refusal (pieces_of ws)) where
-    pub record_pieces : (refusal ≡ accepted → ⊥) → (r : Recorded) → r ≡ recorded refusal 0 0 false → r ≡ record_answer ws
+  module _ (zl : accepted ≡ list_refusal ws) where
+    pub record_pieces : (r : Refusal) → number_of r ≡ pieces_refusal (pieces_of ws) → recorded (number_of r) 0 0 false ≡ record_answer ws
     unfolding record_answer
-    record_pieces h r er = rw (er, ← el, zl, ← ef) (or_refused refusal h _)
+    record_pieces r e = rw (← zl, ← e) (or_refused (number_of r) (number_refuses r) _)
 
-    module _ (z : refusal ≡ accepted) where
+    module _ (z : accepted ≡ pieces_refusal (pieces_of ws)) where
       by_pieces : record_answer ws ≡ record_made (pieces_of ws)
       unfolding record_answer
-      by_pieces = rw (← el, zl, ← ef, z)
+      by_pieces = rw (← zl, ← z)
 
-      pub record_empty : length ws ≡ 0 → (r : Recorded) → r ≡ recorded accepted 0 1 false → r ≡ record_answer ws
+      pub record_empty : length ws ≡ 0 → recorded accepted 0 1 false ≡ record_answer ws
       unfolding record_made
-      record_empty l r er = rw (er, by_pieces, pieces_end ws 0 (omega arith))
+      record_empty l = rw (by_pieces, pieces_end ws 0 (omega arith))
 
       module _ (l : length ws ≡ 0 → ⊥) (align : ℕ) (ea : align ≡ largest_align (pieces_of ws)) where
         opened : record_answer ws
@@ -98,34 +90,23 @@ module _ (ws : List ℕ) (list : ℕ) (el : list ≡ list_refusal ws) where
             (refuse_record (ltb most_offset (round_up (furthest_end (pieces_of ws)) align)) bad_size
             (recorded accepted (round_up (furthest_end (pieces_of ws)) align) align (is_floating (round_up (furthest_end (pieces_of ws)) align) (pieces_of ws))))
         opened =
-            let w : length ws % 4 ≡ 0 = (whole_list ws (sym el ∙ zl)).whole in
+            let w : length ws % 4 ≡ 0 = (whole_list ws (sym zl)).whole in
             rw (ea, by_pieces) (record_some _ _ (pieces_of ws) (pieces_step ws 0 (omega arith)))
 
-        pub record_align : align ≡ 0 → (r : Recorded) → r ≡ recorded bad_align 0 0 false → r ≡ record_answer ws
-        record_align a r er = rw (er, opened, eq-eqb _ _ a)
+        pub record_align : align ≡ 0 → recorded bad_align 0 0 false ≡ record_answer ws
+        record_align a = rw (opened, eq-eqb _ _ a)
 
         module _ (a : align ≡ 0 → ⊥) (e : ℕ) (ee : e ≡ furthest_end (pieces_of ws)) (size : ℕ) (er : size ≡ rounded e align) where
           -- accepted pieces are far below any wrap
           es : size ≡ round_up e align
           es =
-              let ok : pieces_refusal (pieces_of ws) ≡ accepted = sym ef ∙ z in
               let m : max align 1 ≡ align = omega arith in
-              rw m at (round_within e align size er (omega (arith, furthest_bound (pieces_of ws) ok, largest_bound (pieces_of ws) ok)))
+              rw m at (round_within e align size er (omega (arith, furthest_bound (pieces_of ws) (sym z), largest_bound (pieces_of ws) (sym z))))
 
-          pub record_large : most_offset < size → (r : Recorded) → r ≡ recorded bad_size 0 0 false → r ≡ record_answer ws
-          record_large s r er = rw (er, opened, ne_eqb _ _ a, ← ee, ← es, lt-ltb _ _ s)
+          pub record_large : most_offset < size → recorded bad_size 0 0 false ≡ record_answer ws
+          record_large s = rw (opened, ne_eqb _ _ a, ← ee, ← es, lt-ltb _ _ s)
 
-          module _ (s : size ≤ most_offset) where
-            plain : record_answer ws ≡ recorded accepted size align (is_floating size (pieces_of ws))
-            plain = rw (opened, ne_eqb _ _ a, ← ee, ← es, le-ltb _ _ s)
+          pub record_accepted : size ≤ most_offset → (f : Bool) → f ≡ is_floating size (pieces_of ws) → recorded accepted size align f ≡ record_answer ws
+          record_accepted s f ef = rw (opened, ne_eqb _ _ a, ← ee, ← es, le-ltb _ _ s, ef)
 
-            pub record_many : (length ws / 4 ≡ 1 → ⊥) → (r : Recorded) → r ≡ recorded accepted size align false → r ≡ record_answer ws
-            record_many n r er =
-                rw (er, plain, float_many size (pieces_of ws) (λ (q : length (pieces_of ws) ≡ 1). n (sym (length_pieces ws) ∙ q)))
-
-            pub record_one : length ws / 4 ≡ 1 → (p : Piece) → p ≡ piece_at ws 0 → (f : Bool) → f ≡ is_float p.kind
-                → (r : Recorded) → r ≡ recorded accepted size align (f && eqb p.size size) → r ≡ record_answer ws
-            unfolding is_floating
-            record_one n p ep f ef' r er =
-                let only : pieces_of ws ≡ p ∷ [] = rw ep (pieces_step ws 0 (omega arith) ∙ rw (pieces_end ws 4 (omega arith))) in
-                rw (er, plain, only, ef')
+pub ruleset record_laws = (record_list, record_pieces, record_empty, record_align, record_large, record_accepted)

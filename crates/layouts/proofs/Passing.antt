@@ -13,7 +13,7 @@ use Rattle.shape.specs.Numbers.{accepted, bad_size, most_offset, most_align}
 use Rattle.shape.specs.Words.{pieces_of}
 use Rattle.checks.specs.Check.{or_else, pieces_refusal, extent_refusal, list_refusal, shape_refusal}
 use Rattle.checks.proofs.Accepted.{else_none, within_first, after_all}
-use Rattle.layouts.specs.declared.Recorded.{Recorded}
+use Rattle.layouts.specs.Answers.{Recorded}
 use Rattle.shape.specs.Arithmetic.{round_up}
 use Rattle.layouts.specs.Record.{max_of, largest_align, furthest_end, is_floating, recorded, refuse_record, record_made, or_record, record_answer}
 use Rattle.shape.proofs.Rounding.{round_least}

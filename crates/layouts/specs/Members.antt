@@ -5,7 +5,7 @@ use Rattle.shape.specs.declared.Scalar.{Scalar}
 use Rattle.shape.specs.Numbers.{accepted, bad_list, no_room, most_pieces}
 use Rattle.shape.specs.Words.{piece, scalars_of, piece_size, scalar_size, put_at, piece_words}
 use Rattle.checks.specs.Check.{refuse, or_else, unless_refused, scalar_refusal}
-use Rattle.layouts.specs.declared.Placed.{Placed}
+use Rattle.layouts.specs.Answers.{Placed}
 use Rattle.shape.specs.Arithmetic.{round_up}
 
 -- scalars, from the first

@@ -6,7 +6,7 @@ use Rattle.shape.specs.Arithmetic.{round_up}
 use Rattle.shape.specs.Words.{pieces_of}
 use Rattle.checks.specs.Check.{or_else, list_refusal, pieces_refusal}
 use Rattle.shape.specs.Questions.{is_float, end_of}
-use Rattle.layouts.specs.declared.Recorded.{Recorded}
+use Rattle.layouts.specs.Answers.{Recorded}
 
 -- the largest of a measure of the pieces, 0 where there is none
 unfoldable pub max_of : (Piece → ℕ) → List Piece → ℕ

@@ -2,42 +2,33 @@
 // The rules are those of docs/REFERENCE.md, 4.2 and 4.3.
 #![tactic(auto)]
 
-ghost use Rattle.std.specs.Prelude.{◌≡◌, false};
-ghost use Rattle.shape.specs.Numbers.{accepted};
+ghost use Rattle.std.specs.Prelude.{◌≡◌};
 ghost use Rattle.shape.specs.Words.{pieces_of};
+ghost use Rattle.shape.specs.Refusals.{refusal_of};
+ghost use Rattle.layouts.specs.Answers.{placed_told, record_told};
 ghost use Rattle.layouts.specs.Members.{members_refusal, pieces_answer, pieces_written};
-ghost use Rattle.layouts.specs.Record.{largest_align, furthest_end, recorded, record_answer};
+ghost use Rattle.layouts.specs.Record.{largest_align, furthest_end, is_floating, record_answer};
 
-use shape::{Piece, Shape};
+use checks::{MOST_OFFSET, MOST_PIECES, check_list, check_pieces, check_scalar};
+use shape::{PIECE, Piece, Refusal, SCALAR, Shape, each_piece, each_scalar, put_piece, round_up};
 
-// How many pieces were written, or the refusal.
-#[derive(Clone, Copy)]
-pub struct Placed {
-    pub refusal: u64,
-    pub count: u64,
-}
-
-// Each member at the next offset that it fits, as pieces at the front of the buffer. A refusal writes nothing.
-pub fn pieces(members: &[u64], out: &mut [u64]) -> Placed
-    ensures { (result ≡ pieces_answer members.now out.old) × (out.new ≡ pieces_written members.now out.old) }
+// How many pieces were written: each member at the next offset that it fits, as pieces at the front of the buffer. A refusal writes nothing.
+#[tactic(auto, using(crate::proofs::Members::pieces_laws))]
+pub fn pieces(members: &[u64], out: &mut [u64]) -> Result<u64, Refusal>
+    ensures answer { placed_told result ≡ pieces_answer members.now out.old }
+    ensures words { out.new ≡ pieces_written members.now out.old }
 {
-    let refusal = check_members(members);
-    if refusal != shape::ACCEPTED {
-        return Placed { refusal, count: 0 };
+    check_members(members)?;
+    let count = members.len() / SCALAR;
+    if count > out.len() / PIECE {
+        return Err(Refusal::NoRoom);
     }
-    if members.len() / shape::SCALAR > out.len() / shape::PIECE {
-        return Placed {
-            refusal: shape::NO_ROOM,
-            count: 0,
-        };
-    }
-    let mut at = 0;
+    // kept: of a buffer lent out in chunks (chunks_exact_mut) no proof knows what was written, so each piece is put at its place.
     let mut to = 0;
     let mut end = 0;
-    while members.len() - at >= shape::SCALAR {
-        let s = shape::scalar_at(members, at);
-        let offset = shape::round_up(end, s.align);
-        shape::put_piece(
+    for s in each_scalar(members) {
+        let offset = round_up(end, s.align);
+        put_piece(
             out,
             to,
             Piece {
@@ -48,124 +39,78 @@ pub fn pieces(members: &[u64], out: &mut [u64]) -> Placed
             },
         );
         end = offset + s.size;
-        at += shape::SCALAR;
-        to += shape::PIECE;
+        to += PIECE;
     }
-    Placed {
-        refusal: shape::ACCEPTED,
-        count: (members.len() / shape::SCALAR) as u64,
-    }
-}
-
-// The shape, or the refusal with an empty one.
-#[derive(Clone, Copy)]
-pub struct Recorded {
-    pub refusal: u64,
-    pub shape: Shape,
-}
-
-fn refused(refusal: u64) -> Recorded
-    ensures { result ≡ recorded refusal 0 0 false }
-{
-    Recorded {
-        refusal,
-        shape: Shape {
-            size: 0,
-            align: 0,
-            complex: false,
-            floating: false,
-        },
-    }
-}
-
-fn made(size: u64, align: u64, floating: bool) -> Recorded
-    ensures { result ≡ recorded accepted size align floating }
-{
-    Recorded {
-        refusal: shape::ACCEPTED,
-        shape: Shape {
-            size,
-            align,
-            complex: false,
-            floating,
-        },
-    }
+    Ok(count as u64)
 }
 
 // The record that these pieces make, sized and aligned the way C would. It has a floating point mode when its one piece is a float that fills it.
-pub fn record(words: &[u64]) -> Recorded
-    ensures { result ≡ record_answer words.now }
+#[tactic(auto, using(crate::proofs::Making::record_laws))]
+pub fn record(words: &[u64]) -> Result<Shape, Refusal>
+    ensures { record_told result ≡ record_answer words.now }
 {
-    let list = checks::check_list(words);
-    if list != shape::ACCEPTED {
-        return refused(list);
-    }
-    let refusal = checks::check_pieces(words);
-    if refusal != shape::ACCEPTED {
-        return refused(refusal);
-    }
-    if words.len() == 0 {
-        return made(0, 1, false);
+    check_list(words)?;
+    check_pieces(words)?;
+    if words.is_empty() {
+        return Ok(Shape {
+            size: 0,
+            align: 1,
+            complex: false,
+            floating: false,
+        });
     }
     let align = largest_align(words);
     if align == 0 {
-        return refused(shape::BAD_ALIGN);
+        return Err(Refusal::BadAlign);
     }
-    let size = shape::round_up(furthest_end(words), align);
-    if size > checks::MOST_OFFSET {
-        return refused(shape::BAD_SIZE);
+    let size = round_up(furthest_end(words), align);
+    if size > MOST_OFFSET {
+        return Err(Refusal::BadSize);
     }
-    if words.len() / shape::PIECE != 1 {
-        return made(size, align, false);
-    }
-    let p = shape::piece_at(words, 0);
-    made(size, align, p.is_float() & (p.size == size))
+    Ok(Shape {
+        size,
+        align,
+        complex: false,
+        floating: is_floating(words, size),
+    })
 }
 
 fn largest_align(words: &[u64]) -> u64
     ensures { result ≡ largest_align (pieces_of words.now) }
 {
-    let mut best = 0;
-    let mut at = 0;
-    while words.len() - at >= shape::PIECE {
-        let p = shape::piece_at(words, at);
-        best = shape::most(best, p.align);
-        at += shape::PIECE;
-    }
-    best
+    each_piece(words).fold(0, |best, p| best.max(p.align))
 }
 
 fn furthest_end(words: &[u64]) -> u64
     ensures { result ≡ furthest_end (pieces_of words.now) }
 {
-    let mut best = 0;
-    let mut at = 0;
-    while words.len() - at >= shape::PIECE {
-        let p = shape::piece_at(words, at);
-        best = shape::most(best, p.end());
-        at += shape::PIECE;
+    each_piece(words).fold(0, |best, p| best.max(p.end()))
+}
+
+// Whether these are one piece, a float that fills this size.
+#[tactic(auto, unfolding(crate::specs::Record::is_floating))]
+fn is_floating(words: &[u64], size: u64) -> bool
+    ensures { result ≡ is_floating size (pieces_of words.now) }
+{
+    let mut pieces = each_piece(words);
+    match (pieces.next(), pieces.next()) {
+        (Some(p), None) => p.is_float() && p.size == size,
+        _ => false,
     }
-    best
 }
 
 // The refusal of a record's members: the words don't make whole scalars, or too many; then the scalars from the first.
-fn check_members(members: &[u64]) -> u64
-    ensures { result ≡ members_refusal members.now }
+// kept: check_list with the record's words as a parameter is a function and a definition more for one test.
+#[tactic(auto, using(shape::proofs::Words::length_scalars, checks::proofs::Check::else_number), unfolding(crate::specs::Members::members_refusal, crate::specs::Members::scalars_refusal))]
+fn check_members(members: &[u64]) -> Result<(), Refusal>
+    ensures { refusal_of result ≡ members_refusal members.now }
 {
     let n = members.len();
-    if n % shape::SCALAR != 0 {
-        return shape::BAD_LIST;
+    if n % SCALAR != 0 || n / SCALAR > MOST_PIECES {
+        return Err(Refusal::BadList);
     }
-    if n / shape::SCALAR > checks::MOST_PIECES {
-        return shape::BAD_LIST;
+    for s in each_scalar(members) {
+        check_scalar(s)?;
     }
-    let mut at = 0;
-    while members.len() - at >= shape::SCALAR {
-        let refusal = checks::check_scalar(shape::scalar_at(members, at));
-        if refusal != shape::ACCEPTED {
-            return refusal;
-        }
-        at += shape::SCALAR;
-    }
-    shape::ACCEPTED
+    Ok(())
 }

@@ -1,13 +1,8 @@
--- `check_members` answers the first refusal among the members. The invariant: what the scalars from the place on decide is what all decide.
-use Prim.Native.Nat.{◌≤◌, ◌-◌}
+-- `check_members` answers the first refusal among the members. The invariant: what the scalars that are left decide is what all decide.
 use mathlib.Core.Path.{◌≡◌}
-use lib.ListN.{length, drop}
-use Rattle.shape.specs.Words.{scalars_of}
+use Rattle.shape.specs.Words.{scalars_left}
 use Rattle.layouts.specs.Members.{scalars_refusal, members_refusal}
 use Rattle.layouts.proofs.check_members.Given as goal
 
-abbrev pub invariant-loop-at : goal.invariant-loop-at
-invariant-loop-at l = (l.at ≤ length l.members) × (members_refusal l.members ≡ scalars_refusal (scalars_of (drop l.at l.members)))
-
-abbrev pub decreases-loop-at : goal.decreases-loop-at
-decreases-loop-at l = length l.members - l.at
+abbrev pub invariant-loop-s : goal.invariant-loop-s
+invariant-loop-s l = members_refusal l.members ≡ scalars_refusal (scalars_left l.s-iterator)
