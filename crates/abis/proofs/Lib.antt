@@ -2,6 +2,5 @@ pub mod Rows
 pub mod Lists
 pub mod Apart
 mod Numbered
-mod Questions
-mod Names
+pub mod Told
 mod Unique

@@ -86,6 +86,3 @@ pub read_here : (d : ℕ) {row : List ℕ} {r : Brief} → row ≡ encode (descr
 unfolding brief_from
 read_here d e er =
     rw (er, e, row_terms d, returns_packed (described d) (lists_held d).returns, arguments_packed (described d) (lists_held d).arguments)
-
-pub scalars_read : (d : ℕ) (b : Brief) → b ≡ brief_of (described d) → b.terms.scalars ≡ (described d).scalars
-scalars_read d b e = rw e

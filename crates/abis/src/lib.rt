@@ -6,31 +6,18 @@ ghost use Rattle.std.specs.Prelude.{◌≡◌, length};
 ghost use Rattle.rows.specs.Row.{encode};
 ghost use Rattle.abis.specs.Abis.{described};
 ghost use Rattle.abis.specs.Brief.{brief_of, brief_from};
-ghost use Rattle.abis.specs.Answers.{name_answer, name_written, is_by_reference_answer, returns_by_reference_answer, wide_returns_in_answer, question_refusal};
+ghost use Rattle.abis.specs.Answers.{name_answer, name_written, is_by_reference_answer, returns_by_reference_answer, wide_returns_in_answer, told_yes, told_format, scalars_for};
+ghost use Rattle.text.specs.Text.{told};
 
 pub mod numbers;
 mod table;
 
 use describe::{Scalars, Terms};
 use rows::{Rules, WIDTH};
+use shape::Refusal;
 use table::*;
-use text::Written;
 
 pub const DESCRIPTIONS: u64 = 33;
-
-// Yes or no, unless refused.
-#[derive(Clone, Copy)]
-pub struct Asked {
-    pub refusal: u64,
-    pub answer: bool,
-}
-
-// The kind of a format, or 0 for none, unless refused.
-#[derive(Clone, Copy)]
-pub struct AskedFormat {
-    pub refusal: u64,
-    pub format: u64,
-}
 
 // What classification reads of a description.
 #[derive(Clone, Copy)]
@@ -40,8 +27,9 @@ pub struct Brief {
     pub arguments: Rules,
 }
 
-// Description `d` as classification reads it; the description of nothing where there is none. Each arm reads a literal place of the table,
-// so what it gives is a constant: a row that is chosen first and read behind the `match` costs two hundred instructions more.
+// Description `d` as classification reads it; the description of nothing where there is none.
+// kept: an arm for each literal place of the table gives constants; a row that is chosen first and read behind the `match` costs two hundred
+// instructions more (docs/DECISIONS.md, "The table").
 pub fn read(d: u64) -> Brief
     ensures { result ≡ brief_of (described d) }
 {
@@ -84,6 +72,7 @@ pub fn read(d: u64) -> Brief
     }
 }
 
+#[tactic(auto, unfolding(crate::specs::Brief::brief_from))]
 fn read_of(row: [u8; WIDTH]) -> Brief
     ensures { result ≡ brief_from row }
 {
@@ -107,92 +96,52 @@ pub fn row(d: u64) -> [u8; WIDTH]
     }
 }
 
-// Its name, into a lent buffer: the bytes go to the front of `out`. A refusal writes nothing.
-pub fn name(d: u64, out: &mut [u8]) -> Written
-    ensures { (result ≡ name_answer d (length out.old)) × (out.new ≡ name_written d out.old) }
+// Its name, into a lent buffer: the bytes go to the front of `out`; how many they are. A refusal writes nothing.
+#[tactic(auto, unfolding(crate::specs::Answers::name_answer, crate::specs::Answers::name_written))]
+pub fn name(d: u64, out: &mut [u8]) -> Result<usize, Refusal>
+    ensures { (told result ≡ name_answer d (length out.old)) × (out.new ≡ name_written d out.old) }
 {
-    if DESCRIPTIONS <= d {
-        return Written {
-            refusal: shape::BAD_ABI,
-            length: 0,
-        };
-    }
-    let i = d as usize;
-    let name = NAMES[i];
-    let length = LENGTHS[i];
-    text::put(&name[..length], out)
+    let Some(name) = name_of(d) else {
+        return Err(Refusal::BadAbi);
+    };
+    text::put(name, out)
 }
 
 // Whether a scalar of this size travels as the address of a copy.
-pub fn scalar_is_by_reference(d: u64, size: u64) -> Asked
-    ensures { result ≡ is_by_reference_answer d size }
+#[tactic(auto, unfolding(crate::specs::Answers::is_by_reference_answer, crate::specs::Answers::question_refusal, crate::specs::Answers::asked_yes, crate::specs::Answers::scalars_for))]
+pub fn scalar_is_by_reference(d: u64, size: u64) -> Result<bool, Refusal>
+    ensures { told_yes result ≡ is_by_reference_answer d size }
 {
-    let refusal = question_refusal(d, size);
-    if refusal == shape::ACCEPTED {
-        Asked {
-            refusal: shape::ACCEPTED,
-            answer: describe::scalar_is_by_reference(scalars(d), size),
-        }
-    } else {
-        Asked {
-            refusal: refusal,
-            answer: false,
-        }
-    }
+    Ok(describe::scalar_is_by_reference(scalars_for(d, size)?, size))
 }
 
 // Whether it comes back through the address that the caller passes.
-pub fn scalar_returns_by_reference(d: u64, size: u64) -> Asked
-    ensures { result ≡ returns_by_reference_answer d size }
+#[tactic(auto, unfolding(crate::specs::Answers::returns_by_reference_answer, crate::specs::Answers::question_refusal, crate::specs::Answers::asked_yes, crate::specs::Answers::scalars_for))]
+pub fn scalar_returns_by_reference(d: u64, size: u64) -> Result<bool, Refusal>
+    ensures { told_yes result ≡ returns_by_reference_answer d size }
 {
-    let refusal = question_refusal(d, size);
-    if refusal == shape::ACCEPTED {
-        Asked {
-            refusal: shape::ACCEPTED,
-            answer: describe::scalar_returns_by_reference(scalars(d), size),
-        }
-    } else {
-        Asked {
-            refusal: refusal,
-            answer: false,
-        }
-    }
+    Ok(describe::scalar_returns_by_reference(scalars_for(d, size)?, size))
 }
 
-// The format in which an integer of this size comes back where it is by reference otherwise.
-pub fn wide_integer_returns_in(d: u64, size: u64) -> AskedFormat
-    ensures { result ≡ wide_returns_in_answer d size }
+// The format in which an integer of this size comes back where it is by reference otherwise, or 0, the integer kind, for none, as a
+// description has it.
+#[tactic(auto, unfolding(crate::specs::Answers::wide_returns_in_answer, crate::specs::Answers::question_refusal, crate::specs::Answers::asked_format, crate::specs::Answers::scalars_for))]
+pub fn wide_integer_returns_in(d: u64, size: u64) -> Result<u64, Refusal>
+    ensures { told_format result ≡ wide_returns_in_answer d size }
 {
-    let refusal = question_refusal(d, size);
-    if refusal == shape::ACCEPTED {
-        AskedFormat {
-            refusal: shape::ACCEPTED,
-            format: describe::wide_integer_returns_in(scalars(d), size),
-        }
-    } else {
-        AskedFormat {
-            refusal: refusal,
-            format: 0,
-        }
-    }
+    Ok(describe::wide_integer_returns_in(scalars_for(d, size)?, size))
 }
 
-fn scalars(d: u64) -> Scalars
-    ensures { result ≡ (described d).scalars }
+// A description's scalar rules, where they can be asked about a scalar of this size.
+#[tactic(auto, unfolding(crate::specs::Answers::scalars_for))]
+fn scalars_for(d: u64, size: u64) -> Result<Scalars, Refusal>
+    ensures { result ≡ scalars_for d size }
 {
-    let brief = read(d);
-    let terms = brief.terms;
-    terms.scalars
-}
-
-fn question_refusal(d: u64, size: u64) -> u64
-    ensures { result ≡ question_refusal d size }
-{
-    if DESCRIPTIONS <= d {
-        return shape::BAD_ABI;
+    if d >= DESCRIPTIONS {
+        return Err(Refusal::BadAbi);
     }
-    if checks::MOST_SIZE < size {
-        return shape::BAD_SIZE;
+    if size > checks::MOST_SIZE {
+        return Err(Refusal::BadSize);
     }
-    shape::ACCEPTED
+    Ok(read(d).terms.scalars)
 }

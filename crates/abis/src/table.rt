@@ -2,6 +2,9 @@
 // width; flags; formats, with the last flag; return pointer and variadic; stack arguments, narrow and bit-precise integers, cleanup; then four rules
 // for returns and four for arguments, each its test, the test's number, and the way of travel with what happens when short.
 // Above a row stands what sets it apart from the others; specs/Abis.antt says why each field and list is as it is.
+ghost use Rattle.std.specs.Prelude.{◌≡◌, option_copied};
+ghost use Rattle.abis.specs.Answers.{name_found};
+
 use crate::DESCRIPTIONS;
 use rows::WIDTH;
 use rows::codes::*;
@@ -612,63 +615,45 @@ pub const RISCV_PSABI_LP64D: [u8; WIDTH] = [
     ANYTHING, 0, BY_REFERENCE + UNCHANGED,
 ];
 
-// The names, in the same order: each with blanks behind it up to the length of the longest, and its own length.
-pub const LONGEST_NAME: usize = 48;
-
-#[rattlefmt::skip]
-pub const NAMES: [[u8; LONGEST_NAME]; DESCRIPTIONS as usize] = [
-    *b"SysV AMD64                                      ",
-    *b"AAPCS64                                         ",
-    *b"Darwin arm64                                    ",
-    *b"Windows arm64                                   ",
-    *b"Windows x64                                     ",
-    *b"RISC-V LP64D                                    ",
-    *b"i386 SysV                                       ",
-    *b"i386 SysV regparm(1)                            ",
-    *b"i386 SysV regparm(2)                            ",
-    *b"i386 SysV regparm(3)                            ",
-    *b"i386 SysV -freg-struct-return                   ",
-    *b"i386 SysV regparm(1) -freg-struct-return        ",
-    *b"i386 SysV regparm(2) -freg-struct-return        ",
-    *b"i386 SysV regparm(3) -freg-struct-return        ",
-    *b"i386 SysV stdcall                               ",
-    *b"i386 SysV stdcall regparm(1)                    ",
-    *b"i386 SysV stdcall regparm(2)                    ",
-    *b"i386 SysV stdcall regparm(3)                    ",
-    *b"i386 SysV stdcall -freg-struct-return           ",
-    *b"i386 SysV stdcall regparm(1) -freg-struct-return",
-    *b"i386 SysV stdcall regparm(2) -freg-struct-return",
-    *b"i386 SysV stdcall regparm(3) -freg-struct-return",
-    *b"i386 SysV fastcall                              ",
-    *b"i386 SysV fastcall -freg-struct-return          ",
-    *b"i386 Windows (mingw)                            ",
-    *b"i386 Windows (MSVC)                             ",
-    *b"i386 Windows stdcall (mingw)                    ",
-    *b"i386 Windows fastcall (mingw)                   ",
-    *b"i386 Windows stdcall (MSVC)                     ",
-    *b"i386 Windows fastcall (MSVC)                    ",
-    *b"RISC-V LP64 psABI                               ",
-    *b"RISC-V LP64F psABI                              ",
-    *b"RISC-V LP64D psABI                              ",
-];
-
-#[rattlefmt::skip]
-pub const LENGTHS: [usize; DESCRIPTIONS as usize] = [
-    10,
-    7, 12, 13,
-    11,
-    12,
-    9,
-    20, 20, 20,
-    29,
-    40, 40, 40,
-    17,
-    28, 28, 28,
-    37,
-    48, 48, 48,
-    18, 38,
-    20, 19,
-    28, 29,
-    27, 28,
-    17, 18, 18,
-];
+// The names, by the same numbers.
+#[tactic(auto, unfolding(crate::specs::Abis::described, crate::specs::Abis::descriptions))]
+pub fn name_of(d: u64) -> Option<&'static [u8]>
+    ensures { option_copied result ≡ name_found d }
+{
+    match d {
+        0 => Some(b"SysV AMD64"),
+        1 => Some(b"AAPCS64"),
+        2 => Some(b"Darwin arm64"),
+        3 => Some(b"Windows arm64"),
+        4 => Some(b"Windows x64"),
+        5 => Some(b"RISC-V LP64D"),
+        6 => Some(b"i386 SysV"),
+        7 => Some(b"i386 SysV regparm(1)"),
+        8 => Some(b"i386 SysV regparm(2)"),
+        9 => Some(b"i386 SysV regparm(3)"),
+        10 => Some(b"i386 SysV -freg-struct-return"),
+        11 => Some(b"i386 SysV regparm(1) -freg-struct-return"),
+        12 => Some(b"i386 SysV regparm(2) -freg-struct-return"),
+        13 => Some(b"i386 SysV regparm(3) -freg-struct-return"),
+        14 => Some(b"i386 SysV stdcall"),
+        15 => Some(b"i386 SysV stdcall regparm(1)"),
+        16 => Some(b"i386 SysV stdcall regparm(2)"),
+        17 => Some(b"i386 SysV stdcall regparm(3)"),
+        18 => Some(b"i386 SysV stdcall -freg-struct-return"),
+        19 => Some(b"i386 SysV stdcall regparm(1) -freg-struct-return"),
+        20 => Some(b"i386 SysV stdcall regparm(2) -freg-struct-return"),
+        21 => Some(b"i386 SysV stdcall regparm(3) -freg-struct-return"),
+        22 => Some(b"i386 SysV fastcall"),
+        23 => Some(b"i386 SysV fastcall -freg-struct-return"),
+        24 => Some(b"i386 Windows (mingw)"),
+        25 => Some(b"i386 Windows (MSVC)"),
+        26 => Some(b"i386 Windows stdcall (mingw)"),
+        27 => Some(b"i386 Windows fastcall (mingw)"),
+        28 => Some(b"i386 Windows stdcall (MSVC)"),
+        29 => Some(b"i386 Windows fastcall (MSVC)"),
+        30 => Some(b"RISC-V LP64 psABI"),
+        31 => Some(b"RISC-V LP64F psABI"),
+        32 => Some(b"RISC-V LP64D psABI"),
+        _ => None,
+    }
+}

@@ -1,4 +1,4 @@
-mod Copy
+pub mod Copy
 pub mod Dots
 pub mod Putting
 pub mod Digits
