@@ -28,6 +28,7 @@ pub struct Rules {
 
 // Each item is the list from a rule on, of which a walk reads the first rule as far as it asks: the rest of a rule only where its test finds
 // something.
+#[tactic(auto, using(crate::proofs::Packed::listed_none, crate::proofs::Packed::listed_next))]
 impl Iterator for Rules {
     type Item = Rules;
 
