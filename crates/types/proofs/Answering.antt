@@ -9,7 +9,10 @@ use lib.Dec.{ltb, eqb}
 use lib.ListN.{length}
 use Rattle.shape.specs.Numbers.{accepted, no_room}
 use Rattle.checks.specs.Check.{refuse, or_else, unless_refused}
-use Rattle.checks.proofs.Check.{else_first, else_regroup, left_alone}
+use Rattle.shape.specs.declared.refusals.Refusal.{Refusal}
+use Rattle.shape.specs.Refusals.{number_of}
+use Rattle.shape.proofs.Refused.{number_refuses}
+use Rattle.checks.proofs.Check.{else_number, else_regroup, left_alone}
 use Rattle.checks.proofs.Accepted.{refuse_none, else_none}
 use Rattle.types.specs.Entries.{most_entries, refers_back, meaning_at, all_refer_back}
 use Rattle.types.specs.Tree.{levels_of}
@@ -33,8 +36,8 @@ whole ts ms h =
     let z = eqb-false (entries ts) 0 b.0 in
     record { parts = omega (arith, ltb-false 0 (length ts % 4) a.0); some = omega (arith, z); few = ltb-false most_entries (entries ts) c.0 }
 
-pub whole_enough : (ts ms : List ℕ) (list : ℕ) → list ≡ lists_refusal ts ms → list ≡ accepted → (0 < entries ts) × (entries ts ≤ most_entries)
-whole_enough ts ms list el zl = let w = whole ts ms (sym el ∙ zl) in (w.some, w.few)
+pub whole_enough : (ts ms : List ℕ) → accepted ≡ lists_refusal ts ms → (0 < entries ts) × (entries ts ≤ most_entries)
+whole_enough ts ms el = let w = whole ts ms (sym el) in (w.some, w.few)
 
 -- and not by their references
 pub record Sound (ts ms : List ℕ) : Type 0 where
@@ -51,48 +54,42 @@ sound ts ms h =
       levels = ltb-false 16 (levels_of (wanted ts ms)) b.0;
     }
 
-module _ (ts ms tb : List ℕ) (list : ℕ) (el : list ≡ lists_refusal ts ms) where
-  pub lists_refused : (list ≡ accepted → ⊥) → list ≡ measure_refusal ts ms tb
+module _ (ts ms tb : List ℕ) where
+  -- what `measure` answers, and the table that it leaves
+  abbrev pub IsMeasured : ℕ → List ℕ → Type 0
+  IsMeasured q vs = (q ≡ measure_refusal ts ms tb) × (vs ≡ unless_refused (table_refusal ts ms tb) (filled ts ms tb 0 (entries ts)) tb)
+
+  pub lists_refused : (r : Refusal) → number_of r ≡ lists_refusal ts ms → IsMeasured (number_of r) tb
   unfolding measure_refusal table_refusal
-  lists_refused h = rw (← else_regroup (lists_refusal ts ms) _ (trees_refusal ts ms 0 (entries ts)), ← el) (else_first list _ h)
+  lists_refused r e = (
+    rw (← else_regroup (lists_refusal ts ms) _ (trees_refusal ts ms 0 (entries ts)), ← e) (else_number r _),
+    left_alone _ (filled ts ms tb 0 (entries ts)) tb (λ (z : table_refusal ts ms tb ≡ accepted). number_refuses r (e ∙ (else_none (lists_refusal ts ms) _ z).0)),
+  )
 
-  pub lists_left : (list ≡ accepted → ⊥) → tb ≡ unless_refused (table_refusal ts ms tb) (filled ts ms tb 0 (entries ts)) tb
-  unfolding table_refusal
-  lists_left h = left_alone _ (filled ts ms tb 0 (entries ts)) tb (λ (z : table_refusal ts ms tb ≡ accepted). h (el ∙ (else_none (lists_refusal ts ms) _ z).0))
+  module _ (el : accepted ≡ lists_refusal ts ms) where
+    pub references_refused : (r : Refusal) → number_of r ≡ references_refusal ts ms → IsMeasured (number_of r) tb
+    unfolding measure_refusal table_refusal
+    references_refused r e = (
+      rw (← el, ← e, ← else_regroup (number_of r) _ (trees_refusal ts ms 0 (entries ts))) (else_number r _),
+      left_alone _ (filled ts ms tb 0 (entries ts)) tb
+          (λ (z : table_refusal ts ms tb ≡ accepted). number_refuses r (e ∙ (else_none (references_refusal ts ms) _ (else_none (lists_refusal ts ms) _ z).1).0)),
+    )
 
-  module _ (zl : list ≡ accepted) where
-    module _ (refs : ℕ) (er : refs ≡ references_refusal ts ms) where
-      pub references_refused : (refs ≡ accepted → ⊥) → refs ≡ measure_refusal ts ms tb
+    module _ (er : accepted ≡ references_refusal ts ms) where
+      pub table_short : length tb < length ts → IsMeasured no_room tb
       unfolding measure_refusal table_refusal
-      references_refused h = rw (← el, zl, ← er, ← else_regroup refs _ (trees_refusal ts ms 0 (entries ts))) (else_first refs _ h)
+      table_short h = rw (← el, ← er, lt-ltb (length tb) (length ts) h) (refl, refl)
 
-      pub references_left : (refs ≡ accepted → ⊥) → tb ≡ unless_refused (table_refusal ts ms tb) (filled ts ms tb 0 (entries ts)) tb
-      unfolding table_refusal
-      references_left h = left_alone _ (filled ts ms tb 0 (entries ts)) tb
-          (λ (z : table_refusal ts ms tb ≡ accepted). h (er ∙ (else_none (references_refusal ts ms) _ (else_none (lists_refusal ts ms) _ z).1).0))
-
-      module _ (zr : refs ≡ accepted) where
-        pub table_short : length tb < length ts → no_room ≡ measure_refusal ts ms tb
-        unfolding measure_refusal table_refusal
-        table_short h = rw (← el, zl, ← er, zr, lt-ltb _ _ h)
-
-        pub table_left : length tb < length ts → tb ≡ unless_refused (table_refusal ts ms tb) (filled ts ms tb 0 (entries ts)) tb
+      module _ (fits : length ts ≤ length tb) where
+        pub table_accepted : table_refusal ts ms tb ≡ accepted
         unfolding table_refusal
-        table_left h = rw (← el, zl, ← er, zr, lt-ltb _ _ h)
+        table_accepted = rw (← el, ← er, le-ltb _ _ fits)
 
-        module _ (fits : length ts ≤ length tb) where
-          pub table_accepted : table_refusal ts ms tb ≡ accepted
-          unfolding table_refusal
-          table_accepted = rw (← el, zl, ← er, zr, le-ltb _ _ fits)
-
-          pub rows_refused : (q : ℕ) → q ≡ filled_refusal ts ms tb 0 (entries ts) → q ≡ measure_refusal ts ms tb
-          unfolding measure_refusal
-          rows_refused q eq =
-              let s = sound ts ms (sym er ∙ zr) in
-              rw table_accepted (eq ∙ fill_right ts ms (entries ts) s.back tb (omega arith))
-
-          pub rows_filled : (vs : List ℕ) → vs ≡ filled ts ms tb 0 (entries ts) → vs ≡ unless_refused (table_refusal ts ms tb) (filled ts ms tb 0 (entries ts)) tb
-          rows_filled vs ev = rw table_accepted ev
+        pub rows_filled : (q : ℕ) → q ≡ filled_refusal ts ms tb 0 (entries ts) → (vs : List ℕ) → vs ≡ filled ts ms tb 0 (entries ts) → IsMeasured q vs
+        unfolding measure_refusal
+        rows_filled q eq vs ev =
+            let s = sound ts ms (sym er) in
+            rw table_accepted (eq ∙ fill_right ts ms (entries ts) s.back tb (omega arith), ev)
 
 -- an answer between two that refuses nothing once the first accepts
 passed_over : (l r x t : ℕ) → (l ≡ accepted → x ≡ accepted) → or_else (or_else l (or_else r x)) t ≡ or_else l (or_else r t)
@@ -122,5 +119,5 @@ module _ (ts ms tb : List ℕ) (fits : min (length ts) 4096 ≤ length tb) where
       let l = else_none (lists_refusal ts ms) _ ok in
       let r = else_none (references_refusal ts ms) _ l.1 in
       let fits = long_enough l.0 in
-      let t = table_accepted ts ms tb (lists_refusal ts ms) refl l.0 (references_refusal ts ms) refl r.0 fits in
+      let t = table_accepted ts ms tb (sym l.0) (sym r.0) fits in
       rw (ev, t) (fill_measured ts ms (entries ts) (sound ts ms r.0).back tb (omega (arith, (whole ts ms l.0).parts)) r.1)

@@ -6,18 +6,24 @@ use mathlib.Core.List.{List, [], ◌∷◌}
 use mathlib.Core.Logic.{⊎_elim}
 use native.Mathlib.Nat.{eq-or-lt_of_le}
 use native.Mathlib.Omega.{arith}
-use borrow.Author.Tests.{lt-ltb, le-ltb, ltb-true, not-false}
+use borrow.Author.Tests.{lt-ltb, le-ltb, ltb-true}
 use lib.Dec.{ltb}
-use lib.ListN.{length, get_or, set}
-use lib.Seq.{get_or-set_same, get_or-set_other}
+use lib.ListN.{length, take, get_or, set}
+use Rattle.std.proofs.lemmas.List.{get_or-take}
+use lib.Seq.{length-take-le, get_or-set_same, get_or-set_other}
 use Rattle.shape.specs.Lists.{every}
 use Rattle.shape.specs.Numbers.{accepted, bad_type, too_deep, most_word}
 use Rattle.shape.proofs.Bools.{both_true}
-use Rattle.types.specs.declared.Entry.{Entry}
-use Rattle.types.specs.Entries.{most_levels, Meaning, one, several, repeated, referred, refers_back, entry_at, meaning_of, meaning_at, all_refer_back}
+use Rattle.shape.specs.declared.refusals.Refusal.{Refusal}
+use Rattle.shape.specs.Refusals.{number_of}
+use Rattle.shape.proofs.Refused.{number_refuses}
+use Rattle.checks.specs.Check.{refuse}
+use Rattle.types.specs.declared.Form.{Form}
+use Rattle.types.specs.Entries.{most_levels, Meaning, one, several, repeated, referred, refers_back, entry_at, meaning_at, form_of, form_meaning, all_refer_back}
 use Rattle.types.specs.Tree.{Tree, align_of, takes_of, levels_of, levels_in}
-use Rattle.types.specs.Trees.{offset_from, laid_out, tree_of, type_at, wanted, entries, references_refusal}
+use Rattle.types.specs.Trees.{offset_from, laid_out, tree_of, type_at, wanted, entries, back_refusal, references_refusal}
 use Rattle.types.specs.Table.{level_above, level_of, Levelled}
+use Rattle.types.proofs.Reading.{form_means}
 use Rattle.types.proofs.Types.{own_type}
 use Rattle.types.proofs.Sizes.{max_regroup}
 
@@ -59,76 +65,94 @@ module _ (lv : List ℕ) (T : ℕ → Tree) (e : ℕ) (is : (m : ℕ) → m < e 
       rw both.0 (above_is ms both.1 (max best (get_or lv m 0)) (max b (levels_of (T m))) (omega arith)
       ∙ ap (λ (n : ℕ). min (suc n) most_word) (max_regroup b (levels_of (T m)) (deepest T ms)))
 
-module _ (ts ms lv : List ℕ) (e : ℕ) (L : Levelled ts ms lv e) (x : Entry) (ex : x ≡ entry_at ts e) (v : ℕ) (ev : v ≡ level_of lv e (meaning_of ms x)) where
-  same_entry : level_of lv e (meaning_of ms x) ≡ level_of lv e (meaning_at ts ms e)
-  same_entry = ap (λ (y : Entry). level_of lv e (meaning_of ms y)) ex
+-- an entry's levels by those of the entries before it
+module _ (ts ms lv : List ℕ) (e : ℕ) (fits : e ≤ length lv) (L : Levelled ts ms lv e) (form : Form) (ef : form ≡ form_of (entry_at ts e)) where
+  abbrev early : List ℕ
+  early = take e lv
+
+  abbrev seen : ℕ
+  seen = level_of early (length early) (form_meaning ms form)
+
+  same_level : seen ≡ level_of early e (meaning_at ts ms e)
+  same_level =
+      let l : length early ≡ e = length-take-le e lv fits in
+      rw (l, ef, form_means ms (entry_at ts e))
+
+  early_is : (m : ℕ) → m < e → get_or early m 0 ≡ min (levels_of (type_at ts ms m)) most_word
+  early_is m h = get_or-take e lv m 0 h ∙ L.level_is m h
 
   -- found, or an entry that isn't earlier
-  found : (b : Bool) → refers_back e (meaning_at ts ms e) ≡ b → ((v ≡ 0 → ⊥) → (b ≡ true) × (v ≡ min (levels_of (type_at ts ms e)) most_word)) × (v ≡ 0 → b ≡ false)
+  found : (b : Bool) → refers_back e (meaning_at ts ms e) ≡ b → (0 < seen → (b ≡ true) × (seen ≡ min (levels_of (type_at ts ms e)) most_word)) × (0 ≡ seen → b ≡ false)
   found true h =
       let z : 0 ≡ min 0 most_word = omega arith in
-      let a = above_is lv (type_at ts ms) e L.level_is (referred (meaning_at ts ms e)) h 0 0 z in
+      let a = above_is early (type_at ts ms) e early_is (referred (meaning_at ts ms e)) h 0 0 z in
       let l : levels_of (type_at ts ms e) ≡ suc (deepest (type_at ts ms) (referred (meaning_at ts ms e))) =
       rw (own_type ts ms e h) (tree_levels (type_at ts ms) (meaning_at ts ms e)) in
       let y : max 0 (deepest (type_at ts ms) (referred (meaning_at ts ms e))) ≡ deepest (type_at ts ms) (referred (meaning_at ts ms e)) = omega arith in
-      let r : v ≡ min (levels_of (type_at ts ms e)) most_word = ev ∙ same_entry ∙ a ∙ rw (y, l) in
+      let r : seen ≡ min (levels_of (type_at ts ms e)) most_word = same_level ∙ a ∙ rw (y, l) in
       (λ nz. (refl, r), λ n. absurd (omega arith))
   found false h =
-      let r : v ≡ 0 = ev ∙ same_entry ∙ late_none lv e 0 (referred (meaning_at ts ms e)) h in
-      (λ nz. absurd (nz r), λ n. refl)
+      let r : seen ≡ 0 = same_level ∙ late_none early e 0 (referred (meaning_at ts ms e)) h in
+      (λ nz. absurd (omega arith), λ n. refl)
 
-module _ (ts ms : List ℕ) (n e : ℕ) (lv : List ℕ) (lt : e < n) (inv : all_refer_back ts ms 0 n ≡ all_refer_back ts ms e (n - e)) (L : Levelled ts ms lv e)
-    (x : Entry) (ex : x ≡ entry_at ts e) (v : ℕ) (ev : v ≡ level_of lv e (meaning_of ms x)) where
-  one_more : n - e ≡ suc (n - (e + 1))
-  one_more = omega arith
+  module _ (lt : e < entries ts) (inv : all_refer_back ts ms 0 (entries ts) ≡ all_refer_back ts ms e (entries ts - e)) where
+    one_more : entries ts - e ≡ suc (entries ts - (e + 1))
+    one_more = omega arith
 
-  pub levels_late : v ≡ 0 → false ≡ all_refer_back ts ms 0 n
-  unfolding all_refer_back
-  levels_late z = rw (inv, one_more, (found ts ms lv e L x ex v ev _ refl).1 z)
-
-  module _ (nz : v ≡ 0 → ⊥) where
-    pub levels_next : all_refer_back ts ms 0 n ≡ all_refer_back ts ms (e + 1) (n - (e + 1))
+    pub levels_late : 0 ≡ seen → bad_type ≡ back_refusal ts ms
     unfolding all_refer_back
-    levels_next = rw (inv, one_more, ((found ts ms lv e L x ex v ev _ refl).0 nz).0)
+    levels_late z = rw (inv, one_more, (found _ refl).1 z)
 
-    pub levels_more : e < length lv → Levelled ts ms (set lv e v) (e + 1)
-    levels_more fits = record {
-      level_is = λ m h. ⊎_elim
-          (λ (q : m ≡ e). rw q (get_or-set_same lv e v 0 fits ∙ ((found ts ms lv e L x ex v ev _ refl).0 nz).1))
-          (λ (q : m < e). get_or-set_other lv e m v 0 (λ (r : m ≡ e). omega arith) ∙ L.level_is m q)
-          (eq-or-lt_of_le {n = m} {m = e} (omega arith));
-    }
+    module _ (l : ℕ) (el : l ≡ seen) (nz : 0 < l) where
+      seen_some : 0 < seen
+      seen_some = omega arith
 
-module _ (ts ms : List ℕ) (n e : ℕ) (lv : List ℕ) (ge : n ≤ e) where
-  pub levels_end : all_refer_back ts ms 0 n ≡ all_refer_back ts ms e (n - e) → true ≡ all_refer_back ts ms 0 n
+      pub levels_next : all_refer_back ts ms 0 (entries ts) ≡ all_refer_back ts ms (e + 1) (entries ts - (e + 1))
+      unfolding all_refer_back
+      levels_next = rw (inv, one_more, ((found _ refl).0 seen_some).0)
+
+      pub levels_more : e < length lv → Levelled ts ms (set lv e l) (e + 1)
+      levels_more room = record {
+        level_is = λ m h. ⊎_elim
+            (λ (q : m ≡ e). rw q (get_or-set_same lv e l 0 room ∙ el ∙ ((found _ refl).0 seen_some).1))
+            (λ (q : m < e). get_or-set_other lv e m l 0 (λ (r : m ≡ e). omega arith) ∙ L.level_is m q)
+            (eq-or-lt_of_le {n = m} {m = e} (omega arith));
+      }
+
+module _ (ts ms lv : List ℕ) (e : ℕ) (ge : entries ts ≤ e) where
+  pub levels_end : all_refer_back ts ms 0 (entries ts) ≡ all_refer_back ts ms e (entries ts - e) → accepted ≡ back_refusal ts ms
   unfolding all_refer_back
-  levels_end inv = let s : n - e ≡ 0 = omega arith in rw (inv, s)
+  levels_end inv = let s : entries ts - e ≡ 0 = omega arith in rw (inv, s)
 
-  pub levels_all : Levelled ts ms lv e → Levelled ts ms lv n
+  pub levels_all : Levelled ts ms lv e → Levelled ts ms lv (entries ts)
   levels_all L = record { level_is = λ m h. L.level_is m (omega arith) }
-
--- nothing is claimed where they don't
-pub levels_unclaimed : (ts ms lv : List ℕ) (n : ℕ) → false ≡ true → Levelled ts ms lv n
-levels_unclaimed ts ms lv n h = let z : ◌≡◌ {A = ℕ} 0 1 = cc in absurd (omega arith)
 
 pub levels_none : (ts ms lv : List ℕ) → Levelled ts ms lv 0
 levels_none ts ms lv = record { level_is = λ m h. absurd (omega arith) }
 
 -- ---- what is refused for them
 
-module _ (ts ms : List ℕ) (b : Bool) (eb : b ≡ all_refer_back ts ms 0 (entries ts)) where
-  pub refers_badly : not b ≡ true → bad_type ≡ references_refusal ts ms
+pub refers_badly : (ts ms : List ℕ) (r : Refusal) → number_of r ≡ back_refusal ts ms → number_of r ≡ references_refusal ts ms
+unfolding references_refusal
+refers_badly ts ms r e = by (all_refer_back ts ms 0 (entries ts)) e
+  where
+    by : (b : Bool) → number_of r ≡ refuse (not b) bad_type accepted
+        → number_of r ≡ refuse (not b) bad_type (refuse (ltb most_levels (levels_of (wanted ts ms))) too_deep accepted)
+    by true h = absurd (number_refuses r h)
+    by false h = h
+
+module _ (ts ms lv : List ℕ) (back : accepted ≡ back_refusal ts ms) (L : Levelled ts ms lv (entries ts)) (some : 0 < entries ts) where
+  all_back : (b : Bool) → accepted ≡ refuse (not b) bad_type accepted → b ≡ true
+  all_back true h = refl
+  all_back false h = absurd (omega arith)
+
+  last_level : get_or lv (entries ts - 1) 0 ≡ min (levels_of (wanted ts ms)) most_word
+  last_level = L.level_is (entries ts - 1) (omega arith)
+
+  pub too_deep_for : most_levels < get_or lv (entries ts - 1) 0 → too_deep ≡ references_refusal ts ms
   unfolding references_refusal
-  refers_badly h = rw (← eb, h)
+  too_deep_for d = rw (all_back _ back, lt-ltb most_levels (levels_of (wanted ts ms)) (omega (arith, last_level)))
 
-  module _ (h : not b ≡ false) (lv : List ℕ) (L : b ≡ true → Levelled ts ms lv (entries ts)) (some : 0 < entries ts) where
-    last_level : get_or lv (entries ts - 1) 0 ≡ min (levels_of (wanted ts ms)) most_word
-    last_level = (L (not-false b h)).level_is (entries ts - 1) (omega arith)
-
-    pub too_deep_for : most_levels < get_or lv (entries ts - 1) 0 → too_deep ≡ references_refusal ts ms
-    unfolding references_refusal
-    too_deep_for d = rw (← eb, h, lt-ltb most_levels (levels_of (wanted ts ms)) (omega (arith, last_level)))
-
-    pub deep_enough : get_or lv (entries ts - 1) 0 ≤ most_levels → accepted ≡ references_refusal ts ms
-    unfolding references_refusal
-    deep_enough d = rw (← eb, h, le-ltb most_levels (levels_of (wanted ts ms)) (omega (arith, last_level)))
+  pub deep_enough : get_or lv (entries ts - 1) 0 ≤ most_levels → accepted ≡ references_refusal ts ms
+  unfolding references_refusal
+  deep_enough d = rw (all_back _ back, le-ltb most_levels (levels_of (wanted ts ms)) (omega (arith, last_level)))

@@ -1,5 +1,4 @@
 pub mod Reading
-pub mod Checking
 pub mod Rows
 pub mod Types
 pub mod Sizes

@@ -1,36 +1,26 @@
 -- Rows and levels as the code makes them, in the form in which each function's proof meets them.
 use Prim.Native.Nat.{ℕ, suc, ◌+◌, ◌-◌, ◌≤◌, ◌<◌, min, max}
-use mathlib.Core.Path.{◌≡◌, ap, ◌∙◌}
-use mathlib.Core.Bool.{Bool, true, false}
+use mathlib.Core.Path.{◌≡◌}
+use mathlib.Core.Bool.{Bool}
 use mathlib.Core.List.{List}
 use native.Mathlib.Omega.{arith}
 use borrow.Author.Tests.{lt-ltb, le-ltb}
-use lib.Dec.{eqb}
 use lib.ListN.{get_or}
 use Rattle.shape.specs.Numbers.{accepted}
-use Rattle.shape.specs.Arithmetic.{plus, times, rounded}
-use Rattle.checks.proofs.Check.{else_first, left_alone}
-use Rattle.types.specs.declared.Entry.{Entry}
+use Rattle.shape.specs.Arithmetic.{plus, rounded}
+use Rattle.shape.specs.declared.refusals.Refusal.{Refusal}
+use Rattle.shape.specs.Refusals.{number_of}
+use Rattle.checks.proofs.Check.{else_number, number_leaves}
+use Rattle.types.specs.Trees.{entries}
 use Rattle.types.specs.declared.Row.{Row}
-use Rattle.types.specs.Entries.{nowhere, union_kind, array_kind, entry_at, members_from, has_members, meaning_of, referred}
-use Rattle.types.specs.Table.{row, row_at, put_row, place_from, members_row, elements_row, row_of, entry_refusal, filled_refusal, filled, level_above, level_of}
-use Rattle.types.proofs.Reading.{members_start, members_step, members_end, means_several, means_repeated, means_one}
-
--- ---- small ones
-
-module _ (overlaid : Bool) (end align : ℕ) where
-  pub place_first : overlaid ≡ true → 0 ≡ place_from overlaid end align
-  place_first h = rw h
-
-  pub place_behind : overlaid ≡ false → (r : ℕ) → r ≡ rounded end align → r ≡ place_from overlaid end align
-  place_behind h r er = rw h er
+use Rattle.types.specs.declared.Form.{Form}
+use Rattle.types.specs.Entries.{nowhere, entry_at, members_from, form_of, form_meaning}
+use Rattle.types.specs.Table.{row, row_at, put_row, place_from, members_row, row_of, row_here, refusal_here, form_refusal, filled_refusal, filled, level_above}
+use Rattle.types.proofs.Reading.{members_step, members_end, form_means, form_refuses}
 
 -- ---- levels
 
 module _ (lv ms : List ℕ) (e first count : ℕ) where
-  pub level_start : level_above lv e 0 (members_from ms first count) ≡ level_above lv e 0 (members_from ms (first + 0) (count - 0))
-  level_start = ap (λ (l : List ℕ). level_above lv e 0 l) (members_start ms first count)
-
   module _ (i best whole : ℕ) (inv : whole ≡ level_above lv e best (members_from ms (first + i) (count - i))) where
     module _ (lt : i < count) (m : ℕ) (em : m ≡ get_or ms (first + i) nowhere) where
       pub level_late : e ≤ m → 0 ≡ whole
@@ -45,31 +35,9 @@ module _ (lv ms : List ℕ) (e first count : ℕ) where
     unfolding level_above
     level_end h r er = rw (inv, members_end ms first count i h) er
 
-module _ (lv ms : List ℕ) (e : ℕ) (x : Entry) (b : Bool) (eb : b ≡ has_members x.kind) where
-  pub level_several : b ≡ true → (r : ℕ) → r ≡ level_above lv e 0 (members_from ms x.second x.third) → r ≡ level_of lv e (meaning_of ms x)
-  unfolding referred
-  level_several h r er = rw (means_several ms x b eb h) er
-
-  module _ (h : b ≡ false) where
-    pub level_one : (x.kind ≡ array_kind → ⊥) → 1 ≡ level_of lv e (meaning_of ms x)
-    unfolding referred level_above
-    level_one k = rw (means_one ms x b eb h k)
-
-    module _ (k : x.kind ≡ array_kind) where
-      pub level_forward : e ≤ x.second → 0 ≡ level_of lv e (meaning_of ms x)
-      unfolding referred level_above
-      level_forward l = rw (means_repeated ms x b eb h k, le-ltb _ _ l)
-
-      pub level_repeated : x.second < e → (w : ℕ) → w ≡ get_or lv x.second 0 → (r : ℕ) → r ≡ plus w 1 → r ≡ level_of lv e (meaning_of ms x)
-      unfolding referred level_above
-      level_repeated l w ew r er = rw (means_repeated ms x b eb h k, lt-ltb _ _ l, ← ew) (er ∙ omega arith)
-
 -- ---- rows
 
 module _ (tb ms : List ℕ) (overlaid : Bool) (first count : ℕ) where
-  pub row_start : members_row tb overlaid 0 0 1 0 (members_from ms first count) ≡ members_row tb overlaid 0 0 1 0 (members_from ms (first + 0) (count - 0))
-  row_start = ap (λ (l : List ℕ). members_row tb overlaid 0 0 1 0 l) (members_start ms first count)
-
   module _ (i end far align leaves : ℕ) (whole : Row) (inv : whole ≡ members_row tb overlaid end far align leaves (members_from ms (first + i) (count - i))) where
     pub row_turn : i < count → (m : ℕ) → m ≡ get_or ms (first + i) nowhere → (r : Row) → r ≡ row_at tb m → (o : ℕ) → o ≡ place_from overlaid end r.align
         → (en : ℕ) → en ≡ plus o r.takes → (f : ℕ) → f ≡ plus o r.reach → (fa : ℕ) → fa ≡ max far f → (al : ℕ) → al ≡ max align r.align
@@ -83,59 +51,30 @@ module _ (tb ms : List ℕ) (overlaid : Bool) (first count : ℕ) where
     unfolding members_row
     row_end h s es = rw (inv, members_end ms first count i h, es)
 
-pub row_elements : (r : Row) (n s : ℕ) → s ≡ rounded r.reach r.align → (p : ℕ) → p ≡ times n s → (l : ℕ) → l ≡ times n r.leaves
-    → (k : ℕ) → k ≡ min l 1025 → row p p r.align k ≡ elements_row r n
-row_elements r n s es p ep l el k ek = rw (ek, el, ep, es)
-
-module _ (tb ms : List ℕ) (x : Entry) (b : Bool) (eb : b ≡ has_members x.kind) where
-  pub row_several : b ≡ true → (r : Row) → r ≡ members_row tb (eqb x.kind union_kind) 0 0 1 0 (members_from ms x.second x.third) → r ≡ row_of tb (meaning_of ms x)
-  unfolding row_of
-  row_several h r er = rw (means_several ms x b eb h) er
-
-  module _ (h : b ≡ false) where
-    pub row_repeated : x.kind ≡ array_kind → (s : Row) → s ≡ row_at tb x.second → (r : Row) → r ≡ elements_row s x.third → r ≡ row_of tb (meaning_of ms x)
-    unfolding row_of
-    row_repeated k s es r er = rw (means_repeated ms x b eb h k) (er ∙ ap (λ (q : Row). elements_row q x.third) es)
-
-    pub row_one : (x.kind ≡ array_kind → ⊥) → (n : ℕ) → n ≡ max x.second 1 → (a : ℕ) → a ≡ max x.third 1
-        → row x.second n a 1 ≡ row_of tb (meaning_of ms x)
-    unfolding row_of
-    row_one k n en a ea = rw (means_one ms x b eb h k, en, ea)
-
 -- ---- rows filled, up to the first that is refused
 
-module _ (ts ms : List ℕ) (n e : ℕ) (tb : List ℕ) where
-  module _ (lt : e < n) (x : Entry) (ex : x ≡ entry_at ts e) (r : Row) (er : r ≡ row_of tb (meaning_of ms x)) (q : ℕ) (eq : q ≡ entry_refusal x r) where
-    pub fill_refused : (q ≡ accepted → ⊥) → (whole : ℕ) → whole ≡ filled_refusal ts ms tb e (n - e) → q ≡ whole
-    unfolding filled_refusal
-    fill_refused h whole ew =
-        let s : n - e ≡ suc (n - (e + 1)) = omega arith in
-        rw (ew, s, ← ex, ← er, ← eq) (else_first q _ h)
+module _ (ts ms tb : List ℕ) (e : ℕ) where
+  module _ (lt : e < entries ts) (f : Form) (ef : f ≡ form_of (entry_at ts e)) (r : Row) (er : r ≡ row_of tb (form_meaning ms f))
+      (q : ℕ) (eq : q ≡ filled_refusal ts ms tb e (entries ts - e)) (vs : List ℕ) (ev : vs ≡ filled ts ms tb e (entries ts - e)) where
+    one_more : entries ts - e ≡ suc (entries ts - (e + 1))
+    one_more = omega arith
 
-    pub fill_left : (q ≡ accepted → ⊥) → (whole : List ℕ) → whole ≡ filled ts ms tb e (n - e) → tb ≡ whole
-    unfolding filled
-    fill_left h whole ew =
-        let s : n - e ≡ suc (n - (e + 1)) = omega arith in
-        rw (ew, s, ← ex, ← er, ← eq) (left_alone q _ tb h)
+    own_row : r ≡ row_here ts ms tb e
+    own_row = rw (er, ef, form_means ms (entry_at ts e))
 
-    module _ (z : q ≡ accepted) (vs : List ℕ) (ev : vs ≡ put_row tb e r) where
-      pub fill_next : (whole : ℕ) → whole ≡ filled_refusal ts ms tb e (n - e) → whole ≡ filled_refusal ts ms vs (e + 1) (n - (e + 1))
-      unfolding filled_refusal
-      fill_next whole ew =
-          let s : n - e ≡ suc (n - (e + 1)) = omega arith in
-          rw (ew, s, ← ex, ← er, ← eq, z, ev)
+    own_refusal : (n : ℕ) → n ≡ form_refusal f r → n ≡ refusal_here ts ms tb e
+    own_refusal n h = rw (← own_row, form_refuses (entry_at ts e) r, ← ef) h
 
-      pub fill_table : (whole : List ℕ) → whole ≡ filled ts ms tb e (n - e) → whole ≡ filled ts ms vs (e + 1) (n - (e + 1))
-      unfolding filled
-      fill_table whole ew =
-          let s : n - e ≡ suc (n - (e + 1)) = omega arith in
-          rw (ew, s, ← ex, ← er, ← eq, z, ev)
+    pub fill_refused : (n : Refusal) → number_of n ≡ form_refusal f r → (number_of n ≡ q) × (tb ≡ vs)
+    unfolding filled_refusal filled
+    fill_refused n h = (rw (eq, one_more, ← own_refusal _ h) (else_number n _), rw (ev, one_more, ← own_refusal _ h) (number_leaves n _ tb))
 
-  module _ (ge : n ≤ e) where
-    pub fill_end : (whole : ℕ) → whole ≡ filled_refusal ts ms tb e (n - e) → accepted ≡ whole
-    unfolding filled_refusal
-    fill_end whole ew = let s : n - e ≡ 0 = omega arith in rw (ew, s)
+    pub fill_next : accepted ≡ form_refusal f r → (more : List ℕ) → more ≡ put_row tb e r
+        → (q ≡ filled_refusal ts ms more (e + 1) (entries ts - (e + 1))) × (vs ≡ filled ts ms more (e + 1) (entries ts - (e + 1)))
+    unfolding filled_refusal filled
+    fill_next h more em = (rw (eq, one_more, ← own_refusal _ h, em, own_row), rw (ev, one_more, ← own_refusal _ h, em, own_row))
 
-    pub fill_done : (whole : List ℕ) → whole ≡ filled ts ms tb e (n - e) → tb ≡ whole
-    unfolding filled
-    fill_done whole ew = let s : n - e ≡ 0 = omega arith in rw (ew, s)
+  pub fill_end : entries ts ≤ e → (q : ℕ) → q ≡ filled_refusal ts ms tb e (entries ts - e) → (vs : List ℕ) → vs ≡ filled ts ms tb e (entries ts - e)
+      → (accepted ≡ q) × (tb ≡ vs)
+  unfolding filled_refusal filled
+  fill_end ge q eq vs ev = let s : entries ts - e ≡ 0 = omega arith in (rw (eq, s), rw (ev, s))

@@ -6,7 +6,8 @@ use Rattle.shape.specs.declared.Scalar.{Scalar}
 use Rattle.shape.specs.Lists.{every}
 use Rattle.shape.specs.Numbers.{most_word}
 use Rattle.shape.specs.Words.{scalar, piece_at}
-use Rattle.types.specs.declared.Entry.{Entry}
+use Rattle.types.specs.declared.Form.{Form}
+use Rattle.types.specs.declared.Form.TheVariants.{One, Members, Elements}
 
 -- words of an entry
 abbrev pub entry_size : ℕ
@@ -39,6 +40,13 @@ most_levels = 16
 abbrev pub nowhere : ℕ
 nowhere = most_word
 
+-- an entry: of a scalar its size and alignment, of a record or a union its first member's place and their count, of an array its element and their
+-- count
+pub record Entry : Type 0 where
+  pub kind : ℕ
+  pub second : ℕ
+  pub third : ℕ
+
 -- an entry's words stand as a piece's do
 abbrev pub entry_from : Piece → Entry
 entry_from p = record { kind = p.kind; second = p.size; third = p.align }
@@ -69,6 +77,17 @@ unfoldable pub meaning_of : List ℕ → Entry → Meaning
 meaning_of ms x =
     cond (has_members x.kind) (several (eqb x.kind union_kind) (members_from ms x.second x.third))
     (cond (eqb x.kind array_kind) (repeated x.second x.third) (one (scalar x.kind x.second x.third)))
+
+-- what the code has of an entry, and what that means beside the members
+unfoldable pub form_of : Entry → Form
+form_of x =
+    cond (has_members x.kind) (Members (eqb x.kind union_kind) x.second x.third)
+    (cond (eqb x.kind array_kind) (Elements x.second x.third) (One (scalar x.kind x.second x.third)))
+
+abbrev pub form_meaning : List ℕ → Form → Meaning
+form_meaning ms (One s) = one s
+form_meaning ms (Members overlaid first count) = several overlaid (members_from ms first count)
+form_meaning ms (Elements m n) = repeated m n
 
 abbrev pub meaning_at : List ℕ → List ℕ → ℕ → Meaning
 meaning_at ts ms e = meaning_of ms (entry_at ts e)

@@ -5,9 +5,10 @@ use Rattle.shape.specs.Numbers.{accepted, bad_size, no_room, most_word, most_pie
 use Rattle.shape.specs.Words.{scalar, piece, piece_at, piece_words, put_at}
 use Rattle.shape.specs.Arithmetic.{plus, times, rounded}
 use Rattle.checks.specs.Check.{refuse, or_else, unless_refused, scalar_refusal}
-use Rattle.types.specs.declared.Entry.{Entry}
+use Rattle.types.specs.declared.Form.{Form}
+use Rattle.types.specs.declared.Form.TheVariants.{One, Members, Elements}
 use Rattle.types.specs.declared.Row.{Row}
-use Rattle.types.specs.Entries.{entry_size, most_elements, array_kind, Meaning, one, several, repeated, has_members, entry_at, meaning_at, referred}
+use Rattle.types.specs.Entries.{entry_size, most_elements, array_kind, Entry, Meaning, one, several, repeated, has_members, entry_at, meaning_at, referred}
 use Rattle.types.specs.Tree.{Tree, align_of, reach_of, takes_of, levels_of, leaves_of}
 use Rattle.types.specs.Trees.{type_at, entries, size_refusal, lists_refusal, references_refusal, trees_refusal}
 
@@ -65,6 +66,12 @@ entry_refusal x r =
     cond (has_members x.kind) (size_refusal r.reach)
     (cond (eqb x.kind array_kind) (refuse (ltb most_elements x.third) bad_size (size_refusal r.reach))
     (scalar_refusal (scalar x.kind x.second x.third)))
+
+-- the same, where it is known what the entry says
+abbrev pub form_refusal : Form → Row → ℕ
+form_refusal (One s) r = scalar_refusal s
+form_refusal (Members overlaid first count) r = size_refusal r.reach
+form_refusal (Elements m n) r = refuse (ltb most_elements n) bad_size (size_refusal r.reach)
 
 -- so many rows from entry e on, up to the first that is refused
 abbrev pub row_here : List ℕ → List ℕ → List ℕ → ℕ → Row

@@ -52,7 +52,11 @@ lists_refusal ts ms =
     (refuse (eqb (entries ts) 0) bad_list
     (refuse (ltb most_entries (entries ts)) bad_list (refuse (ltb most_members (length ms)) bad_list accepted)))
 
--- an entry that refers to itself, to a later one or to none; then a level too many below the last entry
+-- an entry that refers to itself, to a later one or to none
+abbrev pub back_refusal : List ℕ → List ℕ → ℕ
+back_refusal ts ms = refuse (not (all_refer_back ts ms 0 (entries ts))) bad_type accepted
+
+-- that; then a level too many below the last entry
 unfoldable pub references_refusal : List ℕ → List ℕ → ℕ
 references_refusal ts ms =
     refuse (not (all_refer_back ts ms 0 (entries ts))) bad_type
