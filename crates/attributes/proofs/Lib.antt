@@ -1,3 +1,4 @@
 pub mod NameLaws
 pub mod Answered
+mod SpellingLaws
 mod Unique

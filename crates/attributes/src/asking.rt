@@ -21,6 +21,7 @@ pub fn by_name(architecture: Architecture, system: System, name: &[u8]) -> Optio
 }
 
 // A convention that the target follows already is the target's own.
+// kept: tests in order and no `match` on the bytes: the check asks for a proof at each byte of each name, and `asked_on_x86` didn't close.
 #[tactic(auto, unfolding(crate::specs::Attributes::asked_on_x86_64, targets::specs::Codes::convention_code))]
 fn asked_on_x86_64(system: System, name: &[u8]) -> Option<u64>
     ensures { result ≡ optional (code_asked (asked_on_x86_64 system name.now)) }

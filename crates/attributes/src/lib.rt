@@ -10,8 +10,8 @@ ghost use Rattle.targets.specs.Decoded.{optional};
 ghost use Rattle.attributes.specs.Answers.{convention_asked, code_asked, attribute_put, attribute_written};
 
 pub use asking::by_name;
-pub use spellings::write_attribute;
 use shape::Refusal;
+pub use spellings::write_attribute;
 use targets::{Architecture, Convention, System};
 
 // The code of the convention that an attribute's name asks for on a target. MSVC changes nothing here; a target is passed whole all the same.
@@ -24,6 +24,7 @@ pub fn asked(architecture: u64, system: u64, msvc: bool, name: &[u8]) -> Option<
 }
 
 // The name of the attribute that asks for a convention, written to the front of `out`.
+#[tactic(auto, unfolding(crate::specs::Spellings::spelling_put, crate::specs::Spellings::spelling_written))]
 pub fn attribute(convention: u64, out: &mut [u8]) -> Result<Option<usize>, Refusal>
     ensures { (result ≡ attribute_put convention (length out.old)) × (out.new ≡ attribute_written convention out.old) }
 {

@@ -8,13 +8,15 @@ use targets::Convention;
 use text::put;
 
 // The name that asks for a convention, written to the front of `out`.
+#[tactic(auto, unfolding(crate::specs::Spellings::spelling_put, crate::specs::Spellings::spelling_written))]
 pub fn write_attribute(convention: Convention, out: &mut [u8]) -> Result<Option<usize>, Refusal>
     ensures { (result ≡ spelling_put (attribute_of convention) (length out.old)) × (out.new ≡ spelling_written (attribute_of convention) out.old) }
 {
     let Some(name) = spelling(convention) else {
         return Ok(None);
     };
-    put(name, out).map(Some)
+    let length = put(name, out)?;
+    Ok(Some(length))
 }
 
 // No attribute names more than three registers, so a greater number has the name of three.
