@@ -1,4 +1,1 @@
-pub mod RecordLaws
-pub mod ActLaws
-pub mod ReadingLaws
 mod Unique

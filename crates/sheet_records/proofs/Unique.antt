@@ -6,8 +6,7 @@ use Rattle.sheet_records.proofs.read.Reads as read
 use Rattle.sheet_records.proofs.known.Reader.start.Reads as start
 use Rattle.sheet_records.proofs.known.Reader.after.Reads as after
 use Rattle.sheet_records.proofs.known.Reader.stop.Reads as stop
-use Rattle.sheet_records.proofs.known.act_of.Reads as act_of
-use Rattle.sheet_records.proofs.known.nothing_due.Reads as nothing_due
+use Rattle.sheet_records.proofs.known.ActFromOperation.from.Reads as from
 
 read_decides : (κs : Lfts 2) → OneAnswer (read.Post κs)
 read_decides κs a r q s t p p' = p.0 ∙ sym p'.0
@@ -24,8 +23,5 @@ after_decides κs a r q s t p p' = p ∙ sym p'
 stop_decides : (κs : Lfts 0) → OneAnswer (stop.Post κs)
 stop_decides κs a r q s t p p' = p ∙ sym p'
 
-nothing_due_decides : (κs : Lfts 0) → OneAnswer (nothing_due.Post κs)
-nothing_due_decides κs a r q s t p p' = p ∙ sym p'
-
-act_of_decides : (κs : Lfts 0) → OneAnswer (act_of.Post κs)
-act_of_decides κs a r q s t p p' = p ∙ sym p'
+from_decides : (κs : Lfts 0) → OneAnswer (from.Post κs)
+from_decides κs a r q s t p p' = p ∙ sym p'

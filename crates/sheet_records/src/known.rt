@@ -6,6 +6,8 @@ ghost use Rattle.sheet_records.specs.Known as spec;
 use shape::{Arg, Shape};
 
 // What is known between two records: whether a call is open, whether the sheet has stopped, and the aggregate whose pieces are due.
+// kept: a stop leaves both other fields, and behind its last piece an aggregate still has its words, which whoever performs its operation takes;
+// states as variants would have to hold all of this in each, and `due` where nothing is due any more.
 #[derive(Clone, Copy)]
 pub struct Reader {
     pub opened: bool,
@@ -20,6 +22,21 @@ pub struct Due {
     pub shape: Shape,
     pub pieces: u64,
     pub words: usize,
+}
+
+impl Due {
+    // No piece is due.
+    pub const NOTHING: Due = Due {
+        first: 0,
+        shape: Shape {
+            size: 0,
+            align: 0,
+            complex: false,
+            floating: false,
+        },
+        pieces: 0,
+        words: 0,
+    };
 }
 
 #[derive(Clone, Copy)]
@@ -39,6 +56,21 @@ pub enum Act {
     Value,
 }
 
+impl From<Operation> for Act {
+    ghost from_gives = { λ operation act. act ≡ spec.act_of operation };
+
+    #[tactic(auto, unfolding(crate::specs::Known::act_of))]
+    fn from(operation: Operation) -> Act {
+        match operation {
+            Operation::Fresh(_) => Act::Fresh,
+            Operation::Mark => Act::Mark,
+            Operation::Return(_) | Operation::Argument(_) | Operation::VariadicArgument(_) => {
+                Act::Value
+            }
+        }
+    }
+}
+
 impl Reader {
     // Before the first record: no call is open and no piece is due.
     pub fn start() -> Reader
@@ -47,7 +79,7 @@ impl Reader {
         Reader {
             opened: false,
             stopped: false,
-            due: nothing_due(),
+            due: Due::NOTHING,
         }
     }
 
@@ -56,11 +88,9 @@ impl Reader {
     pub fn after(self, operation: Operation, refusal: u64) -> Reader
         ensures { result ≡ spec.reader_after self operation refusal }
     {
-        let due = self.due;
         Reader {
-            opened: open_after(self.opened, act_of(operation), refusal),
-            stopped: self.stopped,
-            due,
+            opened: open_after(self.opened, Act::from(operation), refusal),
+            ..self
         }
     }
 
@@ -68,41 +98,10 @@ impl Reader {
     pub fn stop(self) -> Reader
         ensures { result ≡ spec.stopped_reader self }
     {
-        let due = self.due;
         Reader {
-            opened: self.opened,
             stopped: true,
-            due,
+            ..self
         }
-    }
-}
-
-// No piece is due.
-pub fn nothing_due() -> Due
-    ensures { result ≡ spec.nothing_due }
-{
-    Due {
-        first: 0,
-        shape: Shape {
-            size: 0,
-            align: 0,
-            complex: false,
-            floating: false,
-        },
-        pieces: 0,
-        words: 0,
-    }
-}
-
-pub fn act_of(operation: Operation) -> Act
-    ensures { result ≡ spec.act_of operation }
-{
-    match operation {
-        Operation::Fresh(_) => Act::Fresh,
-        Operation::Mark => Act::Mark,
-        Operation::Return(_) => Act::Value,
-        Operation::Argument(_) => Act::Value,
-        Operation::VariadicArgument(_) => Act::Value,
     }
 }
 
@@ -111,7 +110,6 @@ fn open_after(opened: bool, act: Act, refusal: u64) -> bool
 {
     match act {
         Act::Fresh => refusal == shape::ACCEPTED,
-        Act::Mark => opened,
-        Act::Value => opened,
+        Act::Mark | Act::Value => opened,
     }
 }

@@ -17,6 +17,7 @@ pub struct Record {
     pub sixth: u64,
 }
 
+#[tactic(auto, unfolding(crate::specs::Records::record_of))]
 pub(crate) fn record_of(bytes: &[u8]) -> Record
     ensures { result ≡ record_of bytes.now }
 {
