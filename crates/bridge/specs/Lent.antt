@@ -1,5 +1,7 @@
 -- What a bridge asks, as numbers, and what each form over its lent call leaves (REFERENCE 14).
 use Rattle.std.specs.Prelude.{ℕ, ◌≡◌, List, cond, eqb}
+use Rattle.std.specs.Borrow.{MutBor}
+use Rattle.std.specs.Fn.{Once}
 use Rattle.shape.specs.Numbers.{form_void, form_scalar, form_aggregate}
 use Rattle.shape.specs.declared.Arg.{Arg}
 use Rattle.classify.specs.declared.Call.{Call}
@@ -27,6 +29,14 @@ pub record Lends (a : Answer) (words : List ℕ) (r : Outcome) (after : Call) (o
   pub outcome : r ≡ a.outcome
   pub call : after ≡ a.next
   pub writes : out ≡ words
+
+-- an operation that is handed a call and is lent the words of a buffer may answer `a`, and leave the words `after`
+pub record Performs {F : Type 0} (g : Once F (Call × (MutBor (List ℕ) × Unit {0})) (Answer × (MutBor (List ℕ) × Unit {0}))) (f : F) (c : Call) (out : List ℕ) (a : Answer) (after : List ℕ) : Type 0 where
+  pub lends : MutBor (List ℕ)
+  pub shows : lends.now ≡ out
+  pub left : MutBor (List ℕ)
+  pub met : g.post f (c, (lends, tt)) (a, (left, tt))
+  pub leaves : left.now ≡ after
 
 -- of a call, a question, the words of its pieces and the buffer's words
 abbrev pub LentReturns : Call → What → List ℕ → List ℕ → Outcome → Call → List ℕ → Type 0

@@ -3,8 +3,9 @@
 #![tactic(auto)]
 
 ghost use Rattle.std.specs.Prelude.{◌≡◌};
-ghost use Rattle.classify.specs.Answers.{variadic_answer, Returns, Passes, PassesVariadic};
-ghost use Rattle.bridge.specs.Lent.{arg_of, LentReturns, LentPasses, LentPassesVariadic};
+ghost use Rattle.classify.specs.Answers.{variadic_answer};
+ghost use Rattle.classify.specs.declared.Answer.{Answer};
+ghost use Rattle.bridge.specs.Lent.{arg_of, Performs, LentReturns, LentPasses, LentPassesVariadic};
 
 use classify::{Answer, Call, Outcome};
 use shape::{Arg, Scalar};
@@ -31,7 +32,7 @@ const NO_KIND: u64 = 5;
 pub fn barkpaddle_bridge_variadic(call: &mut Call) -> Outcome
     ensures { (result ≡ (variadic_answer call.old).outcome) × (call.new ≡ (variadic_answer call.old).next) }
 {
-    let answer = variadic_of(*call);
+    let answer = call.variadic();
     *call = answer.next;
     answer.outcome
 }
@@ -45,9 +46,9 @@ pub fn barkpaddle_bridge_returns(
 ) -> Outcome
     ensures { LentReturns call.old what words.now slots.old result call.new slots.new }
 {
-    let answer = returns_of(*call, what, words, slots);
-    *call = answer.next;
-    answer.outcome
+    lent(call, slots, |call, slots| {
+        call.returns(Arg::from(what), words, slots)
+    })
 }
 
 // How the next fixed argument travels.
@@ -59,9 +60,9 @@ pub fn barkpaddle_bridge_argument(
 ) -> Outcome
     ensures { LentPasses call.old what words.now slots.old result call.new slots.new }
 {
-    let answer = argument_of(*call, what, words, slots);
-    *call = answer.next;
-    answer.outcome
+    lent(call, slots, |call, slots| {
+        call.argument(Arg::from(what), words, slots)
+    })
 }
 
 // How the next argument after the dots travels.
@@ -73,62 +74,51 @@ pub fn barkpaddle_bridge_variadic_argument(
 ) -> Outcome
     ensures { LentPassesVariadic call.old what words.now slots.old result call.new slots.new }
 {
-    let answer = variadic_argument_of(*call, what, words, slots);
+    lent(call, slots, |call, slots| {
+        call.variadic_argument(Arg::from(what), words, slots)
+    })
+}
+
+// ---- what they share
+
+// Performs an operation on the call that is lent, and leaves there the call that it answers.
+fn lent<F: FnOnce(Call, &mut [u64]) -> Answer>(
+    call: &mut Call,
+    slots: &mut [u64],
+    operation: F,
+) -> Outcome
+    requires { F.IsAlwaysCallable operation }
+    ensures { (a : Answer) × Performs F.FnOnce operation call.old slots.old a slots.new × (result ≡ a.outcome) × (call.new ≡ a.next) }
+{
+    let answer = operation(*call, slots);
     *call = answer.next;
     answer.outcome
 }
 
-// ---- the value forms
-
-fn variadic_of(call: Call) -> Answer
-    ensures { result ≡ variadic_answer call }
-{
-    call.variadic()
-}
-
-fn returns_of(call: Call, what: What, words: &[u64], slots: &mut [u64]) -> Answer
-    ensures { Returns call (arg_of what) words.now slots.old result slots.new }
-{
-    call.returns(arg_of(what), words, slots)
-}
-
-fn argument_of(call: Call, what: What, words: &[u64], slots: &mut [u64]) -> Answer
-    ensures { Passes call (arg_of what) words.now slots.old result slots.new }
-{
-    call.argument(arg_of(what), words, slots)
-}
-
-fn variadic_argument_of(call: Call, what: What, words: &[u64], slots: &mut [u64]) -> Answer
-    ensures { PassesVariadic call (arg_of what) words.now slots.old result slots.new }
-{
-    call.variadic_argument(arg_of(what), words, slots)
-}
-
 // A form that isn't known is refused as a scalar of no kind, in the order of the other refusals.
-fn arg_of(what: What) -> Arg
-    ensures { result ≡ arg_of what }
-{
-    if what.form == shape::FORM_VOID {
-        return Arg::Void;
+impl From<What> for Arg {
+    ghost from_gives = { λ what arg. arg ≡ arg_of what };
+
+    #[tactic(auto, unfolding(crate::specs::Lent::arg_of))]
+    fn from(what: What) -> Arg {
+        match what.form {
+            shape::FORM_VOID => Arg::Void,
+            shape::FORM_SCALAR => Arg::Scalar(Scalar {
+                kind: what.kind,
+                size: what.size,
+                align: what.align,
+            }),
+            shape::FORM_AGGREGATE => Arg::Aggregate(export_numbers::shape_from(
+                what.size,
+                what.align,
+                what.complex,
+                what.floating,
+            )),
+            _ => Arg::Scalar(Scalar {
+                kind: NO_KIND,
+                size: 0,
+                align: 0,
+            }),
+        }
     }
-    if what.form == shape::FORM_SCALAR {
-        return Arg::Scalar(Scalar {
-            kind: what.kind,
-            size: what.size,
-            align: what.align,
-        });
-    }
-    if what.form == shape::FORM_AGGREGATE {
-        return Arg::Aggregate(export_numbers::shape_from(
-            what.size,
-            what.align,
-            what.complex,
-            what.floating,
-        ));
-    }
-    Arg::Scalar(Scalar {
-        kind: NO_KIND,
-        size: 0,
-        align: 0,
-    })
 }
