@@ -1,14 +1,13 @@
 -- The loop of `take_records`: what is left of the input from here on completes the records that are taken.
-use Prim.Native.Nat.{ℕ, zero, suc, ◌+◌, ◌-◌, ◌*◌, ◌≤◌}
+use Prim.Native.Nat.{ℕ, zero, suc, ◌+◌, ◌-◌, ◌*◌, ◌≤◌, ◌<◌}
 use mathlib.Core.Path.{◌≡◌, refl, sym, ap, ◌∙◌}
 use mathlib.Core.List.{List, ◌∷◌, ◌++◌}
-use mathlib.Core.Bool.{Bool, true, false, ◌&&◌}
+use mathlib.Core.Bool.{true, false}
 use native.Mathlib.Omega.{arith}
-use borrow.Author.Tests.{le-leb, leb-true}
+use borrow.Author.Tests.{leb-true}
 use lib.Dec.{leb}
-use lib.ListN.{length, take, drop, length-drop}
-use lib.Seq.{drop-drop}
-use Rattle.shape.proofs.Bools.{both_true}
+use lib.ListN.{length, take, drop, length-drop, length-append}
+use lib.Seq.{drop-drop, take-append_seam, drop-append_seam}
 use Rattle.sheet_records.specs.Records.{record_size}
 use Rattle.text.specs.Text.{Put}
 use Rattle.sheet_lines.specs.Printing.{longest}
@@ -18,12 +17,6 @@ use Rattle.sheet_perform.specs.declared.State.{State}
 use Rattle.sheet.specs.declared.Step.{Step}
 use Rattle.sheet.specs.Sheet.{Between, between, step_to, text, after_record, step_answer, step_pieces, step_slots, step_out, Stepped, texts, after_all, records_in, whole, taken, taken_of, steps_answer, steps_pieces, steps_slots, steps_out, Taken}
 use Rattle.sheet.proofs.BoundLaws.{text_bound}
-
--- a record that goes on ends inside the input
-pub end_inside : (n used at room : ℕ) (g : Bool) → g ≡ leb record_size (n - used) && leb (at + longest) room → g ≡ true → used ≤ n
-    → used + record_size ≤ n
-end_inside n used at room g eg t h =
-    let k : record_size ≤ n - used = leb-true _ _ (both_true (leb record_size (n - used)) (leb (at + longest) room) (sym eg ∙ t)).0 in omega arith
 
 -- the records that are taken from here on
 abbrev taking : Between → List ℕ → ℕ → ℕ → List (List ℕ)
@@ -93,62 +86,65 @@ module _ (s : State) (bs ps slots out : List ℕ) (at : ℕ) (answer : Step) (ps
 
 module _ (b₀ : Between) (input out₀ : List ℕ) (s : State) (ps slots : List ℕ) (used at : ℕ) (out : List ℕ)
     (l : Left b₀ input out₀ (between s ps slots) used at out) where
-  pub left_next : (g : Bool) → g ≡ leb record_size (length input - used) && leb (at + longest) (length out) → g ≡ true
-      → (answer : Step) (ps' slots' out' : List ℕ)
-      → Stepped s (take (used + record_size - used) (drop used input)) ps slots out at answer ps' slots' out'
-      → length out' ≡ length out
-      → Left b₀ input out₀ (between answer.next ps' slots') (used + record_size) answer.at out'
-  left_next g eg t answer ps' slots' out' x same_out =
-      let b : Between = between s ps slots in
-      let rest : List ℕ = drop used input in
-      let tests = both_true (leb record_size (length input - used)) (leb (at + longest) (length out)) (sym eg ∙ t) in
-      let n : used + record_size - used ≡ record_size = omega arith in
-      let y : Stepped s (take record_size rest) ps slots out at answer ps' slots' out' = rw n at x in
-      let h : record_size ≤ length input - used = leb-true _ _ tests.0 in
-      let len : length rest ≡ length input - used = length-drop used input in
-      let fits : record_size ≤ length rest = omega arith in
-      let roomy : leb (at + longest) (length out₀) ≡ true = rw l.same at tests.1 in
-      let eb = behind_it s (take record_size rest) ps slots out at answer ps' slots' out' y tests.1 in
-      let ea = ends_at s (take record_size rest) ps slots out at answer ps' slots' out' y tests.1 in
-      let put = put_it s (take record_size rest) ps slots out at answer ps' slots' out' y tests.1 in
-      let er = drop-drop record_size used input in
-      let inside_was = l.inside in
-      let same_was = l.same in
-      let count_was = l.count in
-      let more = taken_more b rest (length out₀) at fits roomy _ eb _ ea _ er in
-      record {
-        inside = omega arith;
-        same = omega arith;
-        ends = omega (arith, put.ends, put.fits);
-        count = omega (arith, more);
-        behind = l.behind ∙ after_more b rest (length out₀) at fits roomy _ eb _ ea _ er;
-        goes =
-            record {
-              on = λ r q z. l.goes.on r q (rw (texts_more b rest (length out₀) at fits roomy _ eb _ ea _ er) (put_then put z));
-            };
-      }
+  -- the bytes of the record, and those behind it
+  module _ (bs rest' : List ℕ) (cut : drop used input ≡ bs ++ rest') (long : length bs ≡ record_size) where
+    first : take record_size (drop used input) ≡ bs
+    first = rw (cut, ← long) (take-append_seam bs rest')
+
+    pub behind_record : rest' ≡ drop (used + record_size) input
+    behind_record = rw (sym (drop-drop record_size used input), cut, ← long) (sym (drop-append_seam bs rest'))
+
+    pub left_next : leb (at + longest) (length out) ≡ true → (answer : Step) (ps' slots' out' : List ℕ)
+        → Stepped s bs ps slots out at answer ps' slots' out' → length out' ≡ length out
+        → Left b₀ input out₀ (between answer.next ps' slots') (used + record_size) answer.at out'
+    left_next roomy_now answer ps' slots' out' x same_out =
+        let b : Between = between s ps slots in
+        let rest : List ℕ = drop used input in
+        let y : Stepped s (take record_size rest) ps slots out at answer ps' slots' out' = rw first x in
+        let len : length rest ≡ length input - used = length-drop used input in
+        let fits : record_size ≤ length rest = omega (arith, ap length cut, length-append bs rest', long) in
+        let roomy : leb (at + longest) (length out₀) ≡ true = rw l.same at roomy_now in
+        let eb = behind_it s (take record_size rest) ps slots out at answer ps' slots' out' y roomy_now in
+        let ea = ends_at s (take record_size rest) ps slots out at answer ps' slots' out' y roomy_now in
+        let put = put_it s (take record_size rest) ps slots out at answer ps' slots' out' y roomy_now in
+        let er = drop-drop record_size used input in
+        let inside_was = l.inside in
+        let same_was = l.same in
+        let count_was = l.count in
+        let more = taken_more b rest (length out₀) at fits roomy _ eb _ ea _ er in
+        record {
+          inside = omega arith;
+          same = omega arith;
+          ends = omega (arith, put.ends, put.fits);
+          count = omega (arith, more);
+          behind = l.behind ∙ after_more b rest (length out₀) at fits roomy _ eb _ ea _ er;
+          goes =
+              record {
+                on = λ r q z. l.goes.on r q (rw (texts_more b rest (length out₀) at fits roomy _ eb _ ea _ er) (put_then put z));
+              };
+        }
 
 -- ---- the end of the loop
 
-none_taken : (n : ℕ) (b : Between) (rest : List ℕ) (room at : ℕ) → n ≡ whole rest → leb record_size (length rest) && leb (at + longest) room ≡ false
-    → taken n b rest room at ≡ 0
+-- the input has no whole record any more, or the text no room
+pub data Over (rest : List ℕ) (room at : ℕ) : Type 0 where
+  short : length rest < record_size → Over rest room at
+  full : leb (at + longest) room ≡ false → Over rest room at
+
+none_taken : (n : ℕ) (b : Between) (rest : List ℕ) (room at : ℕ) → n ≡ whole rest → Over rest room at → taken n b rest room at ≡ 0
 unfolding taken
 none_taken zero b rest room at e t = refl
-none_taken (suc n) b rest room at e t =
-    let h : record_size ≤ length rest = omega arith in
-    let u : leb (at + longest) room ≡ false = rw (le-leb record_size (length rest) h) at t in
-    rw u
+none_taken (suc n) b rest room at e (short h) = absurd (omega arith)
+none_taken (suc n) b rest room at e (full h) = rw h
 
 module _ (s₀ : State) (ps₀ slots₀ input out₀ : List ℕ) (s : State) (ps slots : List ℕ) (used at : ℕ) (out : List ℕ)
     (l : Left (between s₀ ps₀ slots₀) input out₀ (between s ps slots) used at out) where
-  pub left_last : (g : Bool) → g ≡ leb record_size (length input - used) && leb (at + longest) (length out) → g ≡ false
-      → Taken s₀ input ps₀ slots₀ out₀ (record { next = s; used = used; at = at }) ps slots out
+  pub left_last : Over (drop used input) (length out) at → Taken s₀ input ps₀ slots₀ out₀ (record { next = s; used = used; at = at }) ps slots out
   unfolding steps_answer steps_pieces steps_slots steps_out texts after_all records_in
-  left_last g eg t =
+  left_last over =
       let b : Between = between s ps slots in
       let rest : List ℕ = drop used input in
-      let len : length rest ≡ length input - used = length-drop used input in
-      let u : leb record_size (length rest) && leb (at + longest) (length out₀) ≡ false = rw (len, ← l.same, ← eg) t in
+      let u : Over rest (length out₀) at = rw l.same at over in
       let none_left = none_taken (whole rest) b rest (length out₀) at refl u in
       let behind : after_all (between s₀ ps₀ slots₀) (taken_of (between s₀ ps₀ slots₀) input (length out₀)) ≡ b = rw none_left at l.behind in
       let put : Put out₀ 0 (texts (between s₀ ps₀ slots₀) (taken_of (between s₀ ps₀ slots₀) input (length out₀))) at out =

@@ -3,15 +3,14 @@
 // records is a small value, `sheet_perform::State`; the pieces of an aggregate that is being read stand in a lent buffer.
 #![tactic(auto)]
 
-ghost use Rattle.std.specs.Prelude.{◌≡◌, ◌+◌, ◌≤◌, ◌&&◌, leb, length};
-ghost use Rattle.sheet_records.specs.Records.{record_size};
+ghost use Rattle.std.specs.Prelude.{◌≡◌, ◌+◌, ◌≤◌, length};
 ghost use Rattle.text.specs.Text.{Put};
 ghost use Rattle.sheet_lines.specs.Printing.{longest};
 ghost use Rattle.sheet.specs.Sheet.{stop_text, CarriedOut, Stepped, Taken, Finished};
 
-use sheet_lines::has_room;
+use sheet_lines::{has_room, put_line};
 use sheet_perform::State;
-use sheet_records::{Event, Operation, RECORD, read};
+use sheet_records::{Act, Event, Operation, RECORD, read};
 
 // Words that hold the most pieces of an aggregate. Those that hold the most slots of an answer are `slots::MOST_WORDS`.
 pub const PIECES: usize = checks::MOST_PIECES * shape::PIECE;
@@ -46,18 +45,17 @@ pub fn take_record(
     if !has_room(out.len(), at) {
         return Step { next: state, at };
     }
-    let call = state.call;
-    let before = state.reader;
-    let reading = read(before, bytes, pieces);
-    let reader = reading.next;
-    let event = reading.event;
-    let next = State { call, reader };
-    match event {
+    let reading = read(state.reader, bytes, pieces);
+    let next = State {
+        reader: reading.next,
+        ..state
+    };
+    match reading.event {
         Event::More => Step { next, at },
-        Event::Stop => {
-            let to = put_stop(out, at);
-            Step { next, at: to }
-        }
+        Event::Stop => Step {
+            next,
+            at: put_stop(out, at),
+        },
         Event::Ready(operation) => carry_out(next, operation, pieces, slots, out, at),
     }
 }
@@ -73,22 +71,23 @@ pub fn take_records(
 ) -> Steps
     ensures { Taken first input.now pieces.old slots.old out.old result pieces.new slots.new out.new }
 {
-    let mut state = first;
-    let mut used = 0;
-    let mut at = 0;
-    while goes_on(input.len() - used, out.len(), at) {
-        let end = used + RECORD;
-        let stepped = take_record(state, &input[used..end], pieces, slots, out, at);
-        let next = stepped.next;
-        state = next;
-        used = end;
-        at = stepped.at;
+    let mut steps = Steps {
+        next: first,
+        used: 0,
+        at: 0,
+    };
+    for record in input.chunks_exact(RECORD) {
+        if !has_room(out.len(), steps.at) {
+            return steps;
+        }
+        let step = take_record(steps.next, record, pieces, slots, out, steps.at);
+        steps = Steps {
+            next: step.next,
+            used: steps.used + RECORD,
+            at: step.at,
+        };
     }
-    Steps {
-        next: state,
-        used,
-        at,
-    }
+    steps
 }
 
 // The end of the sheet behind its last whole record: a piece that is still due is missing.
@@ -99,17 +98,16 @@ pub fn finish(state: State, out: &mut [u8], at: usize) -> Step
         return Step { next: state, at };
     }
     let reader = state.reader;
-    let due = reader.due;
-    if reader.stopped | (due.pieces == 0) {
+    if reader.stopped | (reader.due.pieces == 0) {
         return Step { next: state, at };
     }
-    let call = state.call;
-    let next = State {
-        call,
-        reader: reader.stop(),
-    };
-    let to = put_stop(out, at);
-    Step { next, at: to }
+    Step {
+        next: State {
+            reader: reader.stop(),
+            ..state
+        },
+        at: put_stop(out, at),
+    }
 }
 
 // Performs an operation and prints its line.
@@ -124,13 +122,19 @@ fn carry_out(
     requires { at + longest ≤ length out.old }
     ensures { CarriedOut state operation pieces.now slots.old out.old at result slots.new out.new }
 {
-    let call = state.call;
     let performed = state.perform(operation, pieces, slots);
-    let next = performed.next;
-    let answer = performed.answer;
-    let act = sheet_records::act_of(operation);
-    let to = sheet_lines::put_line(act, call.stack, answer, slots, out, at);
-    Step { next, at: to }
+    let to = put_line(
+        Act::from(operation),
+        state.call.stack,
+        performed.answer,
+        slots,
+        out,
+        at,
+    );
+    Step {
+        next: performed.next,
+        at: to,
+    }
 }
 
 fn put_stop(out: &mut [u8], at: usize) -> usize
@@ -138,11 +142,4 @@ fn put_stop(out: &mut [u8], at: usize) -> usize
     ensures { Put out.old at stop_text result out.new }
 {
     text::append(out, at, b"stop\n")
-}
-
-// Whether a whole record is left and the longest line has room.
-fn goes_on(left: usize, length: usize, at: usize) -> bool
-    ensures { result ≡ leb record_size left && leb (at + longest) length }
-{
-    (RECORD <= left) & has_room(length, at)
 }

@@ -1,4 +1,3 @@
-pub mod RoomLaws
 pub mod PrintingLaws
 pub mod BoundLaws
 pub mod LineLaws

@@ -1,68 +1,21 @@
 -- The line of an operation, part by part.
 use Prim.Native.Nat.{ℕ, ◌+◌, ◌*◌, ◌≤◌, ◌<◌}
-use mathlib.Core.Path.{◌≡◌, ap, ◌∙◌}
+use mathlib.Core.Path.{◌≡◌}
 use mathlib.Core.List.{List, [], ◌∷◌, ◌++◌}
-use native.Mathlib.Omega.{arith}
 use native.Mathlib.Numerals.{add-one}
 use borrow.Author.Tests.{eq-eqb, ne_eqb}
 use lib.ListN.{length, take, drop, get_or}
-use lib.Seq.{drop-cons, drop-length, get_or-take, length-take-le}
+use lib.Seq.{drop-cons, drop-length}
 use Rattle.slots.specs.Words.{slot_size}
-use Rattle.text.specs.Text.{bytes}
-use Rattle.spend.specs.declared.Way as ways
-use Rattle.spend.specs.Ways.{way_from}
 use Rattle.classify.specs.declared.Outcome.{Outcome}
 use Rattle.classify.specs.declared.Answer.{Answer}
 use Rattle.sheet_records.specs.declared.known.Act as acts
 use Rattle.text.specs.Text.{Put}
-use Rattle.text.specs.Numbers.{part, most_part}
-use Rattle.sheet_lines.specs.Printing.{space, newline, way_text, act_text, refused_text, name_text, pair, counts_text, mark_at, slots_text, rest_text, offset_before, offsets_text, end_text, line}
+use Rattle.text.specs.Numbers.{part}
+use Rattle.sheet_lines.specs.Printing.{space, newline, name_text, pair, counts_text, mark_at, slots_text, rest_text, offset_before, offsets_text, end_text, line}
 use Rattle.text.proofs.Putting.{put_then, put_nothing}
 
 module _ (o : List ℕ) (at r : ℕ) (p : List ℕ) where
-  module _ (way : ways.Way) where
-    pub way_ignore : way ≡ ways.TheVariants.Ignore → Put o at (bytes "ignore") r p → Put o at (way_text way) r p
-    unfolding way_text
-    way_ignore e x = rw e x
-
-    pub way_direct : way ≡ ways.TheVariants.Direct → Put o at (bytes "direct") r p → Put o at (way_text way) r p
-    unfolding way_text
-    way_direct e x = rw e x
-
-    pub way_pieces : way ≡ ways.TheVariants.Pieces → Put o at (bytes "pieces") r p → Put o at (way_text way) r p
-    unfolding way_text
-    way_pieces e x = rw e x
-
-    pub way_reference : way ≡ ways.TheVariants.Reference → Put o at (bytes "reference") r p → Put o at (way_text way) r p
-    unfolding way_text
-    way_reference e x = rw e x
-
-    pub way_memory : way ≡ ways.TheVariants.Memory → Put o at (bytes "memory") r p → Put o at (way_text way) r p
-    unfolding way_text
-    way_memory e x = rw e x
-
-  module _ (act : acts.Act) (out : Outcome) where
-    pub name_refused : (out.refusal ≡ 0 → ⊥) → Put o at refused_text r p → Put o at (name_text act out) r p
-    unfolding name_text
-    name_refused h x = rw (ne_eqb _ _ h) x
-
-    module _ (h : out.refusal ≡ 0) where
-      named : Put o at (act_text act (way_from out.way)) r p → Put o at (name_text act out) r p
-      unfolding name_text
-      named x = rw (eq-eqb _ _ h) x
-
-      pub name_fresh : act ≡ acts.TheVariants.Fresh → Put o at (bytes "fresh") r p → Put o at (name_text act out) r p
-      unfolding act_text
-      name_fresh e x = named (rw e x)
-
-      pub name_marked : act ≡ acts.TheVariants.Mark → Put o at (bytes "marked") r p → Put o at (name_text act out) r p
-      unfolding act_text
-      name_marked e x = named (rw e x)
-
-      pub name_value : act ≡ acts.TheVariants.Value → (way : ways.Way) → way ≡ way_from out.way → Put o at (way_text way) r p → Put o at (name_text act out) r p
-      unfolding act_text
-      name_value e way ew x = named (rw (e, ← ew) x)
-
   module _ (out : Outcome) (slots : List ℕ) where
     pub rest_refused : (out.refusal ≡ 0 → ⊥) → Put o at (part space out.refusal) r p → Put o at (rest_text out slots) r p
     unfolding rest_text
@@ -92,10 +45,10 @@ module _ (act : acts.Act) (before : ℕ) where
   end_put answer first e o at a p b q x1 x2 = put_then (rw e at x1) x2
 
   pub line_put : (answer : Answer) (slots o : List ℕ) (at a : ℕ) (p : List ℕ) (b : ℕ) (q : List ℕ) (c : ℕ) (s : List ℕ) (d : ℕ) (t : List ℕ)
-      → Put o at (name_text act answer.outcome) a p → Put p a (counts_text answer) b q → Put q b (rest_text answer.outcome slots) c s
+      → (name : List ℕ) → name ≡ name_text act answer.outcome → Put o at name a p → Put p a (counts_text answer) b q → Put q b (rest_text answer.outcome slots) c s
       → Put s c (end_text act before answer) d t → Put o at (line act before answer slots) d t
   unfolding line
-  line_put answer slots o at a p b q c s d t x1 x2 x3 x4 = put_then x1 (put_then x2 (put_then x3 x4))
+  line_put answer slots o at a p b q c s d t name e x1 x2 x3 x4 = put_then (rw e at x1) (put_then x2 (put_then x3 x4))
 
 -- ---- the loop of `put_slots`
 
@@ -106,27 +59,18 @@ pub record Goes (o : List ℕ) (at : ℕ) (whole : List ℕ) (p : List ℕ) (to 
 pub goes_first : (o : List ℕ) (at : ℕ) (whole : List ℕ) → Goes o at whole o at whole
 goes_first o at whole = record { on = λ r q x. x }
 
--- the text of the words from an index on
-abbrev pub slots_from : ℕ → List ℕ → ℕ → List ℕ
-slots_from n slots i = slots_text i (drop i (take n slots))
-
-module _ (n : ℕ) (slots : List ℕ) (all : n ≤ length slots) (i : ℕ) where
-  slot_next : i < n → slots_from n slots i ≡ part (mark_at i) (get_or slots i 0) ++ slots_from n slots (i + 1)
+module _ (slots : List ℕ) (i : ℕ) where
+  slot_next : i < length slots → slots_text i (drop i slots) ≡ part (mark_at i) (get_or slots i 0) ++ slots_text (i + 1) (drop (i + 1) slots)
   unfolding slots_text
-  slot_next h =
-      let l : length (take n slots) ≡ n = length-take-le n slots all in
-      let k : i < length (take n slots) = omega arith in
-      rw (add-one, drop-cons (take n slots) i 0 k, get_or-take n slots i 0, add-one)
+  slot_next h = rw (add-one, drop-cons slots i 0 h, add-one)
 
-  module _ (o : List ℕ) (at : ℕ) (whole p : List ℕ) (to : ℕ) (g : Goes o at whole p to (slots_from n slots i)) where
-    pub goes_next : i < n → (m t : ℕ) (q : List ℕ) → m ≡ mark_at i → Put p to (part m (get_or slots i 0)) t q
-        → Goes o at whole q t (slots_from n slots (i + 1))
+  module _ (o : List ℕ) (at : ℕ) (whole p : List ℕ) (to : ℕ) (g : Goes o at whole p to (slots_text i (drop i slots))) where
+    pub goes_next : i < length slots → (m t : ℕ) (q : List ℕ) → m ≡ mark_at i → Put p to (part m (get_or slots i 0)) t q
+        → Goes o at whole q t (slots_text (i + 1) (drop (i + 1) slots))
     goes_next h m t q em x = record { on = λ r u y. g.on r u (rw (slot_next h) (put_then (rw em at x) y)) }
 
-    pub goes_last : n ≤ i → i ≤ n → at + n * most_part ≤ length o → length p ≡ length o → to ≤ at + i * most_part → Put o at whole to p
-    unfolding slots_text
-    goes_last h k fits same bound =
-        let l : length (take n slots) ≡ n = length-take-le n slots all in
-        let e : i ≡ length (take n slots) = omega arith in
-        let z : drop i (take n slots) ≡ [] = ap (λ (j : ℕ). drop j (take n slots)) e ∙ drop-length (take n slots) in
-        g.on to p (rw z (put_nothing p to (omega arith)))
+-- none are left
+pub goes_last : (slots o : List ℕ) (at : ℕ) (whole p : List ℕ) (to i : ℕ) → Goes o at whole p to (slots_text i (drop i slots)) → i ≡ length slots
+    → to ≤ length p → Put o at whole to p
+unfolding slots_text
+goes_last slots o at whole p to i g e fits = g.on to p (rw (e, drop-length slots) (put_nothing p to fits))

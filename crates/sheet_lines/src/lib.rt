@@ -44,8 +44,7 @@ pub fn put_line(
     if !has_room(out.len(), at) {
         return at;
     }
-    let outcome = answer.outcome;
-    if !are_there(outcome.slots, slots.len()) {
+    if !are_there(answer.outcome.slots, slots.len()) {
         return at;
     }
     print(act, before, answer, slots, out, at)
@@ -55,10 +54,7 @@ pub fn put_line(
 pub fn has_room(length: usize, at: usize) -> bool
     ensures { result ≡ leb (at + spec.longest) length }
 {
-    if length < LONGEST {
-        return false;
-    }
-    at <= length - LONGEST
+    length >= LONGEST && at <= length - LONGEST
 }
 
 // Whether so many slots are few enough for a line and stand among so many words.
@@ -72,37 +68,39 @@ fn print(act: Act, before: u64, answer: Answer, slots: &[u64], out: &mut [u8], a
     requires { (at + spec.longest ≤ length out.old) × (answer.outcome.slots ≤ most_slots) × (answer.outcome.slots * slot_size ≤ length slots.now) }
     ensures { Put out.old at (spec.line act before answer slots.now) result out.new }
 {
-    let outcome = answer.outcome;
-    let a = put_name(act, outcome, out, at);
+    let a = put_text(out, at, name(act, answer.outcome));
     let b = put_counts(answer, out, a);
-    let c = put_rest(outcome, slots, out, b);
+    let c = put_rest(answer.outcome, slots, out, b);
     put_end(act, before, answer, out, c)
 }
 
-fn put_name(act: Act, outcome: Outcome, out: &mut [u8], at: usize) -> usize
-    requires { at + spec.most_name ≤ length out.old }
-    ensures { Put out.old at (spec.name_text act outcome) result out.new × (result ≤ at + spec.most_name) }
+// What the operation is, or how the value travels.
+#[tactic(auto, unfolding(crate::specs::Printing::name_text, crate::specs::Printing::act_text))]
+fn name(act: Act, outcome: Outcome) -> &'static [u8]
+    ensures text { result.now ≡ spec.name_text act outcome }
+    ensures most { length result.now ≤ spec.most_name }
 {
     if outcome.refusal != shape::ACCEPTED {
-        return put_text(out, at, b"refused");
+        return b"refused";
     }
     match act {
-        Act::Fresh => put_text(out, at, b"fresh"),
-        Act::Mark => put_text(out, at, b"marked"),
-        Act::Value => put_way(spend::way_from(outcome.way), out, at),
+        Act::Fresh => b"fresh",
+        Act::Mark => b"marked",
+        Act::Value => way_name(Way::from(outcome.way)),
     }
 }
 
-fn put_way(way: Way, out: &mut [u8], at: usize) -> usize
-    requires { at + spec.most_name ≤ length out.old }
-    ensures { Put out.old at (spec.way_text way) result out.new × (result ≤ at + spec.most_name) }
+#[tactic(auto, unfolding(crate::specs::Printing::way_text))]
+fn way_name(way: Way) -> &'static [u8]
+    ensures text { result.now ≡ spec.way_text way }
+    ensures most { length result.now ≤ spec.most_name }
 {
     match way {
-        Way::Ignore => put_text(out, at, b"ignore"),
-        Way::Direct => put_text(out, at, b"direct"),
-        Way::Pieces => put_text(out, at, b"pieces"),
-        Way::Reference => put_text(out, at, b"reference"),
-        Way::Memory => put_text(out, at, b"memory"),
+        Way::Ignore => b"ignore",
+        Way::Direct => b"direct",
+        Way::Pieces => b"pieces",
+        Way::Reference => b"reference",
+        Way::Memory => b"memory",
     }
 }
 
@@ -110,10 +108,8 @@ fn put_counts(answer: Answer, out: &mut [u8], at: usize) -> usize
     requires { at + spec.most_counts ≤ length out.old }
     ensures { Put out.old at (spec.counts_text answer) result out.new × (result ≤ at + spec.most_counts) }
 {
-    let call = answer.next;
-    let outcome = answer.outcome;
-    let spent = outcome.spent;
-    let left = call.left;
+    let left = answer.next.left;
+    let spent = answer.outcome.spent;
     let a = put_pair(out, at, left.integer, left.float);
     let b = put_pair(out, a, spent.integers_passed, spent.integers_given);
     put_pair(out, b, spent.floats_passed, spent.floats_given)
@@ -126,19 +122,17 @@ fn put_rest(outcome: Outcome, slots: &[u64], out: &mut [u8], at: usize) -> usize
     if outcome.refusal != shape::ACCEPTED {
         return put_part(out, at, b' ', outcome.refusal);
     }
-    put_slots(slots, outcome.slots as usize * slots::SLOT, out, at)
+    put_slots(&slots[..outcome.slots as usize * slots::SLOT], out, at)
 }
 
 // The words of slots: a space before each slot, and a colon between its words.
-fn put_slots(slots: &[u64], n: usize, out: &mut [u8], at: usize) -> usize
-    requires { (at + n * most_part ≤ length out.old) × (n ≤ length slots.now) }
-    ensures { Put out.old at (spec.slots_text 0 (take n slots.now)) result out.new × (result ≤ at + n * most_part) }
+fn put_slots(slots: &[u64], out: &mut [u8], at: usize) -> usize
+    requires { at + length slots.now * most_part ≤ length out.old }
+    ensures { Put out.old at (spec.slots_text 0 slots.now) result out.new × (result ≤ at + length slots.now * most_part) }
 {
     let mut to = at;
-    let mut i = 0;
-    while i < n {
-        to = put_part(out, to, mark(i), slots[i]);
-        i += 1;
+    for (i, word) in slots.iter().enumerate() {
+        to = put_part(out, to, mark(i), *word);
     }
     to
 }
@@ -154,8 +148,7 @@ fn put_end(act: Act, before: u64, answer: Answer, out: &mut [u8], at: usize) -> 
     requires { at + spec.most_end ≤ length out.old }
     ensures { Put out.old at (spec.end_text act before answer) result out.new }
 {
-    let call = answer.next;
-    let after = call.stack;
+    let after = answer.next.stack;
     let to = put_pair(out, at, offset_before(act, before, after), after);
     put_text(out, to, b"\n")
 }
@@ -166,8 +159,7 @@ fn offset_before(act: Act, before: u64, after: u64) -> u64
 {
     match act {
         Act::Fresh => after,
-        Act::Mark => before,
-        Act::Value => before,
+        Act::Mark | Act::Value => before,
     }
 }
 

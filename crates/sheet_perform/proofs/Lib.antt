@@ -1,2 +1,1 @@
-pub mod PerformingLaws
 mod Unique

@@ -43,25 +43,24 @@ impl State {
     }
 
     // Performs an operation that is ready. Its pieces are the words that its reader counts.
+    #[tactic(auto, unfolding(crate::specs::Performing::performed, crate::specs::Performing::performed_slots))]
     pub fn perform(self, operation: Operation, pieces: &[u64], slots: &mut [u64]) -> Performed
         ensures { (result ≡ performed self operation pieces.now slots.old) × (slots.new ≡ performed_slots self operation pieces.now slots.old) }
     {
-        let call = self.call;
         let reader = self.reader;
-        let due = reader.due;
-        let answer = answer_to(call, operation, words_of(due.words, pieces), slots);
-        let outcome = answer.outcome;
-        let next = answer.next;
+        let words = words_of(reader.due.words, pieces);
+        let answer = answer_to(self.call, operation, words, slots);
         Performed {
             next: State {
-                call: next,
-                reader: reader.after(operation, outcome.refusal),
+                call: answer.next,
+                reader: reader.after(operation, answer.outcome.refusal),
             },
             answer,
         }
     }
 }
 
+#[tactic(auto, unfolding(crate::specs::Performing::answer_of, crate::specs::Performing::slots_after))]
 fn answer_to(call: Call, operation: Operation, words: &[u64], slots: &mut [u64]) -> Answer
     ensures { (result ≡ answer_of call operation words.now slots.old) × (slots.new ≡ slots_after call operation words.now slots.old) }
 {
@@ -78,8 +77,5 @@ fn answer_to(call: Call, operation: Operation, words: &[u64], slots: &mut [u64])
 fn words_of(n: usize, pieces: &[u64]) -> &[u64]
     ensures { result.now ≡ take n pieces.now }
 {
-    if n < pieces.len() {
-        return &pieces[..n];
-    }
-    pieces
+    pieces.get(..n).unwrap_or(pieces)
 }

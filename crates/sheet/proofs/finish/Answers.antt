@@ -5,11 +5,11 @@ use Rattle.sheet.proofs.finish.Goals as goal
 pub returns-then-not-has_room : goal.returns-then-not-has_room
 returns-then-not-has_room c = search (finish_roomless)
 
-pub returns-then-reader-due : goal.returns-then-reader-due
-returns-then-reader-due c = search (finish_nothing)
+pub returns-then-reader : goal.returns-then-reader
+returns-then-reader c = search (finish_nothing)
 
-pub put_stop-to-requires : goal.put_stop-to-requires
-put_stop-to-requires c = search (line_fits)
+pub put_stop-requires : goal.put_stop-requires
+put_stop-requires c = search (line_fits)
 
 pub returns : goal.returns
 returns c = search (finish_missing)

@@ -10,8 +10,8 @@ returns-in-Ready c =
 pub returns-then-not-has_room : goal.returns-then-not-has_room
 returns-then-not-has_room c = search (step_roomless)
 
-pub put_stop-to-requires : goal.put_stop-to-requires
-put_stop-to-requires c = search (line_fits)
+pub put_stop-requires : goal.put_stop-requires
+put_stop-requires c = search (line_fits)
 
 pub carry_out-requires : goal.carry_out-requires
 carry_out-requires c = search (line_fits)

@@ -1,5 +1,5 @@
 -- `put_line` prints where the line has room and its slots are there.
-use Rattle.sheet_lines.proofs.LineLaws.{room_there, few_enough, words_there, line_roomless, line_slotless, line_printed}
+use Rattle.sheet_lines.proofs.LineLaws.{line_roomless, line_slotless, line_printed}
 use Rattle.sheet_lines.proofs.put_line.Goals as goal
 
 pub returns-then-not-has_room : goal.returns-then-not-has_room
@@ -7,9 +7,6 @@ returns-then-not-has_room c = search (line_roomless)
 
 pub returns-then-not-are_there : goal.returns-then-not-are_there
 returns-then-not-are_there c = search (line_slotless)
-
-pub print-requires : goal.print-requires
-print-requires c = (search (room_there), search (few_enough), search (words_there))
 
 pub returns : goal.returns
 returns c = search (line_printed)
