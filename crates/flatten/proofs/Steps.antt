@@ -1,28 +1,26 @@
 -- What each function of the cycle writes, in the form in which its proof meets it.
 use Prim.Native.Nat.{ℕ, suc, ◌+◌, ◌-◌, ◌≤◌, ◌<◌}
 use mathlib.Core.Path.{◌≡◌, ap, sym, ◌∙◌}
-use mathlib.Core.Bool.{Bool, true, false}
+use mathlib.Core.Bool.{Bool}
 use mathlib.Core.List.{List, [], ◌∷◌, ◌++◌}
 use native.Mathlib.Nat.{sub-zero}
 use native.Mathlib.Omega.{arith}
-use lib.Dec.{eqb}
 use lib.ListN.{get_or}
 use Rattle.shape.specs.declared.Piece.{Piece}
+use Rattle.shape.specs.declared.Scalar.{Scalar}
 use Rattle.shape.specs.Arithmetic.{plus, rounded}
 use Rattle.shape.specs.Words.{piece}
-use Rattle.types.specs.declared.Entry.{Entry}
+use Rattle.types.specs.declared.Form.{Form}
+use Rattle.types.specs.declared.Form.TheVariants.{One, Members, Elements}
 use Rattle.types.specs.declared.Row.{Row}
-use Rattle.types.specs.Entries.{nowhere, union_kind, array_kind, entry_at, members_from, has_members, meaning_of}
+use Rattle.types.specs.Entries.{nowhere, entry_at, members_from, form_of, form_meaning}
 use Rattle.types.specs.Table.{row_at, place_from}
-use Rattle.types.proofs.Reading.{members_start, members_step, members_end, means_several, means_repeated, means_one}
+use Rattle.types.proofs.Reading.{members_step, members_end, form_means}
 use Rattle.flatten.specs.Writing.{if_leaves, over_members, over_elements, step_of, spread, entry_pieces}
 
 -- ---- members
 
 module _ (f : ℕ → ℕ → List Piece) (tb ms : List ℕ) (overlaid : Bool) (base first count : ℕ) where
-  pub members_begin : over_members f tb overlaid base 0 (members_from ms first count) ≡ over_members f tb overlaid base 0 (members_from ms (first + 0) (count - 0))
-  members_begin = ap (λ (l : List ℕ). over_members f tb overlaid base 0 l) (members_start ms first count)
-
   module _ (end i : ℕ) where
     pub members_turn : i < count → (m : ℕ) → m ≡ get_or ms (first + i) nowhere → (r : Row) → r ≡ row_at tb m → (o : ℕ) → o ≡ place_from overlaid end r.align
         → (b : ℕ) → b ≡ plus base o → (e : ℕ) → e ≡ plus o r.takes
@@ -61,25 +59,22 @@ module _ (ts ms tb : List ℕ) (levels e base : ℕ) where
   unfolding entry_pieces
   no_level z = rw z
 
-  module _ (nz : levels ≡ 0 → ⊥) (x : Entry) (ex : x ≡ entry_at ts e) (b : Bool) (eb : b ≡ has_members x.kind) where
-    one_down : entry_pieces ts ms tb levels e base ≡ spread (entry_pieces ts ms tb (levels - 1)) tb (meaning_of ms x) base
+  module _ (nz : levels ≡ 0 → ⊥) (f : Form) (ef : f ≡ form_of (entry_at ts e)) where
+    one_down : entry_pieces ts ms tb levels e base ≡ spread (entry_pieces ts ms tb (levels - 1)) tb (form_meaning ms f) base
     unfolding entry_pieces
     one_down =
         let s : levels ≡ suc (levels - 1) = omega arith in
-        ap (λ (l : ℕ). entry_pieces ts ms tb l e base) s
-        ∙ ap (λ (y : Entry). spread (entry_pieces ts ms tb (levels - 1)) tb (meaning_of ms y) base) (sym ex)
+        ap (λ (l : ℕ). entry_pieces ts ms tb l e base) s ∙ rw (ef, form_means ms (entry_at ts e))
 
-    pub of_members : b ≡ true
-        → over_members (entry_pieces ts ms tb (levels - 1)) tb (eqb x.kind union_kind) base 0 (members_from ms x.second x.third) ≡ entry_pieces ts ms tb levels e base
+    pub of_members : (overlaid : Bool) (first count : ℕ) → f ≡ Members overlaid first count
+        → over_members (entry_pieces ts ms tb (levels - 1)) tb overlaid base 0 (members_from ms first count) ≡ entry_pieces ts ms tb levels e base
     unfolding spread
-    of_members h = sym (one_down ∙ rw (means_several ms x b eb h))
+    of_members overlaid first count h = sym (one_down ∙ rw h)
 
-    module _ (h : b ≡ false) where
-      pub of_elements : x.kind ≡ array_kind
-          → over_elements (entry_pieces ts ms tb (levels - 1) x.second) (step_of tb x.second) base 0 x.third ≡ entry_pieces ts ms tb levels e base
-      unfolding spread
-      of_elements k = sym (one_down ∙ rw (means_repeated ms x b eb h k))
+    pub of_elements : (m n : ℕ) → f ≡ Elements m n → over_elements (entry_pieces ts ms tb (levels - 1) m) (step_of tb m) base 0 n ≡ entry_pieces ts ms tb levels e base
+    unfolding spread
+    of_elements m n h = sym (one_down ∙ rw h)
 
-      pub of_scalar : (x.kind ≡ array_kind → ⊥) → (p : Piece) → p ≡ piece x.kind x.second x.third base → p ∷ [] ≡ entry_pieces ts ms tb levels e base
-      unfolding spread
-      of_scalar k p ep = sym (one_down ∙ rw (means_one ms x b eb h k, ep))
+    pub of_scalar : (s : Scalar) → f ≡ One s → (p : Piece) → p ≡ piece s.kind s.size s.align base → p ∷ [] ≡ entry_pieces ts ms tb levels e base
+    unfolding spread
+    of_scalar s h p ep = sym (one_down ∙ rw (h, ep))

@@ -1,9 +1,13 @@
 -- What `flatten` answers and leaves in the lent buffer (REFERENCE 4.5).
-use Rattle.std.specs.Prelude.{ℕ, zero, suc, ◌*◌, ◌/◌, ◌≡◌, List, ltb, length, take, drop}
+use Rattle.std.specs.Prelude.{ℕ, zero, suc, Ok, Err, Result, ◌*◌, ◌/◌, ◌≡◌, List, ltb, length, take, drop}
 use Rattle.shape.specs.Numbers.{accepted, no_room, most_pieces}
+use Rattle.shape.specs.Arithmetic.{rounded}
+use Rattle.shape.specs.declared.refusals.Refusal.{Refusal}
+use Rattle.shape.specs.Refusals.{number_of}
 use Rattle.shape.specs.Words.{piece_size, pieces_of, put_at}
 use Rattle.checks.specs.Check.{refuse, or_else, unless_refused}
 use Rattle.layouts.specs.Members.{pieces_words}
+use Rattle.types.specs.declared.Row.{Row}
 use Rattle.types.specs.Tree.{Tree, size_of, align_of, leaves_of}
 use Rattle.types.specs.Trees.{wanted, types_refusal}
 use Rattle.flatten.specs.declared.Flattened.{Flattened}
@@ -11,6 +15,11 @@ use Rattle.flatten.specs.Leaves.{leaf_paths, leaf_pieces, EachLeaf}
 
 abbrev pub flattened : ℕ → ℕ → ℕ → ℕ → Flattened
 flattened r p s a = record { refusal = r; pieces = p; size = s; align = a }
+
+-- what the row of a type tells of it, or a refusal: zeros beside it
+abbrev pub row_told : Result Row Refusal → Flattened
+row_told (Ok row) = flattened accepted row.leaves (rounded row.reach row.align) row.align
+row_told (Err r) = flattened (number_of r) 0 0 0
 
 -- too many leaves, whatever the buffer, or more than it has room for
 unfoldable pub room_refusal : ℕ → List ℕ → ℕ

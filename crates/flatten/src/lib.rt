@@ -2,20 +2,18 @@
 // docs/REFERENCE.md, 4.5.
 #![tactic(auto)]
 
-ghost use Rattle.std.specs.Prelude.{◌≡◌, ◌≤◌, min, eqb, length};
-ghost use Rattle.shape.specs.Numbers.{accepted};
-ghost use Rattle.shape.specs.Arithmetic.{rounded};
+ghost use Rattle.std.specs.Prelude.{◌≡◌, ◌≤◌, min, length};
 ghost use Rattle.shape.specs.Words.{piece, piece_words, put_at};
-ghost use Rattle.types.specs.Entries.{union_kind, members_from};
-ghost use Rattle.flatten.specs.Flattened.{flattened, flatten_answer, flatten_written};
+ghost use Rattle.types.specs.Entries.{members_from};
+ghost use Rattle.flatten.specs.Flattened.{row_told, flatten_answer, flatten_written};
 ghost use Rattle.flatten.specs.Writing.{over_members, over_elements, step_of, entry_pieces, next_at, pour_at, pour_words};
 
-use shape::{ACCEPTED, NO_ROOM, PIECE, Piece, sum};
-use types::{Entry, Row};
+use shape::{PIECE, Piece, Refusal, Scalar, sum};
+use types::{Form, Lists, Row};
 
 // How many pieces were written, and the type's size and alignment; or the refusal.
 #[repr(C)]
-#[derive(Clone, Copy)]
+#[derive(Clone, Copy, Default)]
 pub struct Flattened {
     pub refusal: u64,
     pub pieces: u64,
@@ -27,181 +25,159 @@ pub struct Flattened {
 pub fn flatten(types: &[u64], members: &[u64], out: &mut [u64]) -> Flattened
     ensures { (result ≡ flatten_answer types.now members.now out.old) × (out.new ≡ flatten_written types.now members.now out.old) }
 {
+    let lists = Lists { types, members };
     if types.len() > types::SHORT_TABLE {
-        return flatten_many(types, members, out);
+        return told(flatten_within::<{ types::LONG_TABLE }>(lists, out));
     }
-    flatten_few(types, members, out)
+    told(flatten_within::<{ types::SHORT_TABLE }>(lists, out))
 }
 
-fn flatten_few(types: &[u64], members: &[u64], out: &mut [u64]) -> Flattened
-    requires { length types.now ≤ 128 }
-    ensures { (result ≡ flatten_answer types.now members.now out.old) × (out.new ≡ flatten_written types.now members.now out.old) }
+fn told(answer: Result<Row, Refusal>) -> Flattened
+    ensures { result ≡ row_told answer }
 {
-    let mut table = [0u64; types::SHORT_TABLE];
-    flatten_by(types, members, &mut table, out)
-}
-
-fn flatten_many(types: &[u64], members: &[u64], out: &mut [u64]) -> Flattened
-    ensures { (result ≡ flatten_answer types.now members.now out.old) × (out.new ≡ flatten_written types.now members.now out.old) }
-{
-    let mut table = [0u64; types::LONG_TABLE];
-    flatten_by(types, members, &mut table, out)
-}
-
-// The same, by a table that has room for as many entries as the list has, or may have.
-fn flatten_by(types: &[u64], members: &[u64], table: &mut [u64], out: &mut [u64]) -> Flattened
-    requires { min (length types.now) 4096 ≤ length table.old }
-    ensures { (result ≡ flatten_answer types.now members.now out.old) × (out.new ≡ flatten_written types.now members.now out.old) }
-{
-    let refusal = types::measure(types, members, table);
-    if refusal != ACCEPTED {
-        return refused(refusal);
+    match answer {
+        Ok(row) => Flattened {
+            refusal: shape::ACCEPTED,
+            pieces: row.leaves,
+            size: shape::round_up(row.reach, row.align),
+            align: row.align,
+        },
+        Err(refusal) => Flattened {
+            refusal: refusal.number(),
+            ..Flattened::default()
+        },
     }
-    let last = (types.len() / types::ENTRY - 1) as u64;
+}
+
+// The row of the type whose pieces are written, by a table of so many words: as many as the list has, or may have.
+fn flatten_within<const N: usize>(lists: Lists<'_>, out: &mut [u64]) -> Result<Row, Refusal>
+    requires { (min (length lists.types.now) 4096 ≤ N) × (N ≤ 4096) }
+    ensures { (row_told result ≡ flatten_answer lists.entry.types.now lists.entry.members.now out.old) × (out.new ≡ flatten_written lists.entry.types.now lists.entry.members.now out.old) }
+{
+    let mut table = [0u64; N];
+    flatten_by(lists, &mut table, out)
+}
+
+fn flatten_by(lists: Lists<'_>, table: &mut [u64], out: &mut [u64]) -> Result<Row, Refusal>
+    requires { min (length lists.types.now) 4096 ≤ length table.old }
+    ensures { (row_told result ≡ flatten_answer lists.entry.types.now lists.entry.members.now out.old) × (out.new ≡ flatten_written lists.entry.types.now lists.entry.members.now out.old) }
+{
+    lists.measure(table)?;
+    let last = (lists.entries() - 1) as u64;
     let row = types::row_at(table, last);
     if row.leaves > checks::MOST_PIECES as u64 {
-        return refused(NO_ROOM);
+        return Err(Refusal::NoRoom);
     }
     if row.leaves > (out.len() / PIECE) as u64 {
-        return refused(NO_ROOM);
+        return Err(Refusal::NoRoom);
     }
     if row.leaves == 0 {
-        return made(row);
+        return Ok(row);
     }
-    write_type(types, members, table, out, last, 0, 0, types::MOST_LEVELS);
-    made(row)
+    let measured = Measured { lists, table };
+    measured.write_type(out, last, 0, 0, types::MOST_LEVELS);
+    Ok(row)
 }
 
-fn made(row: Row) -> Flattened
-    ensures { result ≡ flattened accepted row.leaves (rounded row.reach row.align) row.align }
-{
-    Flattened {
-        refusal: ACCEPTED,
-        pieces: row.leaves,
-        size: shape::round_up(row.reach, row.align),
-        align: row.align,
-    }
+// Lists and the rows of their entries.
+// kept: the buffer and the place in it stay two parameters of each function: a struct with the buffer lent in it would have the place handed back
+// through it, and each contract would name both as it does now.
+#[derive(Clone, Copy)]
+struct Measured<'a> {
+    lists: Lists<'a>,
+    table: &'a [u64],
 }
 
-fn refused(refusal: u64) -> Flattened
-    ensures { result ≡ flattened refusal 0 0 0 }
-{
-    Flattened {
-        refusal,
-        pieces: 0,
-        size: 0,
-        align: 0,
-    }
-}
-
-// Writes the pieces of an entry's type, down to so many levels: the place behind them. It is called only for a type that has a leaf: an empty
-// record under fifteen arrays of 1,024 would have it go on for years, and write nothing.
-#[cycle(write_elements_write_members_write_type)]
-fn write_type(
-    types: &[u64],
-    members: &[u64],
-    table: &[u64],
-    out: &mut [u64],
-    e: u64,
-    base: u64,
-    at: usize,
-    levels: u64,
-) -> usize
-    ensures { (result ≡ pour_at (entry_pieces types.now members.now table.now levels e base) out.old at) × (out.new ≡ pour_words (entry_pieces types.now members.now table.now levels e base) out.old at) }
-{
-    if levels == 0 {
-        return at;
-    }
-    let x = types::entry_at(types, e);
-    if types::has_members(x.kind) {
-        return write_members(types, members, table, out, x, base, at, levels - 1);
-    }
-    if x.kind == types::ARRAY {
-        return write_elements(types, members, table, out, x, base, at, levels - 1);
-    }
-    put(out, at, scalar_piece(x, base))
-}
-
-// The members of a record or a union, from the first.
-#[cycle(write_elements_write_members_write_type)]
-fn write_members(
-    types: &[u64],
-    members: &[u64],
-    table: &[u64],
-    out: &mut [u64],
-    x: Entry,
-    base: u64,
-    at: usize,
-    levels: u64,
-) -> usize
-    ensures { (result ≡ pour_at (over_members (entry_pieces types.now members.now table.now levels) table.now (eqb x.kind union_kind) base 0 (members_from members.now x.second x.third)) out.old at) × (out.new ≡ pour_words (over_members (entry_pieces types.now members.now table.now levels) table.now (eqb x.kind union_kind) base 0 (members_from members.now x.second x.third)) out.old at) }
-{
-    let overlaid = x.kind == types::UNION;
-    let mut to = at;
-    let mut end = 0;
-    let mut i = 0;
-    while i < x.third {
-        let m = types::member_at(members, x.second, i);
-        let row = types::row_at(table, m);
-        let offset = types::place(overlaid, end, row.align);
-        let start = sum(base, offset);
-        if row.leaves > 0 {
-            to = write_type(types, members, table, out, m, start, to, levels);
+impl<'a> Measured<'a> {
+    // Writes the pieces of an entry's type, down to so many levels: the place behind them. It is called only for a type that has a leaf: an empty
+    // record under fifteen arrays of 1,024 would have it go on for years, and write nothing.
+    #[cycle(writing)]
+    fn write_type(&self, out: &mut [u64], e: u64, base: u64, at: usize, levels: u64) -> usize
+        ensures { (result ≡ pour_at (entry_pieces self.now.lists.types.now self.now.lists.members.now self.now.table.now levels e base) out.old at) × (out.new ≡ pour_words (entry_pieces self.now.lists.types.now self.now.lists.members.now self.now.table.now levels e base) out.old at) }
+    {
+        if levels == 0 {
+            return at;
         }
-        end = sum(offset, row.takes);
-        i += 1;
+        match self.lists.form(e) {
+            Form::One(s) => put(out, at, piece_of(s, base)),
+            Form::Members {
+                overlaid,
+                first,
+                count,
+            } => self.write_members(out, overlaid, first, count, base, at, levels - 1),
+            Form::Elements { element, count } => {
+                self.write_elements(out, element, count, base, at, levels - 1)
+            }
+        }
     }
-    to
+
+    // The members of a record or a union, from the first.
+    #[cycle(writing)]
+    fn write_members(
+        &self,
+        out: &mut [u64],
+        overlaid: bool,
+        first: u64,
+        count: u64,
+        base: u64,
+        at: usize,
+        levels: u64,
+    ) -> usize
+        ensures { (result ≡ pour_at (over_members (entry_pieces self.now.lists.types.now self.now.lists.members.now self.now.table.now levels) self.now.table.now overlaid base 0 (members_from self.now.lists.members.now first count)) out.old at) × (out.new ≡ pour_words (over_members (entry_pieces self.now.lists.types.now self.now.lists.members.now self.now.table.now levels) self.now.table.now overlaid base 0 (members_from self.now.lists.members.now first count)) out.old at) }
+    {
+        let mut to = at;
+        let mut end = 0;
+        for i in 0..count {
+            let m = self.lists.member(first, i);
+            let row = types::row_at(self.table, m);
+            let offset = types::place(overlaid, end, row.align);
+            let start = sum(base, offset);
+            if row.leaves > 0 {
+                to = self.write_type(out, m, start, to, levels);
+            }
+            end = sum(offset, row.takes);
+        }
+        to
+    }
+
+    // The elements of an array, a rounded size apart.
+    #[cycle(writing)]
+    fn write_elements(
+        &self,
+        out: &mut [u64],
+        element: u64,
+        count: u64,
+        base: u64,
+        at: usize,
+        levels: u64,
+    ) -> usize
+        ensures { (result ≡ pour_at (over_elements (entry_pieces self.now.lists.types.now self.now.lists.members.now self.now.table.now levels element) (step_of self.now.table.now element) base 0 count) out.old at) × (out.new ≡ pour_words (over_elements (entry_pieces self.now.lists.types.now self.now.lists.members.now self.now.table.now levels element) (step_of self.now.table.now element) base 0 count) out.old at) }
+    {
+        let row = types::row_at(self.table, element);
+        let step = shape::round_up(row.reach, row.align);
+        let mut to = at;
+        let mut end = 0;
+        for _ in 0..count {
+            to = self.write_type(out, element, sum(base, end), to, levels);
+            end = sum(end, step);
+        }
+        to
+    }
 }
 
-// The elements of an array, a rounded size apart.
-#[cycle(write_elements_write_members_write_type)]
-fn write_elements(
-    types: &[u64],
-    members: &[u64],
-    table: &[u64],
-    out: &mut [u64],
-    x: Entry,
-    base: u64,
-    at: usize,
-    levels: u64,
-) -> usize
-    ensures { (result ≡ pour_at (over_elements (entry_pieces types.now members.now table.now levels x.second) (step_of table.now x.second) base 0 x.third) out.old at) × (out.new ≡ pour_words (over_elements (entry_pieces types.now members.now table.now levels x.second) (step_of table.now x.second) base 0 x.third) out.old at) }
-{
-    let row = types::row_at(table, x.second);
-    let step = shape::round_up(row.reach, row.align);
-    let mut to = at;
-    let mut end = 0;
-    let mut i = 0;
-    while i < x.third {
-        to = write_type(
-            types,
-            members,
-            table,
-            out,
-            x.second,
-            sum(base, end),
-            to,
-            levels,
-        );
-        end = sum(end, step);
-        i += 1;
-    }
-    to
-}
-
-fn scalar_piece(x: Entry, offset: u64) -> Piece
-    ensures { result ≡ piece x.kind x.second x.third offset }
+fn piece_of(s: Scalar, offset: u64) -> Piece
+    ensures { result ≡ piece s.kind s.size s.align offset }
 {
     Piece {
-        kind: x.kind,
-        size: x.second,
-        align: x.third,
+        kind: s.kind,
+        size: s.size,
+        align: s.align,
         offset,
     }
 }
 
 // Writes a piece where it fits: the place behind it, or the same one.
+#[tactic(auto, using(crate::proofs::Pour::next_fits, crate::proofs::Pour::next_short, crate::proofs::Pour::next_within))]
 fn put(out: &mut [u64], at: usize, piece: Piece) -> usize
     ensures { (result ≡ next_at out.old at) × (out.new ≡ put_at out.old at (piece_words piece)) }
 {

@@ -1,26 +1,28 @@
 -- `flatten_by` answers and writes what its definitions say: each way out is one law of the tests that led there.
-use Rattle.flatten.proofs.Answering.{types_refused, types_left, some_entry, many_refused, many_left, short_refused, short_left, made_answered, none_written, all_written}
+use Rattle.std.proofs.lemmas.Result.{err_from_is_err_and}
+use Rattle.flatten.proofs.Answering.{types_refused, some_entry, many_refused, short_refused, none_written, all_written}
 use Rattle.flatten.proofs.flatten_by.Goals as goal
 
--- more is known here than `search` looks at
-pub returns : goal.returns
-returns c =
-    let pre = c.requires in (
-      made_answered _ _ _ _ pre _ c.measure-refusal.ensures.0 c.if-refusal-ne-ACCEPTED.false _ c.measure-refusal.ensures.1 _ c.row_at-row.ensures c.if-row.false c.if-row-out.false _ c.made-2.ensures,
-      all_written _ _ _ _ pre _ c.measure-refusal.ensures.0 c.if-refusal-ne-ACCEPTED.false _ c.measure-refusal.ensures.1 _ c.row_at-row.ensures c.if-row.false c.if-row-out.false _ c.write_type.ensures.1,
-    )
-
-pub returns-then-refusal-ne-ACCEPTED : goal.returns-then-refusal-ne-ACCEPTED
-returns-then-refusal-ne-ACCEPTED c = (search (types_refused), search (types_left))
+pub returns-in_err-measure : goal.returns-in_err-measure
+returns-in_err-measure c =
+    let p = err_from_is_err_and c.from_residual.result c.from_residual.ensures.1 in
+    rw (p.1, p.2) (types_refused _ _ _ _ c.requires _ c.in_err-measure.ensures.0)
 
 pub overflow_sub-last : goal.overflow_sub-last
-overflow_sub-last c = search (some_entry)
+overflow_sub-last c = rw c.entries.ensures (some_entry _ _ c.args.out.now _ c.requires c.in_ok-measure.ensures.0)
 
 pub returns-then-row : goal.returns-then-row
-returns-then-row c = (search (many_refused), search (many_left))
+returns-then-row c = many_refused _ _ _ _ c.requires c.in_ok-measure.ensures.0 _ c.in_ok-measure.ensures.1 _ (rw c.entries.ensures at c.row_at-row.ensures) c.if-row.true
 
 pub returns-then-row-out : goal.returns-then-row-out
-returns-then-row-out c = (search (short_refused), search (short_left))
+returns-then-row-out c =
+    short_refused _ _ _ _ c.requires c.in_ok-measure.ensures.0 _ c.in_ok-measure.ensures.1 _ (rw c.entries.ensures at c.row_at-row.ensures) c.if-row.false c.if-row-out.true
 
 pub returns-then-row-eq0 : goal.returns-then-row-eq0
-returns-then-row-eq0 c = (search (made_answered), search (none_written))
+returns-then-row-eq0 c =
+    none_written _ _ _ _ c.requires c.in_ok-measure.ensures.0 _ c.in_ok-measure.ensures.1 _ (rw c.entries.ensures at c.row_at-row.ensures) c.if-row.false c.if-row-out.false c.if-row-eq0.true
+
+pub returns : goal.returns
+returns c =
+    all_written _ _ _ _ c.requires c.in_ok-measure.ensures.0 _ c.in_ok-measure.ensures.1 _ (rw c.entries.ensures at c.row_at-row.ensures) c.if-row.false c.if-row-out.false _
+    (rw c.entries.ensures at c.write_type.ensures.1)
