@@ -20,7 +20,7 @@ use Rattle.shape.specs.Numbers.{one_if}
 use Rattle.slots.specs.Search.{floats_in, counted, found_of}
 use Rattle.eightbytes.specs.Class.{Class, None, Integer, Sse, SseUp, X87, Memory, code, same, mended}
 use Rattle.eightbytes.specs.Eightbytes.{spoiled, mend, settled, own_slot, class_slot, up_first, slots_from, slots_found, eight_of, slot_count}
-use Rattle.eightbytes.specs.contracts.classes.Class.{the_type}
+use Rattle.eightbytes.specs.contracts.Class.{the_type}
 use Rattle.eightbytes.proofs.OneClass.{same_is, mended_spoils}
 use Rattle.eightbytes.proofs.Rest.{rest_step, rest_set, rest_end}
 

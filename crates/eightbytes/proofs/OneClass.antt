@@ -4,7 +4,7 @@ use mathlib.Core.Bool.{Bool, true, false, cond, not, ◌||◌, false≢true}
 use denote.Enum.Bare.{sameb, same_true}
 use denote.Enum.Declared.{tag_of}
 use lib.Dec.{eqb}
-use Rattle.eightbytes.specs.contracts.classes.Class.{the_type}
+use Rattle.eightbytes.specs.contracts.Class.{the_type}
 use Rattle.eightbytes.specs.Class.{Class, None, Integer, Sse, SseUp, X87, Memory, code, same, later, mended, is_plain}
 
 -- the equality that the code derives

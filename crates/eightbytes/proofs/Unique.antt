@@ -4,10 +4,10 @@ use contract.Lifetimes.{Lfts}
 use Rattle.shape.proofs.OneAnswer.{OneAnswer}
 use Rattle.eightbytes.specs.declared.Classified.{Classified}
 use Rattle.eightbytes.proofs.eightbytes.Reads as eightbytes
-use Rattle.eightbytes.proofs.classes.fits.Reads as fits
-use Rattle.eightbytes.proofs.classes.Class.of.Reads as class_of
-use Rattle.eightbytes.proofs.classes.Class.later.Reads as later
-use Rattle.eightbytes.proofs.classes.Class.mended.Reads as mended
+use Rattle.eightbytes.proofs.pieces.fits.Reads as fits
+use Rattle.eightbytes.proofs.Class.of.Reads as class_of
+use Rattle.eightbytes.proofs.Class.later.Reads as later
+use Rattle.eightbytes.proofs.Class.mended.Reads as mended
 
 -- an answer is its two parts
 both : (r q : Classified) → r.found ≡ q.found → r.classes ≡ q.classes → r ≡ q

@@ -3,8 +3,8 @@
 -- the x87's stack has a test of its own (find/specs/Find.antt), so that they would change nothing.
 use Rattle.std.specs.Prelude.{Bool, cond, ◌||◌, not, ◌&&◌, ℕ, eqb, ltb}
 use Rattle.shape.specs.Numbers.{integer, x87_extended}
-pub use Rattle.eightbytes.specs.declared.classes.Class.{Class}
-pub use Rattle.eightbytes.specs.declared.classes.Class.TheVariants.{None, Integer, Sse, SseUp, X87, Memory}
+pub use Rattle.eightbytes.specs.declared.Class.{Class}
+pub use Rattle.eightbytes.specs.declared.Class.TheVariants.{None, Integer, Sse, SseUp, X87, Memory}
 
 unfoldable pub code : Class → ℕ
 code None = 0

@@ -1,20 +1,20 @@
 // The eightbytes of a shape, as the System V convention classifies them: each piece gives its class to the eightbytes that it reaches into,
-// and the classes decide the slots, which the crate slot_writing writes. What concerns one piece or one class stands in `classes`. The rules
-// are those of docs/REFERENCE.md, 8.
+// and the classes decide the slots, which the crate slot_writing writes. Whether a piece fits stands in `pieces`. The rules are those
+// of docs/REFERENCE.md, 8.
 #![tactic(auto)]
 
-mod classes;
+mod pieces;
 
-ghost use Rattle.std.specs.Prelude.{◌≡◌, ℕ, ◌-◌, ◌<◌, ◌≤◌, take, drop, replicate};
+ghost use Rattle.std.specs.Prelude.{◌≡◌, ℕ, ◌-◌, ◌<◌, ◌≤◌, ◌||◌, take, drop, replicate};
 ghost use Rattle.std.proofs.Math.Option.Option.{none};
 ghost use Rattle.shape.specs.Words.{pieces_of};
 ghost use Rattle.slots.specs.Search.{found_of};
-ghost use Rattle.eightbytes.specs.Class.{merge as merge·};
+ghost use Rattle.eightbytes.specs.Class.{X87, Memory, same, kind_class, later as later·, mended as mended·, is_plain as is_plain·, merge as merge·};
 ghost use Rattle.eightbytes.specs.Eightbytes.{eightbytes_in, mark as mark·, settled, slots_found, eight_of, classes_of};
 ghost use Rattle.eightbytes.specs.Reach.{last_of};
 ghost use Rattle.eightbytes.specs.Eightbytes.{eightbytes as eightbytes·};
 
-pub use classes::{Class, EIGHTBYTE, fits};
+pub use pieces::{EIGHTBYTE, fits};
 use shape::{Piece, Shape};
 use slots::Found;
 
@@ -23,6 +23,70 @@ pub const PAIR: u64 = 16;
 
 // A limit above eight eightbytes counts as eight: so many classes there are, and no description's limit is above two.
 const MOST_LIMIT: u64 = 64;
+
+// The class of an eightbyte. None is that of one into which no piece reaches.
+#[derive(Clone, Copy, PartialEq, Eq)]
+pub enum Class {
+    None,
+    Integer,
+    Sse,
+    SseUp,
+    X87,
+    Memory,
+}
+
+impl Class {
+    // x87 values are told apart from other floats, since no argument register takes them.
+    pub fn of(kind: u64) -> Class
+        ensures { result ≡ kind_class kind }
+    {
+        match kind {
+            shape::INTEGER => Class::Integer,
+            shape::X87_EXTENDED => Class::X87,
+            _ => Class::Sse,
+        }
+    }
+
+    // The class of a piece's next eightbyte: a float wider than one is one value in one register, where an integer of 16 has two.
+    #[tactic(auto, unfolding(crate::specs::Class::code, crate::specs::Class::same))]
+    pub fn later(self) -> Class
+        ensures { result ≡ later· self }
+    {
+        match self {
+            Class::Sse => Class::SseUp,
+            class => class,
+        }
+    }
+
+    // The rule after the merge: the upper half of a value whose lower half is something else stands on its own, as in a union of a Quad and
+    // an integer of 8.
+    #[tactic(auto, unfolding(crate::specs::Class::code, crate::specs::Class::same))]
+    pub fn mended(self, below: Class) -> Class
+        ensures { result ≡ mended· below self }
+    {
+        match (self, below) {
+            (Class::SseUp, Class::Sse | Class::SseUp) => self,
+            (Class::SseUp, _) => Class::Sse,
+            _ => self,
+        }
+    }
+
+    // Whether it comes before SseUp: the rule after the merge leaves it as it is, and it has a slot of its own.
+    #[tactic(auto, unfolding(crate::specs::Class::code, crate::specs::Class::same))]
+    fn is_plain(self) -> bool
+        ensures { result ≡ is_plain· self }
+    {
+        matches!(self, Class::None | Class::Integer | Class::Sse)
+    }
+
+    // Whether such an eightbyte takes all others along to memory.
+    #[tactic(auto, unfolding(crate::specs::Class::code, crate::specs::Class::same))]
+    fn spoils(self) -> bool
+        ensures { result ≡ (same self X87 || same self Memory) }
+    {
+        matches!(self, Class::X87 | Class::Memory)
+    }
+}
 
 // What the search comes back with, and beside it the class of each eightbyte of the shape: `slot_writing::put_eightbytes` writes the slots
 // from these.
