@@ -1,24 +1,24 @@
 -- The laws of `homogeneous`, each with what the code looked at as premises: what fails decides, and where nothing fails the slots are found; and
 -- what float slots of one format are.
+use Rattle.std.specs.Prelude.{Some, None}
+use Rattle.std.specs.Bool.{then_some}
 use Prim.Native.Nat.{ℕ, suc, ◌*◌, ◌/◌, ◌≤◌, ◌<◌}
-use mathlib.Core.Path.{◌≡◌, refl, ap, sym, subst}
+use mathlib.Core.Path.{◌≡◌, refl, ap, sym, ◌∙◌}
 use mathlib.Core.List.{List, [], ◌∷◌}
-use mathlib.Core.Bool.{Bool, true, false, not, ◌&&◌}
+use mathlib.Core.Bool.{Bool, true, false, ◌&&◌, false≢true}
 use native.Mathlib.Omega.{arith}
-use native.Mathlib.Nat.{mul-div_cancel, div-mul-le_self}
-use borrow.Author.Tests.{le-leb, eq-eqb, ne_eqb, leb-true, not-true, not-false}
+use borrow.Author.Tests.{le-leb, eq-eqb, ne_eqb, leb-true}
 use lib.Dec.{leb, eqb}
-use lib.ListN.{length, drop}
+use lib.ListN.{length}
 use Rattle.shape.proofs.Bools.{both_true, second_fails}
 use Rattle.shape.specs.declared.Piece.{Piece}
 use Rattle.shape.specs.declared.Shape.{Shape}
 use Rattle.shape.specs.Numbers.{integer}
-use Rattle.shape.specs.Words.{pieces_of, piece_at}
+use Rattle.shape.specs.Words.{pieces_of}
 use Rattle.shape.specs.Questions.{is_float}
-use Rattle.shape.proofs.Words.{pieces_step, pieces_end, length_pieces, ByFirst}
+use Rattle.shape.proofs.Words.{length_pieces}
 use Rattle.slots.specs.declared.Slot.{Slot}
-use Rattle.slots.specs.declared.Found.TheVariants.{Slots, Nothing}
-use Rattle.slots.specs.Search.{floats_in, found_of}
+use Rattle.slots.specs.Search.{counted, floats_in, found_of}
 use Rattle.find.specs.Find.{found_if, floats_at, same_scalar, all_same, is_homogeneous, homogeneous}
 
 -- a kind that isn't the integer's is a float's, and the other way round
@@ -40,26 +40,20 @@ unfolding floats_at floats_in
 floats_at_lem format [] f = refl
 floats_at_lem format (p ∷ ps) f = let h : floats_in (floats_at format ps) ≡ length ps = floats_at_lem format ps f in rw (f, h) (omega arith)
 
+-- what the code makes of a test that holds where these slots are found, by their counts
+pub then_found : (b : Bool) (ss : List Slot) (n k : ℕ) → (b ≡ true → length ss ≡ n) → (b ≡ true → floats_in ss ≡ k)
+    → then_some b (counted n k) ≡ found_of (found_if b ss)
+unfolding found_if found_of
+then_found true ss n k l f = rw (l refl, f refl)
+then_found false ss n k l f = refl
+
 -- a test that fails finds nothing
-none_found : (b : Bool) (ss : List Slot) → (b ≡ true → ⊥) → Nothing ≡ found_of (found_if b ss)
+none_found : (b : Bool) (ss : List Slot) → (b ≡ true → ⊥) → None ≡ found_of (found_if b ss)
 unfolding found_if found_of
 none_found true ss h = absurd (h refl)
 none_found false ss h = refl
 
 -- ---- the test
-
--- whether so many of a size fill a shape, as `fills` computes it
-module _ (size count whole : ℕ) (n : 0 < count) where
-  pub fills_not : (size ≡ whole / count → ⊥) → false ≡ eqb (size * count) whole
-  fills_not h = sym (ne_eqb _ _ (λ e. h (sym (subst (λ (w : ℕ). w / count ≡ size) e (mul-div_cancel size {n = count} n)))))
-
-  pub fills_small : size ≡ whole / count → size * count ≤ whole
-  fills_small e = rw e (div-mul-le_self whole count)
-
--- all the same scalar, by the first piece and the rest
-pub same_by_first : (first : Piece) → ByFirst (all_same first) (λ p. same_scalar first p) ◌&&◌ true
-unfolding all_same
-same_by_first first = record { none = refl; more = λ p ps. refl }
 
 -- what a homogeneous shape has
 pub record Fields (limit : ℕ) (shape : Shape) (first : Piece) (ps : List Piece) : Type 0 where
@@ -80,46 +74,50 @@ same_self : (p : Piece) → same_scalar p p ≡ true
 same_self p = rw (eq-eqb p.kind p.kind refl, eq-eqb p.size p.size refl, eq-eqb p.align p.align refl)
 
 module _ (limit : ℕ) (shape : Shape) (ws : List ℕ) where
-  pub homogeneous_none : length ws / 4 ≡ 0 → Nothing ≡ found_of (homogeneous limit shape (pieces_of ws))
+  pub homogeneous_none : pieces_of ws ≡ [] → None ≡ found_of (homogeneous limit shape (pieces_of ws))
   unfolding homogeneous found_of
-  homogeneous_none h = rw (pieces_end ws 0 (omega arith))
+  homogeneous_none h = rw h
 
-  module _ (n : length ws / 4 ≡ 0 → ⊥) where
-    start : (p : Piece) → p ≡ piece_at ws 0
-        → homogeneous limit shape (pieces_of ws) ≡ found_if (is_homogeneous limit shape p (pieces_of ws)) (floats_at p.kind (pieces_of ws))
+  pub homogeneous_many : limit < length ws / 4 → None ≡ found_of (homogeneous limit shape (pieces_of ws))
+  unfolding homogeneous found_of
+  homogeneous_many l = go (pieces_of ws) (length_pieces ws)
+    where
+      go : (ps : List Piece) → length ps ≡ length ws / 4 → None ≡ found_of (homogeneous limit shape ps)
+      go [] n = refl
+      go (p ∷ ps) n = none_found _ _ (λ t. let f = (fields limit shape p (p ∷ ps) t).few in omega arith)
+
+  module _ (l : length ws / 4 ≤ limit) (p : Piece) (rest : List Piece) (e : pieces_of ws ≡ p ∷ rest) where
+    start : homogeneous limit shape (pieces_of ws) ≡ found_if (is_homogeneous limit shape p (pieces_of ws)) (floats_at p.kind (pieces_of ws))
     unfolding homogeneous
-    start p ep =
-        let e : pieces_of ws ≡ p ∷ pieces_of (drop 4 ws) = rw ep (pieces_step ws 0 (omega arith)) in
-        rw e
+    start = rw e
 
-    pub homogeneous_many : limit < length ws / 4 → Nothing ≡ found_of (homogeneous limit shape (pieces_of ws))
-    homogeneous_many l =
-        rw (start (piece_at ws 0) refl)
-        (none_found _ _ (λ t. omega (arith, (fields limit shape (piece_at ws 0) (pieces_of ws) t).few, length_pieces ws)))
+    module _ (k : Bool) (ek : k ≡ is_float p.kind) where
+      pub homogeneous_integer : k ≡ false → None ≡ found_of (homogeneous limit shape (pieces_of ws))
+      homogeneous_integer n = rw start (none_found _ _ (λ t. false≢true (sym n ∙ ek ∙ (fields limit shape p (pieces_of ws) t).float)))
 
-    module _ (l : length ws / 4 ≤ limit) (p : Piece) (ep : p ≡ piece_at ws 0) where
-      pub homogeneous_integer : p.kind ≡ integer → Nothing ≡ found_of (homogeneous limit shape (pieces_of ws))
-      homogeneous_integer k =
-          rw (start p ep) (none_found _ _ (λ t. kind_float p.kind (fields limit shape p (pieces_of ws) t).float k))
-
-      module _ (k : p.kind ≡ integer → ⊥) (f : Bool) (ef : f ≡ eqb (p.size * (length ws / 4)) shape.size) where
+      module _ (n : k ≡ true) (f : Bool) (ef : f ≡ eqb (p.size * (length ws / 4)) shape.size) where
         -- the test, once the format and the count have passed
-        opened : homogeneous limit shape (pieces_of ws) ≡ found_if (all_same p (pieces_of (drop 4 ws)) && f) (floats_at p.kind (pieces_of ws))
+        opened : homogeneous limit shape (pieces_of ws) ≡ found_if (all_same p rest && f) (floats_at p.kind (pieces_of ws))
         unfolding is_homogeneous all_same
         opened =
-            let s : all_same p (pieces_of ws) ≡ all_same p (pieces_of (drop 4 ws)) = rw (pieces_step ws 0 (omega arith), ← ep, same_self p) in
-            rw (start p ep, float_kind p.kind k, length_pieces, le-leb _ _ l, s, ef)
+            let s : all_same p (pieces_of ws) ≡ all_same p rest = rw (e, same_self p) in
+            rw (start, ← ek, n, length_pieces, le-leb _ _ l, s, ef)
 
-        pub homogeneous_size : not f ≡ true → Nothing ≡ found_of (homogeneous limit shape (pieces_of ws))
+        pub homogeneous_size : f ≡ false → None ≡ found_of (homogeneous limit shape (pieces_of ws))
         unfolding found_if found_of
-        homogeneous_size h = rw (opened, second_fails (all_same p (pieces_of (drop 4 ws))) f (not-true f h))
+        homogeneous_size h = rw (opened, second_fails (all_same p rest) f h)
 
-        module _ (h : not f ≡ false) (b : Bool) (eb : b ≡ all_same p (pieces_of (drop 4 ws))) where
-          pub homogeneous_mixed : not b ≡ true → Nothing ≡ found_of (homogeneous limit shape (pieces_of ws))
-          unfolding found_if found_of
-          homogeneous_mixed g = rw (opened, ← eb, not-true b g)
+        module _ (h : f ≡ true) (left : List Piece) (inv : all_same p rest ≡ all_same p left) where
+          pub homogeneous_mixed : (q : Piece) (qs : List Piece) → left ≡ q ∷ qs → same_scalar p q ≡ false → None ≡ found_of (homogeneous limit shape (pieces_of ws))
+          unfolding found_if found_of all_same
+          homogeneous_mixed q qs eq g = rw (opened, inv, eq, g)
 
-          pub homogeneous_found : not b ≡ false → Slots (length ws / 4) (length ws / 4) ≡ found_of (homogeneous limit shape (pieces_of ws))
-          unfolding found_if found_of
-          homogeneous_found g =
-              rw (opened, ← eb, not-false b g, not-false f h, floats_at_lem p.kind (pieces_of ws) (float_kind p.kind k), length_at, length_pieces)
+          pub homogeneous_found : left ≡ [] → Some (counted (length ws / 4) (length ws / 4)) ≡ found_of (homogeneous limit shape (pieces_of ws))
+          unfolding found_if found_of all_same
+          homogeneous_found g = rw (opened, inv, g, h, floats_at_lem p.kind (pieces_of ws) (sym ek ∙ n), length_at, length_pieces)
+
+-- a turn of the loop
+pub same_turn : (p : Piece) (total : Bool) (left : List Piece) (q : Piece) (qs : List Piece) → total ≡ all_same p left → left ≡ q ∷ qs
+    → same_scalar p q ≡ true → total ≡ all_same p qs
+unfolding all_same
+same_turn p total left q qs inv e g = rw (inv, e, g)

@@ -1,13 +1,16 @@
 -- What a rule's test finds in a shape (REFERENCE 7), where the slots stand that it found, and the classes of eightbytes beside them.
-use Rattle.std.specs.Prelude.{ℕ, List, [], Bool, cond, ◌&&◌, ◌||◌, replicate, leb, ltb, eqb}
+use Rattle.std.specs.Prelude.{ℕ, List, [], Bool, ◌&&◌, ◌||◌, replicate, leb, ltb, eqb, Option}
+use Rattle.std.specs.Bool.{then_some}
 use Rattle.shape.specs.declared.Piece.{Piece}
 use Rattle.shape.specs.declared.Shape.{Shape}
 use Rattle.slots.specs.declared.Found.{Found}
-use Rattle.slots.specs.declared.Found as founds
-use Rattle.slots.specs.Search.{found_of, Search, found}
+use Rattle.slots.specs.Search.{counted, found_of, Search, found}
 use Rattle.describe.specs.declared.Banks.{Banks}
 use Rattle.describe.specs.declared.Test.{Test}
 use Rattle.describe.specs.declared.Test.TheVariants.{Anything, Empty, SizeOneOf, SizeAtMost, Homogeneous, FloatPair, X87Stack, LoneFloat, FloatingMode, ComplexFloat, Eightbytes}
+use Rattle.eightbytes.specs.Class.{same}
+use Rattle.eightbytes.specs.declared.Class.{Class}
+use Rattle.eightbytes.specs.declared.Class.TheVariants.{None}
 use Rattle.eightbytes.specs.Eightbytes as eight
 use Rattle.slots.specs.declared.Source as sources
 use Rattle.find.specs.declared.Matched.{Matched}
@@ -49,11 +52,11 @@ source_of (Eightbytes limit) size = sources.TheVariants.Classes size
 
 -- ---- what the code answers: what a test finds, and beside it where that stands
 
-abbrev pub no_classes : List ℕ
-no_classes = replicate 8 0
+abbrev pub no_classes : List Class
+no_classes = replicate 8 None
 
 -- the classes that stand beside what a test finds
-abbrev pub classes_by : Test → Shape → List Piece → List ℕ
+abbrev pub classes_by : Test → Shape → List Piece → List Class
 classes_by Anything shape ps = no_classes
 classes_by Empty shape ps = no_classes
 classes_by (SizeOneOf k a b c d) shape ps = no_classes
@@ -66,20 +69,11 @@ classes_by FloatingMode shape ps = no_classes
 classes_by ComplexFloat shape ps = no_classes
 classes_by (Eightbytes limit) shape ps = eight.classes_of limit shape ps
 
-abbrev pub matched : Found → sources.Source → List ℕ → Matched
+abbrev pub matched : Option Found → sources.Source → List Class → Matched
 matched counts source classes = record { found = counts; source = source; classes = classes }
 
 unfoldable pub matched_by : Banks → Test → Shape → List Piece → Matched
 matched_by B test shape ps = matched (found_of (matches B test shape ps)) (source_of test shape.size) (classes_by test shape ps)
 
-abbrev pub found_where : Bool → Found
-found_where holds = cond holds (founds.TheVariants.Slots 0 0) founds.TheVariants.Nothing
-
-abbrev pub no_source : sources.Source
-no_source = sources.TheVariants.Empty
-
-abbrev pub piece_source : sources.Source
-piece_source = sources.TheVariants.EachPiece
-
-abbrev pub class_source : ℕ → sources.Source
-class_source size = sources.TheVariants.Classes size
+abbrev pub found_where : Bool → Option Found
+found_where holds = then_some holds (counted 0 0)

@@ -8,10 +8,12 @@ mod inside;
 
 ghost use Rattle.std.specs.Prelude.{◌≡◌};
 ghost use Rattle.shape.specs.Words.{pieces_of};
-ghost use Rattle.find.specs.Matches.{is_one_of, matched, matched_by, found_where, no_source, piece_source, class_source, no_classes};
+ghost use Rattle.find.specs.Matches.{is_one_of, matched, matched_by, found_where, no_classes};
 
 pub use alike::homogeneous;
 use describe::{Banks, Test};
+use eightbytes::{Class, Classified};
+use inside::NO_SLOTS;
 pub use inside::{complex_float, float_pair, floating_mode, lone_float, x87_stack};
 use shape::Shape;
 use slots::{Found, Source};
@@ -19,9 +21,9 @@ use slots::{Found, Source};
 // What a test finds, with the slots beside it: where they stand, and the classes of eightbytes.
 #[derive(Clone, Copy)]
 pub struct Matched {
-    pub found: Found,
+    pub found: Option<Found>,
     pub source: Source,
-    pub classes: [u8; 8],
+    pub classes: [Class; 8],
 }
 
 // Whether a test matches, and the slots that it finds if it looks inside. Nothing is written to a lent buffer here.
@@ -29,20 +31,27 @@ pub fn matches(banks: Banks, test: Test, shape: Shape, words: &[u64]) -> Matched
     ensures { result ≡ matched_by banks test shape (pieces_of words.now) }
 {
     match test {
-        Test::Anything => without_slots(true),
-        Test::Empty => without_slots(shape.size == 0),
-        Test::SizeOneOf(n, a, b, c, d) => without_slots(is_one_of(shape.size, n, a, b, c, d)),
-        Test::SizeAtMost(limit) => without_slots(shape.size <= limit),
-        Test::Homogeneous(limit) => each_piece(homogeneous(shape, words, limit)),
-        Test::FloatPair => each_piece(float_pair(words, banks.integer_width, banks.float_width)),
-        Test::X87Stack => each_piece(x87_stack(shape, words)),
-        Test::LoneFloat => each_piece(lone_float(words)),
-        Test::FloatingMode => no_slots(floating_mode(shape)),
-        Test::ComplexFloat => no_slots(complex_float(shape, words)),
-        Test::Eightbytes(limit) => in_eightbytes(
-            shape.size,
-            eightbytes::eightbytes(shape, words, limit),
+        Test::Anything => whole(true),
+        Test::Empty => whole(shape.size == 0),
+        Test::SizeOneOf(n, a, b, c, d) => whole(is_one_of(shape.size, n, a, b, c, d)),
+        Test::SizeAtMost(limit) => whole(shape.size <= limit),
+        Test::Homogeneous(limit) => in_slots(homogeneous(shape, words, limit), Source::EachPiece),
+        Test::FloatPair => in_slots(
+            float_pair(words, banks.integer_width, banks.float_width),
+            Source::EachPiece,
         ),
+        Test::X87Stack => in_slots(x87_stack(shape, words), Source::EachPiece),
+        Test::LoneFloat => in_slots(lone_float(words), Source::EachPiece),
+        Test::FloatingMode => in_slots(floating_mode(shape), Source::Empty),
+        Test::ComplexFloat => in_slots(complex_float(shape, words), Source::Empty),
+        Test::Eightbytes(limit) => {
+            let Classified { found, classes } = eightbytes::eightbytes(shape, words, limit);
+            Matched {
+                found,
+                source: Source::Classes { size: shape.size },
+                classes,
+            }
+        }
     }
 }
 
@@ -57,46 +66,19 @@ fn is_one_of(size: u64, n: u64, a: u64, b: u64, c: u64, d: u64) -> bool
 }
 
 // A test of the shape as a whole: it finds no slot.
-fn without_slots(holds: bool) -> Matched
-    ensures { result ≡ matched (found_where holds) no_source no_classes }
+fn whole(holds: bool) -> Matched
+    ensures { result ≡ matched (found_where holds) Source.Empty no_classes }
 {
-    if holds {
-        return no_slots(Found::Slots {
-            count: 0,
-            floats: 0,
-        });
-    }
-    no_slots(Found::Nothing)
+    in_slots(holds.then_some(NO_SLOTS), Source::Empty)
 }
 
-fn no_slots(found: Found) -> Matched
-    ensures { result ≡ matched found no_source no_classes }
+// What was found, where its slots don't stand in classes.
+fn in_slots(found: Option<Found>, source: Source) -> Matched
+    ensures { result ≡ matched found source no_classes }
 {
     Matched {
         found,
-        source: Source::Empty,
-        classes: [0u8; 8],
-    }
-}
-
-fn each_piece(found: Found) -> Matched
-    ensures { result ≡ matched found piece_source no_classes }
-{
-    Matched {
-        found,
-        source: Source::EachPiece,
-        classes: [0u8; 8],
-    }
-}
-
-fn in_eightbytes(size: u64, classified: eightbytes::Classified) -> Matched
-    ensures { result ≡ matched classified.found (class_source size) classified.classes }
-{
-    let found = classified.found;
-    let classes = classified.classes;
-    Matched {
-        found,
-        source: Source::Classes { size },
-        classes,
+        source,
+        classes: [Class::None; 8],
     }
 }
