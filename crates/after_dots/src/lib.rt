@@ -6,7 +6,6 @@ ghost use Rattle.std.specs.Prelude.{◌≡◌};
 ghost use Rattle.after_dots.specs.AfterDots.{is_pair, skipped_for, behind_start, left_for, spent_behind, spent_for, settled_for};
 
 use describe::{Banks, Dots};
-use shape::minus;
 use spend::{Decision, Left, Spent, Way};
 
 // Integer registers passed over before anything else is decided, so that a value of this size and alignment begins at an even one.
@@ -19,7 +18,7 @@ pub fn skipped(dots: Dots, banks: Banks, left: Left, size: u64, align: u64) -> u
     }
     spend_scalar::skip(
         is_pair(banks.integer_width, size, align),
-        minus(banks.integer, left.integer),
+        banks.integer.saturating_sub(left.integer),
         left.integer,
     )
 }
@@ -28,7 +27,7 @@ pub fn skipped(dots: Dots, banks: Banks, left: Left, size: u64, align: u64) -> u
 fn is_pair(width: u64, size: u64, align: u64) -> bool
     ensures { result ≡ is_pair width size align }
 {
-    (minus(align, width) == width) & (size <= align)
+    (align.saturating_sub(width) == width) & (size <= align)
 }
 
 // What a value finds left: banks that are emptied for it, or those behind an even start, and the mark set for it alone.
@@ -54,7 +53,7 @@ fn behind_start(dots: Dots, left: Left, skipped: u64) -> Left
 {
     if dots.starts_even {
         return Left {
-            integer: minus(left.integer, skipped),
+            integer: left.integer.saturating_sub(skipped),
             ..left
         };
     }
@@ -93,9 +92,9 @@ fn spent_behind(left: u64, skipped: u64, decision: Decision) -> Spent
         return Spent::NOTHING;
     }
     let spent = decision.spent;
-    let passed = shape::sum(skipped, spent.integers_passed);
+    let passed = skipped.saturating_add(spent.integers_passed);
     Spent {
-        integers_passed: shape::least(passed, left),
+        integers_passed: passed.min(left),
         ..spent
     }
 }

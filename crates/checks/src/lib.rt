@@ -7,7 +7,7 @@ ghost use Rattle.shape.specs.Words.{pieces_of};
 ghost use Rattle.shape.specs.Refusals.{refusal_of};
 ghost use Rattle.checks.specs.Check.{scalar_refusal, piece_refusal, pieces_refusal, extent_refusal, list_refusal, shape_refusal, or_else};
 
-use shape::{PIECE, Piece, QUAD, Refusal, Scalar, Shape, each_piece, most};
+use shape::{PIECE, Piece, QUAD, Refusal, Scalar, Shape, each_piece};
 
 // The largest values that are accepted.
 pub const MOST_SIZE: u64 = 64;
@@ -54,7 +54,7 @@ fn check_inside(size: u64, words: &[u64]) -> Result<(), Refusal>
     let mut reach = 0;
     for p in each_piece(words) {
         check_piece(p)?;
-        reach = most(reach, p.offset + p.size);
+        reach = reach.max(p.offset + p.size);
     }
     if reach > size {
         return Err(Refusal::BadExtent);

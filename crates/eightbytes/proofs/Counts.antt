@@ -24,6 +24,11 @@ use Rattle.eightbytes.specs.contracts.Class.{the_type}
 use Rattle.eightbytes.proofs.OneClass.{same_is, mended_spoils}
 use Rattle.eightbytes.proofs.Rest.{rest_step, rest_set, rest_end}
 
+-- a yes counts one at most
+pub one_at_most : (u : Bool) (k : ℕ) → k ≡ one_if u → k ≤ 1
+one_at_most true k e = omega arith
+one_at_most false k e = omega arith
+
 -- how many of some classes are the lower half of a float's slot
 unfoldable pub sses_in : List Class → ℕ
 sses_in [] = 0

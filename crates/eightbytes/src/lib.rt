@@ -101,7 +101,7 @@ pub fn eightbytes(shape: Shape, words: &[u64], limit: u64) -> Classified
     ensures { (result.found ≡ found_of (eightbytes· limit shape (pieces_of words.now))) × (result.classes ≡ classes_of limit shape (pieces_of words.now)) }
 {
     let size = shape.size;
-    if size > shape::least(limit, MOST_LIMIT) {
+    if size > limit.min(MOST_LIMIT) {
         return nothing();
     }
     let n = slots::parts(size, EIGHTBYTE) as usize;
@@ -183,7 +183,7 @@ fn settle(classes: [Class; 8], size: u64, n: usize) -> Classified
         return settle_all(classes, n);
     }
     let count = n as u64;
-    let floats = shape::one_if(first == Class::Sse) + shape::one_if(second == Class::Sse);
+    let floats = u64::from(first == Class::Sse) + u64::from(second == Class::Sse);
     Classified {
         found: Some(Found { count, floats }),
         classes,
@@ -196,7 +196,7 @@ fn settle_all(classes: [Class; 8], n: usize) -> Classified
     ensures { ((size : ℕ) → result.found ≡ found_of (slots_found size (settled (take n classes)))) × (result.classes ≡ eight_of (settled (take n classes))) }
 {
     // said once more: the compiler doesn't know the promise, and makes less of a loop with a bound
-    let most = shape::least(n as u64, 8) as usize;
+    let most = (n as u64).min(8) as usize;
     let mut cs = classes;
     let mut below = Class::None;
     let mut count = 0;
@@ -207,8 +207,8 @@ fn settle_all(classes: [Class; 8], n: usize) -> Classified
             return nothing();
         }
         *class = mended;
-        count += shape::one_if(mended != Class::SseUp);
-        floats += shape::one_if(mended == Class::Sse);
+        count += u64::from(mended != Class::SseUp);
+        floats += u64::from(mended == Class::Sse);
         below = mended;
     }
     Classified {

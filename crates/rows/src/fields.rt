@@ -72,11 +72,11 @@ fn banks_of(row: [u8; WIDTH]) -> Banks
     ensures { result ≡ banks_from row }
 {
     Banks {
-        integer: shape::wide(row[INTEGER]),
-        float: shape::wide(row[FLOAT]),
+        integer: u64::from(row[INTEGER]),
+        float: u64::from(row[FLOAT]),
         shared: row[FLAGS] / SHARED % 2 == 1,
-        integer_width: shape::wide(row[INTEGER_WIDTH]),
-        float_width: shape::wide(row[FLOAT_WIDTH]),
+        integer_width: u64::from(row[INTEGER_WIDTH]),
+        float_width: u64::from(row[FLOAT_WIDTH]),
     }
 }
 
@@ -87,12 +87,12 @@ fn scalars_of(row: [u8; WIDTH]) -> Scalars
     let flags = row[FLAGS];
     let formats = row[FORMATS];
     Scalars {
-        in_memory: shape::wide(formats % 8),
+        in_memory: u64::from(formats % 8),
         wide_integer_is_all_or_nothing: flags / WIDE_INTEGER_IS_ALL_OR_NOTHING % 2 == 1,
         wide_integer_starts_even: flags / WIDE_INTEGER_STARTS_EVEN % 2 == 1,
         wide_integer_drains: flags / WIDE_INTEGER_DRAINS % 2 == 1,
         wide_is_by_reference: flags / WIDE_IS_BY_REFERENCE % 2 == 1,
-        wide_integer_returns_in: shape::wide(formats / 8 % 8),
+        wide_integer_returns_in: u64::from(formats / 8 % 8),
         wide_integer_in_memory: flags / WIDE_INTEGER_IN_MEMORY % 2 == 1,
         decimal_in_integers: flags / DECIMAL_IN_INTEGERS % 2 == 1,
         quad_returns_by_reference: flags / QUAD_RETURNS_BY_REFERENCE % 2 == 1,

@@ -169,14 +169,14 @@ fn test_from(code: u8, number: u8) -> Test
             size_from(number / 16 % 4),
             size_from(number / 64),
         ),
-        SIZE_AT_MOST => Test::SizeAtMost(shape::wide(number)),
-        HOMOGENEOUS => Test::Homogeneous(shape::wide(number)),
+        SIZE_AT_MOST => Test::SizeAtMost(u64::from(number)),
+        HOMOGENEOUS => Test::Homogeneous(u64::from(number)),
         FLOAT_PAIR => Test::FloatPair,
         X87_STACK => Test::X87Stack,
         LONE_FLOAT => Test::LoneFloat,
         FLOATING_MODE => Test::FloatingMode,
         COMPLEX_FLOAT => Test::ComplexFloat,
-        _ => Test::Eightbytes(shape::wide(number)),
+        _ => Test::Eightbytes(u64::from(number)),
     }
 }
 

@@ -65,13 +65,13 @@ pub fn integer_slots(size: u64, width: u64, out: &mut [u64]) -> u64
     ensures { (result ≡ length (cut size width)) × (out.new ≡ written (cut size width) out.old) }
 {
     let count = parts(size, width);
-    let w = shape::most(width, 1);
+    let w = width.max(1);
     if count > room(out.len()) as u64 {
         return count;
     }
     for i in 0..count {
         let offset = i * w;
-        let part = shape::least(size - offset, w);
+        let part = (size - offset).min(w);
         put_slot(
             out,
             SLOT * i as usize,
@@ -89,7 +89,7 @@ pub fn integer_slots(size: u64, width: u64, out: &mut [u64]) -> u64
 pub fn parts(size: u64, width: u64) -> u64
     ensures { result ≡ length (cut size width) }
 {
-    size.div_ceil(shape::most(width, 1))
+    size.div_ceil(width.max(1))
 }
 
 // Writes a slot from a place of the buffer on, where it fits.

@@ -8,7 +8,6 @@ ghost use Rattle.spend.specs.Ways.{way_number, way_from, with_mark, spends, plai
 ghost use Rattle.spend.specs.Spending.{want_of, by_pointer, travel_of, by_reference, in_memory_and_spend, in_slots, when_short, as_far_as, split_of, integer_cost, float_cost, drain_of};
 
 use describe::{Banks, ReturnPointer, Rule, Short, Travel};
-use shape::minus;
 use slots::Source;
 
 // What a call has left: registers in each bank, and the mark. Where the mark isn't 0, floats go in integer registers alone. It is a word, so
@@ -41,11 +40,14 @@ impl Left {
         ensures { result ≡ left_after self spent }
     {
         Left {
-            integer: minus(
-                minus(self.integer, spent.integers_passed),
-                spent.integers_given,
-            ),
-            float: minus(minus(self.float, spent.floats_passed), spent.floats_given),
+            integer: self
+                .integer
+                .saturating_sub(spent.integers_passed)
+                .saturating_sub(spent.integers_given),
+            float: self
+                .float
+                .saturating_sub(spent.floats_passed)
+                .saturating_sub(spent.floats_given),
             ..self
         }
     }
@@ -254,7 +256,7 @@ pub fn by_address(left: u64) -> Decision
     ensures { result ≡ plain Way.Reference (spends 0 (min 1 left) 0 0) }
 {
     let spent = Spent {
-        integers_given: shape::least(1, left),
+        integers_given: 1_u64.min(left),
         ..Spent::NOTHING
     };
     Decision::plain(Way::Reference, spent)
@@ -268,7 +270,7 @@ fn in_memory_and_spend(returning: bool, left: u64, want: u64) -> Decision
         return Decision::plain(Way::Memory, Spent::NOTHING);
     }
     let spent = Spent {
-        integers_passed: shape::least(want, left),
+        integers_passed: want.min(left),
         ..Spent::NOTHING
     };
     Decision::plain(Way::Memory, spent)
@@ -321,10 +323,7 @@ fn when_short(short: Short, left: Left, found: Wanted, integer: u64, float: u64)
 fn as_far_as(left: Left, found: Wanted, integer: u64, float: u64) -> Decision
     ensures { result ≡ as_far_as left found integer float }
 {
-    let spent = Spent::giving(
-        shape::least(integer, left.integer),
-        shape::least(float, left.float),
-    );
+    let spent = Spent::giving(integer.min(left.integer), float.min(left.float));
     Decision::pieces(found, spent)
 }
 
@@ -342,7 +341,11 @@ fn split(left: Left, found: Wanted, integer: u64, float: u64) -> Decision
 fn integer_cost(shared: bool, count: u64, floats: u64) -> u64
     ensures { result ≡ integer_cost shared count floats }
 {
-    if shared { count } else { minus(count, floats) }
+    if shared {
+        count
+    } else {
+        count.saturating_sub(floats)
+    }
 }
 
 fn float_cost(shared: bool, floats: u64) -> u64
@@ -363,5 +366,5 @@ fn drain(cost: u64, left: u64) -> u64
 pub fn registers(size: u64, width: u64) -> u64
     ensures { result ≡ want_of size width }
 {
-    shape::most(slots::parts(size, width), 1)
+    slots::parts(size, width).max(1)
 }

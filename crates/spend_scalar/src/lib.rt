@@ -10,7 +10,7 @@ ghost use Rattle.spend.specs.Spending.{want_of};
 ghost use Rattle.spend_scalar.specs.Spending.{scalar_argument, narrow_float, integer_argument, skip_of, scalar_return};
 
 use describe::{Banks, ReturnPointer, Scalars};
-use shape::{Scalar, minus};
+use shape::Scalar;
 use spend::{Decision, Left, Spent, Wanted, Way};
 
 // A scalar argument: the first of the ten lines of REFERENCE 9.2 that applies. The kind is asked once: an integer has the lines 3, 5 and 8 to
@@ -50,7 +50,7 @@ fn float_argument(banks: Banks, scalars: Scalars, left: Left, s: Scalar) -> Deci
     }
     // 4: integers-only
     if left.integers_only != spend::NO_MARK {
-        let given = shape::least(spend::registers(s.size, banks.integer_width), left.integer);
+        let given = spend::registers(s.size, banks.integer_width).min(left.integer);
         let spent = Spent {
             integers_given: given,
             ..Spent::NOTHING
@@ -100,8 +100,12 @@ fn integer_argument(start: u64, scalars: Scalars, left: u64, want: u64) -> Decis
     }
     // 9: wide, with an even start or a drain
     if (want > 1) & (scalars.wide_integer_starts_even | scalars.wide_integer_drains) {
-        let skipped = skip(scalars.wide_integer_starts_even, minus(start, left), left);
-        if want <= minus(left, skipped) {
+        let skipped = skip(
+            scalars.wide_integer_starts_even,
+            start.saturating_sub(left),
+            left,
+        );
+        if want <= left.saturating_sub(skipped) {
             return direct(skipped, want);
         }
         if scalars.wide_integer_drains {
@@ -119,7 +123,7 @@ pub fn skip(even: bool, used: u64, left: u64) -> u64
     ensures { result ≡ skip_of even used left }
 {
     if even & (used % 2 == 1) {
-        return shape::least(1, left);
+        return 1_u64.min(left);
     }
     0
 }
@@ -143,7 +147,7 @@ pub fn scalar_return(scalars: Scalars, pointer: ReturnPointer, left: Left, s: Sc
 fn taking(want: u64, left: u64) -> Decision
     ensures { result ≡ plain Way.Direct (spends 0 (min want left) 0 0) }
 {
-    direct(0, shape::least(want, left))
+    direct(0, want.min(left))
 }
 
 fn direct(passed: u64, given: u64) -> Decision

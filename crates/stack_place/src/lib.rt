@@ -8,7 +8,7 @@ ghost use Rattle.shape.specs.Numbers.{most_word};
 ghost use Rattle.stack_place.specs.Stacked as specs;
 
 use describe::{ReturnPointer, StackArgs};
-use shape::{Refusal, Scalar, minus, most};
+use shape::{Refusal, Scalar};
 use spend::{Spent, Way};
 
 // The most bytes that a call's arguments take on the stack.
@@ -127,7 +127,7 @@ impl Area {
         ensures { result ≡ specs.aggregate_rounding way self align }
     {
         match self.arguments {
-            StackArgs::RegisterSized => value_rounding(way, self.width, most(align, self.width)),
+            StackArgs::RegisterSized => value_rounding(way, self.width, align.max(self.width)),
             StackArgs::Packed => value_rounding(way, self.width, align),
         }
     }
@@ -136,9 +136,9 @@ impl Area {
         ensures { result ≡ specs.rounding_of self rounding }
     {
         if self.dots {
-            return most(most(rounding, LEAST_AFTER_DOTS), 1);
+            return rounding.max(LEAST_AFTER_DOTS).max(1);
         }
-        most(rounding, 1)
+        rounding.max(1)
     }
 
     // ---- how long it is there, and its place
@@ -214,7 +214,7 @@ pub fn aggregate_bytes(way: Way, spent: Spent, slots: u64, size: u64, width: u64
     match way {
         Way::Ignore => 0,
         Way::Direct | Way::Memory => size,
-        Way::Pieces => shape::product(width, beyond(spent, slots)),
+        Way::Pieces => width.saturating_mul(beyond(spent, slots)),
         Way::Reference => pointer_bytes(spent, width),
     }
 }
@@ -223,7 +223,9 @@ pub fn aggregate_bytes(way: Way, spent: Spent, slots: u64, size: u64, width: u64
 fn beyond(spent: Spent, slots: u64) -> u64
     ensures { result ≡ specs.slots_beyond spent slots }
 {
-    minus(minus(slots, spent.integers_given), spent.floats_given)
+    slots
+        .saturating_sub(spent.integers_given)
+        .saturating_sub(spent.floats_given)
 }
 
 fn pointer_bytes(spent: Spent, width: u64) -> u64
@@ -250,7 +252,7 @@ fn scalar_rest(spent: Spent, size: u64, width: u64) -> u64
     if size <= width {
         return 0;
     }
-    let held = shape::product(width, spent.integers_given);
+    let held = width.saturating_mul(spent.integers_given);
     if size <= held {
         return 0;
     }
@@ -299,7 +301,7 @@ fn put_behind(stack: u64, bytes: u64, rounding: u64) -> Result<Place, Refusal>
         return Ok(Place::nowhere(stack));
     }
     let at = shape::round_up(stack, rounding);
-    let next = shape::sum(at, bytes);
+    let next = at.saturating_add(bytes);
     if next > MOST_STACK {
         return Err(Refusal::NoRoom);
     }

@@ -176,7 +176,7 @@ pub fn system_of(code: u64) -> System
 pub fn convention_of(code: u64) -> Convention
     ensures { result ≡ convention_of code }
 {
-    Convention::try_from(code).unwrap_or(Convention::Regparm(shape::minus(code, REGPARM)))
+    Convention::try_from(code).unwrap_or(Convention::Regparm(code.saturating_sub(REGPARM)))
 }
 
 pub fn is_windows(system: System) -> bool

@@ -12,7 +12,7 @@ ghost use Rattle.types.specs.Entries.{nowhere, entry_at, entry_size, form_of, fo
 ghost use Rattle.types.specs.Trees.{entries, size_refusal, lists_refusal, references_refusal, back_refusal};
 ghost use Rattle.types.specs.Table.{row_at, put_row, place_from, members_row, elements_row, row_of, form_refusal, filled_refusal, filled, table_refusal, measure_refusal, level_of, level_above, Levelled};
 
-use shape::{MOST_WORD, Refusal, Scalar, least, most, product, round_up, sum};
+use shape::{MOST_WORD, Refusal, Scalar, round_up};
 
 // Words of an entry, and of its row in the table.
 pub const ENTRY: usize = 4;
@@ -156,7 +156,9 @@ impl<'a> Lists<'a> {
         match form {
             Form::One(_) => Some(1),
             Form::Members { first, count, .. } => self.level_above(first, count, earlier),
-            Form::Elements { element, .. } => Some(sum(*earlier.get(element as usize)?, 1)),
+            Form::Elements { element, .. } => Some(
+                (*earlier.get(element as usize)?).saturating_add(1),
+            ),
         }
     }
 
@@ -165,11 +167,11 @@ impl<'a> Lists<'a> {
     fn level_above(self, first: u64, count: u64, earlier: &[u64]) -> Option<u64>
         ensures { MatchOption result (0 ≡ level_above earlier.now (length earlier.now) 0 (members_from self.entry.members.now first count)) (λ l. (l ≡ level_above earlier.now (length earlier.now) 0 (members_from self.entry.members.now first count)) × (0 < l)) }
     {
-        let mut best = 0;
+        let mut best: u64 = 0;
         for i in 0..count {
-            best = most(best, *earlier.get(self.member(first, i) as usize)?);
+            best = best.max(*earlier.get(self.member(first, i) as usize)?);
         }
-        Some(sum(best, 1))
+        Some(best.saturating_add(1))
     }
 
     // A row for each entry, up to the first that is refused: its refusal.
@@ -194,8 +196,8 @@ impl<'a> Lists<'a> {
         match form {
             Form::One(s) => Row {
                 takes: s.size,
-                reach: most(s.size, 1),
-                align: most(s.align, 1),
+                reach: s.size.max(1),
+                align: s.align.max(1),
                 leaves: 1,
             },
             Form::Members {
@@ -211,17 +213,17 @@ impl<'a> Lists<'a> {
     fn row_over(self, table: &[u64], overlaid: bool, first: u64, count: u64) -> Row
         ensures { result ≡ members_row table.now overlaid 0 0 1 0 (members_from self.entry.members.now first count) }
     {
-        let mut end = 0;
-        let mut far = 0;
-        let mut align = 1;
-        let mut leaves = 0;
+        let mut end: u64 = 0;
+        let mut far: u64 = 0;
+        let mut align: u64 = 1;
+        let mut leaves: u64 = 0;
         for i in 0..count {
             let r = row_at(table, self.member(first, i));
             let offset = place(overlaid, end, r.align);
-            end = sum(offset, r.takes);
-            far = most(far, sum(offset, r.reach));
-            align = most(align, r.align);
-            leaves = counted(sum(leaves, r.leaves));
+            end = offset.saturating_add(r.takes);
+            far = far.max(offset.saturating_add(r.reach));
+            align = align.max(r.align);
+            leaves = counted(leaves.saturating_add(r.leaves));
         }
         let size = round_up(far, align);
         Row {
@@ -284,12 +286,12 @@ impl<'a> Lists<'a> {
 fn row_times(r: Row, count: u64) -> Row
     ensures { result ≡ elements_row r count }
 {
-    let size = product(count, round_up(r.reach, r.align));
+    let size = count.saturating_mul(round_up(r.reach, r.align));
     Row {
         takes: size,
         reach: size,
         align: r.align,
-        leaves: counted(product(count, r.leaves)),
+        leaves: counted(count.saturating_mul(r.leaves)),
     }
 }
 
@@ -332,7 +334,7 @@ pub fn place(overlaid: bool, end: u64, align: u64) -> u64
 fn counted(n: u64) -> u64
     ensures { result ≡ min n 1025 }
 {
-    least(n, checks::MOST_PIECES as u64 + 1)
+    n.min(checks::MOST_PIECES as u64 + 1)
 }
 
 // The row of entry number `e`: all zeros where there is none.

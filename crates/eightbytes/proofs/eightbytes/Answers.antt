@@ -12,8 +12,8 @@ use Rattle.eightbytes.proofs.Found.{found_by, classes_by, nothing_by, over_limit
 use native.Mathlib.Omega.{arith}
 use Rattle.eightbytes.proofs.eightbytes.Goals as goal
 
-pub returns-then-size-least : goal.returns-then-size-least
-returns-then-size-least c =
+pub returns-then-size-min : goal.returns-then-size-min
+returns-then-size-min c =
     let a = c.args in
     let e : classified a.limit a.shape (pieces_of a.words.now) ≡ none = search (over_limit) in
     (found_by _ _ _ _ e _ (nothing_by _ _ c.nothing.ensures.0), classes_by _ _ _ _ e _ c.nothing.ensures.1)

@@ -4,7 +4,7 @@ use native.Mathlib.Omega.{arith}
 use Rattle.slots.proofs.integer_slots.Goals as goal
 
 -- a part that is there starts inside the size
-inside : (c : goal.In-loop-i) → c.loop-i.i * c.most-w.result < c.args.size
+inside : (c : goal.In-loop-i) → c.loop-i.i * c.max-w.result < c.args.size
 inside c = search (cut_inside)
 
 pub returns-then-count-room : goal.returns-then-count-room

@@ -4,4 +4,4 @@ use Rattle.slots.proofs.Cut.{length_ceil}
 use Rattle.slots.proofs.parts.Goals as goal
 
 pub returns : goal.returns
-returns c = c.div_ceil.ensures ∙ length_ceil _ _ _ c.most.ensures
+returns c = c.div_ceil.ensures ∙ length_ceil _ _ _ c.max.ensures

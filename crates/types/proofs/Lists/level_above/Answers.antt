@@ -10,7 +10,7 @@ returns-in_err-get c =
 pub loop-i-preserved : goal.loop-i-preserved
 loop-i-preserved c =
     let here = c.in_ok-get.ensures.lookup.3 in
-    level_turn _ _ _ _ _ _ _ _ c.loop-i.invariant c.loop-i-test.true _ c.member.ensures here.0 _ (here.1 0) _ c.most-best.ensures
+    level_turn _ _ _ _ _ _ _ _ c.loop-i.invariant c.loop-i-test.true _ c.member.ensures here.0 _ (here.1 0) _ c.max-best.ensures
 
 pub returns : goal.returns
 returns c = (search (level_end), omega arith)
