@@ -2,41 +2,62 @@
 // answers are printed in the same form, and the two are compared.
 #![tactic(auto)]
 
-use describe::{Banks, Others, Rule, Scalars, Short, Terms, Test};
+use describe::{Banks, Others, Rule, Scalars, Terms, Test};
+use rows::Rules;
+use shape::Refusal;
 use std::io::{BufWriter, Write};
 use std::{fmt, io};
 
 // No name has more bytes.
 const LONGEST: usize = 64;
 
-fn main(rt: HostRuntime) -> io::Result<()> {
+// What would end a run early: no description refuses a question here, so that only writing fails.
+#[derive(Debug, Drop)]
+enum Failure {
+    Refused(Refusal),
+    Writing(io::Error),
+}
+
+impl From<Refusal> for Failure {
+    fn from(refusal: Refusal) -> Failure {
+        Failure::Refused(refusal)
+    }
+}
+
+impl From<io::Error> for Failure {
+    fn from(error: io::Error) -> Failure {
+        Failure::Writing(error)
+    }
+}
+
+fn main(rt: HostRuntime) -> Result<(), Failure> {
     let mut out = BufWriter::new(rt.alloc(), io::writer(&rt))?;
     for d in 0..abis::DESCRIPTIONS {
         description(&mut out, d)?;
     }
-    out.flush()
+    out.flush()?;
+    Ok(())
 }
 
-fn description(out: &mut impl Write, d: u64) -> io::Result<()> {
+fn description(out: &mut impl Write, d: u64) -> Result<(), Failure> {
     let terms = abis::read(d).terms;
     let row = abis::row(d);
     name(out, d)?;
     banks(out, d, terms.banks)?;
     scalars(out, d, terms.scalars)?;
     others(out, d, terms, rows::others_of(row))?;
-    rules(out, d, "returns", |i| rows::return_rule(row, i))?;
-    rules(out, d, "arguments", |i| rows::argument_rule(row, i))?;
+    rules(out, d, "returns", rows::return_rules(row))?;
+    rules(out, d, "arguments", rows::argument_rules(row))?;
     questions(out, d)
 }
 
-fn name(out: &mut impl Write, d: u64) -> io::Result<()> {
-    let mut space = [0u8; LONGEST];
-    let written = abis::name(d, &mut space);
+fn name(out: &mut impl Write, d: u64) -> Result<(), Failure> {
+    let mut space = [0; LONGEST];
+    let length = abis::name(d, &mut space)?;
     write!(out, "row {d} name ")?;
-    if let Some(name) = space.get(..written.length as usize) {
-        out.write_all(name)?;
-    }
-    writeln!(out)
+    out.write_all(&space[..length.min(LONGEST)])?;
+    writeln!(out)?;
+    Ok(())
 }
 
 fn banks(out: &mut impl Write, d: u64, banks: Banks) -> io::Result<()> {
@@ -77,22 +98,12 @@ fn others(out: &mut impl Write, d: u64, terms: Terms, others: Others) -> io::Res
     )
 }
 
-// A list's rules, up to the one that decides whatever it is asked: no row has a rule behind that.
-fn rules<F: Fn(u64) -> Rule>(out: &mut impl Write, d: u64, list: &str, rule_at: F) -> io::Result<()>
-    requires { F.IsAlwaysCallable rule_at }
-{
-    for i in 0..rows::RULES {
-        let rule = rule_at(i);
+fn rules(out: &mut impl Write, d: u64, list: &str, rules: Rules) -> io::Result<()> {
+    for (i, from_here) in (0..rows::RULES).zip(rules) {
+        let rule = rows::first_rule(from_here);
         writeln!(out, "row {d} {list} {i} {}", Numbered(rule))?;
-        if decides(rule) {
-            break;
-        }
     }
     Ok(())
-}
-
-fn decides(rule: Rule) -> bool {
-    matches!(rule.when, Test::Anything) && !matches!(rule.short, Short::TryNextRule)
 }
 
 // A rule as its numbers: its test's, the four that the test may have, the way of travel's, and the one of what happens when short.
@@ -126,15 +137,15 @@ impl fmt::Display for Numbered {
     }
 }
 
-fn questions(out: &mut impl Write, d: u64) -> io::Result<()> {
+fn questions(out: &mut impl Write, d: u64) -> Result<(), Failure> {
     for size in 0..=checks::MOST_SIZE {
-        let is = abis::scalar_is_by_reference(d, size);
-        let returns = abis::scalar_returns_by_reference(d, size);
-        let wide = abis::wide_integer_returns_in(d, size);
+        let is = abis::scalar_is_by_reference(d, size)?;
+        let returns = abis::scalar_returns_by_reference(d, size)?;
+        let format = abis::wide_integer_returns_in(d, size)?;
         writeln!(
             out,
-            "row {d} questions {size} {} {} {}",
-            is.answer as u8, returns.answer as u8, wide.format
+            "row {d} questions {size} {} {} {format}",
+            is as u8, returns as u8
         )?;
     }
     Ok(())
