@@ -1,8 +1,9 @@
 -- Records by place: where a whole record is left at a place of some words, the records from there on are that one and those after it.
--- These, and those of specs/Reading.antt, are the only laws that open `pieces_of` and `scalars_of`.
+-- These are the only laws that open `pieces_of` and `scalars_of`.
 use Prim.Native.Nat.{ℕ, zero, suc, ◌+◌, ◌-◌, ◌/◌, ◌≤◌, ◌<◌}
-use mathlib.Core.Path.{◌≡◌, refl}
-use mathlib.Core.List.{List, [], ◌∷◌, ◌++◌}
+use mathlib.Core.Path.{◌≡◌, refl, ap}
+use mathlib.Core.List.{List, [], ◌∷◌, ◌++◌, map}
+use Rattle.std.specs.Simd.{first_chunks}
 use mathlib.Core.Bool.{Bool, true, false, not, ◌&&◌}
 use native.Mathlib.Numerals.{add-one}
 use native.Mathlib.Omega.{arith}
@@ -11,8 +12,7 @@ use lib.ListN.{length, drop, get_or, length-drop}
 use lib.Seq.{drop-cons}
 use Rattle.shape.specs.declared.Piece.{Piece}
 use Rattle.shape.specs.declared.Scalar.{Scalar}
-use Rattle.shape.specs.Reading.{few_pieces, few_scalars}
-use Rattle.shape.specs.Words.{piece, pieces_of, first_piece, piece_at, scalar, scalars_of, first_scalar, scalar_at}
+use Rattle.shape.specs.Words.{piece, piece_from, pieces_of, first_piece, piece_at, scalar, scalar_from, scalars_of, first_scalar, scalar_at}
 
 -- the words from a place are the word there and the words from the next
 pub drop_word : (ws : List ℕ) (at : ℕ) → at < length ws → drop at ws ≡ get_or ws at 0 ∷ drop (at + 1) ws
@@ -43,6 +43,25 @@ drop_reads ws at (suc n) h =
 
 -- ---- pieces
 
+few_pieces : (ws : List ℕ) → length ws < 4 → pieces_of ws ≡ []
+unfolding pieces_of
+few_pieces [] h = refl
+few_pieces (k ∷ []) h = refl
+few_pieces (k ∷ s ∷ []) h = refl
+few_pieces (k ∷ s ∷ a ∷ []) h = refl
+few_pieces (k ∷ s ∷ a ∷ o ∷ ws) h = absurd (omega arith)
+
+-- the pieces of some words are those of the words in fours
+pub pieces_chunks : (ws : List ℕ) → map piece_from (first_chunks 4 (length ws / 4) ws) ≡ pieces_of ws
+unfolding pieces_of
+pieces_chunks [] = refl
+pieces_chunks (k ∷ []) = refl
+pieces_chunks (k ∷ s ∷ []) = refl
+pieces_chunks (k ∷ s ∷ a ∷ []) = refl
+pieces_chunks (k ∷ s ∷ a ∷ o ∷ ws) =
+    let n : length (k ∷ s ∷ a ∷ o ∷ ws) / 4 ≡ suc (length ws / 4) = omega arith in
+    rw n (ap (λ ps. piece k s a o ∷ ps) (pieces_chunks ws))
+
 -- how many pieces some words hold
 pub length_pieces : (ws : List ℕ) → length (pieces_of ws) ≡ length ws / 4
 unfolding pieces_of
@@ -72,6 +91,23 @@ module _ (ws : List ℕ) (at : ℕ) where
   pieces_end h = few_pieces (drop at ws) (simp length-drop (omega arith))
 
 -- ---- scalars
+
+few_scalars : (ws : List ℕ) → length ws < 3 → scalars_of ws ≡ []
+unfolding scalars_of
+few_scalars [] h = refl
+few_scalars (k ∷ []) h = refl
+few_scalars (k ∷ s ∷ []) h = refl
+few_scalars (k ∷ s ∷ a ∷ ws) h = absurd (omega arith)
+
+-- the scalars of some words are those of the words in threes
+pub scalars_chunks : (ws : List ℕ) → map scalar_from (first_chunks 3 (length ws / 3) ws) ≡ scalars_of ws
+unfolding scalars_of
+scalars_chunks [] = refl
+scalars_chunks (k ∷ []) = refl
+scalars_chunks (k ∷ s ∷ []) = refl
+scalars_chunks (k ∷ s ∷ a ∷ ws) =
+    let n : length (k ∷ s ∷ a ∷ ws) / 3 ≡ suc (length ws / 3) = omega arith in
+    rw n (ap (λ ss. scalar k s a ∷ ss) (scalars_chunks ws))
 
 -- how many scalars some words hold
 pub length_scalars : (ws : List ℕ) → length (scalars_of ws) ≡ length ws / 3

@@ -1,6 +1,6 @@
 -- Pieces and scalars as they stand in words (REFERENCE 1.2): a piece is kind, size, alignment, offset; a scalar is the first three.
 -- Words after the last whole record are no record. And words put at a place of a buffer.
-use Rattle.std.specs.Prelude.{ℕ, ◌+◌, List, [], ◌∷◌, ◌++◌, Bool, true, false, leb, length, get_or, take, drop}
+use Rattle.std.specs.Prelude.{ℕ, ◌+◌, List, [], ◌∷◌, ◌++◌, map, Bool, true, false, leb, length, get_or, take, drop}
 use Rattle.shape.specs.declared.Piece.{Piece}
 use Rattle.shape.specs.declared.Scalar.{Scalar}
 use Rattle.shape.specs.declared.Records.{Records}
@@ -28,7 +28,7 @@ piece_from ws = piece (get_or ws 0 0) (get_or ws 1 0) (get_or ws 2 0) (get_or ws
 
 -- the pieces that an iterator has still to give
 abbrev pub pieces_left : Records Piece piece_size → List Piece
-pieces_left ps = pieces_of ps.words.now
+pieces_left ps = map piece_from (drop ps.at ps.all.now)
 
 -- the first of some pieces, all zeros where there is none
 unfoldable pub first_piece : List Piece → Piece
@@ -53,7 +53,7 @@ scalar_from ws = scalar (get_or ws 0 0) (get_or ws 1 0) (get_or ws 2 0)
 
 -- the scalars that an iterator has still to give
 abbrev pub scalars_left : Records Scalar scalar_size → List Scalar
-scalars_left ss = scalars_of ss.words.now
+scalars_left ss = map scalar_from (drop ss.at ss.all.now)
 
 -- the first of some scalars, all zeros where there is none
 unfoldable pub first_scalar : List Scalar → Scalar

@@ -2,15 +2,15 @@
 // alignment, offset. Whether it may be asked, the crate checks says. The rules are those of docs/REFERENCE.md, 1, 2, 4.1 and 4.2.
 #![tactic(auto)]
 
-ghost use Rattle.std.specs.Prelude.{◌≡◌, ◌-◌, ◌<◌, ◌≤◌, min, max, ◌+◌, leb, length, ℕ, List, [], ◌∷◌, take, drop};
+ghost use Rattle.std.specs.Prelude.{◌≡◌, ◌-◌, ◌<◌, ◌≤◌, min, max, ◌+◌, leb, length, ◌/◌, ℕ, List, map, drop};
 ghost use native.Mathlib.Omega.{arith};
 ghost use Rattle.shape.specs.Numbers.{one_if};
 ghost use Rattle.shape.specs.Arithmetic.{plus, times, rounded};
 ghost use Rattle.shape.specs.Words.{pieces_of, pieces_left, scalars_of, scalars_left, piece_from, scalar_from, piece_at, scalar_at, put_at, piece_size, piece_words};
-ghost use Rattle.shape.specs.Reading.{few_pieces, few_scalars, more_pieces, more_scalars};
 ghost use Rattle.shape.specs.Questions.{integer_of, float_of, is_float, end_of, is_all_of};
 ghost use Rattle.shape.specs.Refusals.{number_of};
 ghost use Rattle.std.specs.Iterator.{YieldsFirst, item_count};
+ghost use Rattle.std.specs.Simd.{first_chunks};
 
 use std::marker::PhantomData;
 
@@ -165,23 +165,16 @@ pub fn is_all_of(words: &[u64], kind: u64) -> bool
 pub trait Record<const N: usize> {
     ghost of: { List ℕ → Self };
 
-    ghost all: { List ℕ → List Self };
-
     fn from_words(words: [u64; N]) -> Self
         ensures { result ≡ of words.entry };
 
-    ghost short: { N < 64 };
+    ghost some: { 0 < N };
 
-    // Fewer words are no record; else the first are one, and those behind them hold the others.
-    ghost few: { (ws : List ℕ) → length ws < N → all ws ≡ [] };
-
-    ghost more: { (ws : List ℕ) → N ≤ length ws → all ws ≡ of (take N ws) ∷ all (drop N ws) };
+    ghost few: { N < 64 };
 }
 
 impl Record<PIECE> for Piece {
     ghost of = { piece_from };
-
-    ghost all = { pieces_of };
 
     fn from_words(words: [u64; PIECE]) -> Piece
         ensures { result ≡ piece_from words }
@@ -195,17 +188,13 @@ impl Record<PIECE> for Piece {
         }
     }
 
-    ghost short = { Prim.omega arith };
+    ghost some = { Prim.omega arith };
 
-    ghost few = { few_pieces };
-
-    ghost more = { more_pieces };
+    ghost few = { Prim.omega arith };
 }
 
 impl Record<SCALAR> for Scalar {
     ghost of = { scalar_from };
-
-    ghost all = { scalars_of };
 
     fn from_words(words: [u64; SCALAR]) -> Scalar
         ensures { result ≡ scalar_from words }
@@ -214,17 +203,17 @@ impl Record<SCALAR> for Scalar {
         Scalar { kind, size, align }
     }
 
-    ghost short = { Prim.omega arith };
+    ghost some = { Prim.omega arith };
 
-    ghost few = { few_scalars };
-
-    ghost more = { more_scalars };
+    ghost few = { Prim.omega arith };
 }
 
-// The records of some words, from the first; words behind the last whole record are none.
+// The records of some words, from the first; words behind the last whole record are none. A place beside all of them takes a loop an instruction
+// less for each record than a slice of those that are left.
 #[derive(Drop)]
 pub struct Records<'a, T, const N: usize> {
-    words: &'a [u64],
+    all: &'a [[u64; N]],
+    at: usize,
     record: PhantomData<T>,
 }
 
@@ -232,23 +221,28 @@ pub type Pieces<'a> = Records<'a, Piece, PIECE>;
 
 pub type Scalars<'a> = Records<'a, Scalar, SCALAR>;
 
-impl<'a, T, const N: usize> Records<'a, T, N> {
+impl<'a, T: Record<N>, const N: usize> Records<'a, T, N> {
     fn of(words: &'a [u64]) -> Records<'a, T, N>
-        ensures { result.words.now ≡ words.now }
+        ensures all { result.all.now ≡ first_chunks N (length words.now / N) words.now }
+        ensures at { result.at ≡ 0 }
     {
+        let (all, _) = words.as_chunks::<N>();
         Records {
-            words,
+            all,
+            at: 0,
             record: PhantomData,
         }
     }
 }
 
+#[tactic(auto, using(crate::proofs::Words::pieces_chunks))]
 pub fn each_piece(words: &[u64]) -> Pieces<'_>
     ensures { pieces_left result ≡ pieces_of words.now }
 {
     Pieces::of(words)
 }
 
+#[tactic(auto, using(crate::proofs::Words::scalars_chunks))]
 pub fn each_scalar(words: &[u64]) -> Scalars<'_>
     ensures { scalars_left result ≡ scalars_of words.now }
 {
@@ -258,14 +252,14 @@ pub fn each_scalar(words: &[u64]) -> Scalars<'_>
 impl<'a, T: Record<N>, const N: usize> Iterator for Records<'a, T, N> {
     type Item = T;
 
-    ghost next_gives = { YieldsFirst (λ s. T.all s.words.now) };
+    ghost next_gives = { YieldsFirst (λ s. map T.of (drop s.at s.all.now)) };
 
-    ghost remaining = { item_count (λ s. T.all s.words.now) };
+    ghost remaining = { item_count (λ s. map T.of (drop s.at s.all.now)) };
 
     fn next(&mut self) -> Option<T> {
-        let (first, others) = self.words.split_first_chunk::<N>()?;
-        self.words = others;
-        Some(T::from_words(*first))
+        let words = self.all.get(self.at)?;
+        self.at += 1;
+        Some(T::from_words(*words))
     }
 }
 
