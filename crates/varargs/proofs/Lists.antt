@@ -62,7 +62,7 @@ module _ (s : Scalar) where
       scalar_taken a =
           rw (le-ltb _ _ k, le-ltb most_size s.size (omega (arith, small)), ← is, z, a, le-ltb most_align s.size (omega (arith, small)), eq-eqb s.size s.size refl)
 
-pub ruleset scalar-laws = (kind_refused, size_refused, align_refused, scalar_taken)
+pub ruleset scalar_laws = (kind_refused, size_refused, align_refused, scalar_taken)
 
 -- ---- the overflow area
 

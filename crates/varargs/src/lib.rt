@@ -80,6 +80,7 @@ pub fn read<'a>(
 }
 
 // The bytes of what was located.
+#[tactic(auto, unfolding(crate::specs::Lists::part_of))]
 fn part<'a>(save: &'a [u8], overflow: &'a [u8], found: Located) -> &'a [u8]
     requires { Inside (length save.now) (length overflow.now) (placed found) }
     ensures { result.now ≡ part_of save.now overflow.now (placed found) }
@@ -91,6 +92,7 @@ fn part<'a>(save: &'a [u8], overflow: &'a [u8], found: Located) -> &'a [u8]
 }
 
 // So many bytes of an area from a start on. In two steps: where the start and the length are added up nothing says that the sum fits.
+#[tactic(auto, using(crate::proofs::Lists::counted, crate::proofs::Lists::first_left))]
 fn bytes_at<'a>(area: &'a [u8], start: u64, count: u64) -> &'a [u8]
     requires { start + count ≤ length area.now }
     ensures { result.now ≡ take count (drop start area.now) }
@@ -130,6 +132,7 @@ pub fn find<'a>(
 // ---- what is refused
 
 // A list's scalars are of their own sizes and aligned to them, so that the limits of other scalars are kept.
+#[tactic(auto, using(crate::proofs::Lists::scalar_laws))]
 fn check_unnamed(s: Scalar) -> Result<(), Refusal>
     ensures { refusal_of result ≡ unnamed_refusal s }
 {
@@ -215,6 +218,7 @@ fn in_overflow(overflow: &[u8], at: Offsets, s: Scalar) -> Result<Located, Refus
 }
 
 // Where an alignment may start, from an overflow offset on.
+#[tactic(auto, unfolding(crate::specs::Lists::overflow_start, shape::specs::Arithmetic::round_up))]
 fn overflow_start(overflow: u64, align: u64) -> u64
     requires { overflow < 9223372036854775808 }
     ensures { result ≡ overflow_start overflow align }
@@ -226,6 +230,7 @@ fn overflow_start(overflow: u64, align: u64) -> u64
 }
 
 // The bytes that a size takes, in places of 8.
+#[tactic(auto, unfolding(shape::specs::Arithmetic::round_up))]
 fn rounded(size: u64) -> u64
     requires { size ≤ 16 }
     ensures { result ≡ round_up size 8 }
