@@ -9,6 +9,7 @@ use Rattle.slots.specs.Words.{slot, slot_words, words_of, written}
 use Rattle.slots.specs.Cut.{cut}
 use Rattle.shape.proofs.Put.{put_none}
 use Rattle.find.specs.Find.{each_piece}
+use Rattle.eightbytes.specs.declared.Class.{Class}
 use Rattle.eightbytes.specs.Eightbytes as eight
 use Rattle.slots.specs.declared.Source as sources
 use Rattle.slot_writing.specs.Sources.{source_slots, scalar_slots}
@@ -17,7 +18,7 @@ pub nothing_written : (out : List ℕ) → out ≡ written [] out
 unfolding written words_of
 nothing_written out = sym (put_none out 0 (omega arith))
 
-module _ (source : sources.Source) (cs : List ℕ) (ps : List Piece) (out : List ℕ) where
+module _ (source : sources.Source) (cs : List Class) (ps : List Piece) (out : List ℕ) where
   pub write_none : source ≡ sources.TheVariants.Empty → out ≡ written (source_slots source cs ps) out
   unfolding source_slots
   write_none e = rw e (nothing_written out)
@@ -27,7 +28,7 @@ module _ (source : sources.Source) (cs : List ℕ) (ps : List Piece) (out : List
     unfolding source_slots
     write_each e eo = rw (eo, e)
 
-    pub write_classes : (size : ℕ) → source ≡ sources.TheVariants.Classes size → out' ≡ written (eight.coded_slots size cs) out → out' ≡ written (source_slots source cs ps) out
+    pub write_classes : (size : ℕ) → source ≡ sources.TheVariants.Classes size → out' ≡ written (eight.slots_of_eight size cs) out → out' ≡ written (source_slots source cs ps) out
     unfolding source_slots
     write_classes size e eo = rw (eo, e)
 
@@ -40,24 +41,6 @@ module _ (source : sources.Source) (cs : List ℕ) (ps : List Piece) (out : List
     write_one k o n e eo = rw (eo, e)
 
 -- and of a scalar
-module _ (source : sources.Source) (out : List ℕ) where
-  pub scalar_none : source ≡ sources.TheVariants.Empty → out ≡ written (scalar_slots source) out
-  unfolding scalar_slots
-  scalar_none e = rw e (nothing_written out)
-
-  pub scalar_each : source ≡ sources.TheVariants.EachPiece → out ≡ written (scalar_slots source) out
-  unfolding scalar_slots
-  scalar_each e = rw e (nothing_written out)
-
-  pub scalar_classes : (size : ℕ) → source ≡ sources.TheVariants.Classes size → out ≡ written (scalar_slots source) out
-  unfolding scalar_slots
-  scalar_classes size e = rw e (nothing_written out)
-
-  module _ (out' : List ℕ) where
-    pub scalar_cut : (size width : ℕ) → source ≡ sources.TheVariants.Cut size width → out' ≡ written (cut size width) out → out' ≡ written (scalar_slots source) out
-    unfolding scalar_slots
-    scalar_cut size width e eo = rw (eo, e)
-
-    pub scalar_one : (k o n : ℕ) → source ≡ sources.TheVariants.One k o n → out' ≡ put_at out 0 (slot_words (slot k o n)) → out' ≡ written (scalar_slots source) out
-    unfolding scalar_slots written words_of
-    scalar_one k o n e eo = rw (eo, e)
+pub scalar_one : (source : sources.Source) (out out' : List ℕ) (k o n : ℕ) → source ≡ sources.TheVariants.One k o n → out' ≡ put_at out 0 (slot_words (slot k o n)) → out' ≡ written (scalar_slots source) out
+unfolding scalar_slots written words_of
+scalar_one source out out' k o n e eo = rw (eo, e)

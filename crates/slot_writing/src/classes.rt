@@ -1,16 +1,15 @@
 // The slots of a shape that came in eightbytes, written from the classes that the crate eightbytes found (docs/REFERENCE.md, 8).
-ghost use Rattle.std.specs.Prelude.{◌≡◌, map, ◌+◌, ◌≤◌, min, leb, length, take, drop};
+ghost use Rattle.std.specs.Prelude.{◌≡◌, ◌+◌, ◌≤◌, min, leb, length, take, drop};
 ghost use Rattle.slots.specs.Words.{words_of, written};
 ghost use Rattle.shape.specs.Words.{put_at};
-ghost use Rattle.eightbytes.specs.Class.{class_of};
-ghost use Rattle.eightbytes.specs.Eightbytes.{eightbytes_in, up_first, own_slot, class_slot, format_of, slot_count, coded_slots};
+ghost use Rattle.eightbytes.specs.Eightbytes.{eightbytes_in, up_first, own_slot, class_slot, format_of, slot_count, slots_of_eight};
 
-use eightbytes::{EIGHTBYTE, PAIR, SSE, SSE_UP};
+use eightbytes::{Class, EIGHTBYTE, PAIR};
 use slots::Slot;
 
 // Writes the slots that classes stand for in a shape of this size, at the front where they all fit.
-pub fn put_eightbytes(classes: [u8; 8], size: u64, out: &mut [u64])
-    ensures { out.new ≡ written (coded_slots size classes) out.old }
+pub fn put_eightbytes(classes: [Class; 8], size: u64, out: &mut [u64])
+    ensures { out.new ≡ written (slots_of_eight size classes) out.old }
 {
     if size <= PAIR {
         put_pair(classes, size, out);
@@ -21,20 +20,17 @@ pub fn put_eightbytes(classes: [u8; 8], size: u64, out: &mut [u64])
         return;
     }
     let mut at = 0;
-    let mut i = 0;
-    while i < n {
+    for i in 0..n {
         let offset = EIGHTBYTE * (i as u64);
         let up = up_at(classes, n, i + 1);
-        let next = put_eightbyte(out, at, classes[i], up, offset, size - offset);
-        at = next;
-        i += 1;
+        at = put_eightbyte(out, at, classes[i], up, offset, size - offset);
     }
 }
 
 // The same for at most two eightbytes, without a loop.
-fn put_pair(classes: [u8; 8], size: u64, out: &mut [u64])
+fn put_pair(classes: [Class; 8], size: u64, out: &mut [u64])
     requires { size ≤ 16 }
-    ensures { out.new ≡ written (coded_slots size classes) out.old }
+    ensures { out.new ≡ written (slots_of_eight size classes) out.old }
 {
     if size == 0 {
         return;
@@ -46,12 +42,13 @@ fn put_pair(classes: [u8; 8], size: u64, out: &mut [u64])
     if !has_room(classes, 2, slots::room(out.len())) {
         return;
     }
-    let up = classes[1] == SSE_UP;
+    let up = classes[1] == Class::SseUp;
     let next = put_eightbyte(out, 0, classes[0], up, 0, size);
     put_eightbyte(out, next, classes[1], false, EIGHTBYTE, size - EIGHTBYTE);
 }
 
 // How many of the eight classes a shape of this size has.
+#[tactic(auto, using(slots::proofs::Cut::length_cut))]
 fn eightbytes_in(size: u64) -> usize
     ensures { result ≡ min (eightbytes_in size) 8 }
 {
@@ -59,67 +56,68 @@ fn eightbytes_in(size: u64) -> usize
 }
 
 // Whether the slots of the first n classes are at most so many. They are at most n, so they are counted only where that is too many.
-fn has_room(classes: [u8; 8], n: usize, room: usize) -> bool
+fn has_room(classes: [Class; 8], n: usize, room: usize) -> bool
     requires { n ≤ 8 }
-    ensures { result ≡ leb (slot_count (take n (map class_of classes))) room }
+    ensures { result ≡ leb (slot_count (take n classes)) room }
 {
-    if n <= room {
-        return true;
-    }
-    count_slots(classes, n) <= room
+    n <= room || count_slots(classes, n) <= room
 }
 
 // How many slots the first n classes stand for.
-fn count_slots(classes: [u8; 8], n: usize) -> usize
+fn count_slots(classes: [Class; 8], n: usize) -> usize
     requires { n ≤ 8 }
-    ensures { result ≡ slot_count (take n (map class_of classes)) }
+    ensures { result ≡ slot_count (take n classes) }
 {
     let mut count = 0;
-    let mut i = 0;
-    while i < n {
-        count += shape::one_if(classes[i] != SSE_UP) as usize;
-        i += 1;
+    for class in &classes[..n] {
+        count += shape::one_if(*class != Class::SseUp) as usize;
     }
     count
 }
 
 // Whether the eightbyte at an index is one of the first n, and an upper half.
-fn up_at(classes: [u8; 8], n: usize, i: usize) -> bool
+#[tactic(auto, using(crate::proofs::Put::up_none, crate::proofs::Put::up_some))]
+fn up_at(classes: [Class; 8], n: usize, i: usize) -> bool
     requires { n ≤ 8 }
-    ensures { result ≡ up_first (drop i (take n (map class_of classes))) }
+    ensures { result ≡ up_first (drop i (take n classes)) }
 {
-    if i >= n {
-        return false;
-    }
-    classes[i] == SSE_UP
+    i < n && classes[i] == Class::SseUp
 }
 
 // Writes the slot of one eightbyte, if it has one of its own, and says where the next one goes.
-fn put_eightbyte(out: &mut [u64], at: usize, class: u8, up: bool, offset: u64, left: u64) -> usize
+fn put_eightbyte(
+    out: &mut [u64],
+    at: usize,
+    class: Class,
+    up: bool,
+    offset: u64,
+    left: u64,
+) -> usize
     requires { at ≤ length out.old }
-    ensures { (result ≡ at + length (words_of (class_slot (class_of class) up offset left))) × (out.new ≡ put_at out.old at (words_of (class_slot (class_of class) up offset left))) }
+    ensures { (result ≡ at + length (words_of (class_slot class up offset left))) × (out.new ≡ put_at out.old at (words_of (class_slot class up offset left))) }
 {
-    if class == SSE_UP {
+    if class == Class::SseUp {
         return at;
     }
     slots::put_slot(out, at, slot_of(class, up, offset, left));
     at + slots::SLOT
 }
 
-fn slot_of(class: u8, up: bool, offset: u64, left: u64) -> Slot
-    ensures { result ≡ own_slot (class_of class) up offset left }
+#[tactic(auto, unfolding(eightbytes::specs::Class::code, eightbytes::specs::Class::same))]
+fn slot_of(class: Class, up: bool, offset: u64, left: u64) -> Slot
+    ensures { result ≡ own_slot class up offset left }
 {
-    if class != SSE {
-        return Slot {
+    match class {
+        Class::Sse => Slot {
+            kind: format_of(up, left),
+            offset,
+            size: 0,
+        },
+        _ => Slot {
             kind: shape::INTEGER,
             offset,
             size: shape::least(left, EIGHTBYTE),
-        };
-    }
-    Slot {
-        kind: format_of(up, left),
-        offset,
-        size: 0,
+        },
     }
 }
 

@@ -10,11 +10,12 @@ ghost use Rattle.slots.specs.Words.{written};
 ghost use Rattle.slot_writing.specs.Sources.{source_slots, scalar_slots};
 
 pub use classes::put_eightbytes;
+use eightbytes::Class;
 pub use pieces::put_pieces;
 use slots::{Slot, Source};
 
 // The slots of a decision, from where they stand: the pieces, the classes of eightbytes, a size to be cut, or one slot.
-pub fn write(source: Source, classes: [u8; 8], words: &[u64], out: &mut [u64])
+pub fn write(source: Source, classes: [Class; 8], words: &[u64], out: &mut [u64])
     ensures { out.new ≡ written (source_slots source classes (pieces_of words.now)) out.old }
 {
     match source {
@@ -35,13 +36,13 @@ pub fn write(source: Source, classes: [u8; 8], words: &[u64], out: &mut [u64])
 }
 
 // The slots of a scalar: it has no pieces and no eightbytes.
+// kept: beside `write`, so that either has one caller in an operation and is inlined there (docs/DECISIONS.md, "One path for a return")
+#[tactic(auto, using(crate::proofs::Writing::nothing_written), unfolding(crate::specs::Sources::scalar_slots))]
 pub fn write_scalar(source: Source, out: &mut [u64])
     ensures { out.new ≡ written (scalar_slots source) out.old }
 {
     match source {
-        Source::Empty => {}
-        Source::EachPiece => {}
-        Source::Classes { size: _ } => {}
+        Source::Empty | Source::EachPiece | Source::Classes { .. } => {}
         Source::Cut { size: whole, width } => {
             slots::integer_slots(whole, width, out);
         }

@@ -14,29 +14,22 @@ pub fn put_pieces(words: &[u64], out: &mut [u64])
     if words.len() / shape::PIECE > slots::room(out.len()) {
         return;
     }
-    let mut at = 0;
     let mut to = 0;
-    while words.len() - at >= shape::PIECE {
-        slots::put_slot(out, to, slot_of(shape::piece_at(words, at)));
-        at += shape::PIECE;
+    for p in shape::each_piece(words) {
+        slots::put_slot(out, to, slot_of(p));
         to += slots::SLOT;
     }
 }
 
 // A piece's own slot.
+#[tactic(auto, using(crate::proofs::EachPiece::slot_zero, crate::proofs::EachPiece::slot_sized))]
 fn slot_of(p: Piece) -> Slot
     ensures { result ≡ piece_slot p }
 {
-    if p.kind == shape::INTEGER {
-        return Slot {
-            kind: shape::INTEGER,
-            offset: p.offset,
-            size: p.size,
-        };
-    }
+    let size = if p.is_float() { 0 } else { p.size };
     Slot {
         kind: p.kind,
         offset: p.offset,
-        size: 0,
+        size,
     }
 }

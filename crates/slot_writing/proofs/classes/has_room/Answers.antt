@@ -4,6 +4,3 @@ use Rattle.slot_writing.proofs.classes.has_room.Goals as goal
 
 pub returns-then-n-room : goal.returns-then-n-room
 returns-then-n-room c = search (room_all)
-
-pub returns : goal.returns
-returns c = search (room_counted)

@@ -16,13 +16,13 @@ returns-then-not-has_room c =
 pub put_eightbyte-requires-2 : goal.put_eightbyte-requires-2
 put_eightbyte-requires-2 c =
     let a = c.args in
-    put_behind a.size a.classes _ (omega arith) (omega arith) (omega arith) _ c.room.ensures _ c.has_room.ensures c.if-not-has_room.false-raw _ _ c.put_eightbyte-next.ensures.0 c.put_eightbyte-next.ensures.1 _ (omega arith)
+    put_behind a.size a.classes _ (omega arith) (omega arith) (omega arith) _ c.room.ensures _ c.has_room.ensures c.if-not-has_room.false-raw _ c.eq-up.ensures _ _ c.put_eightbyte-next.ensures.0 c.put_eightbyte-next.ensures.1 _ (omega arith)
 
 pub returns : goal.returns
 returns c =
     let a = c.args in
     let p = c.put_eightbyte-next in
-    put_both a.size a.classes _ (omega arith) (omega arith) (omega arith) _ c.room.ensures _ c.has_room.ensures c.if-not-has_room.false-raw _ _ p.ensures.0 p.ensures.1 _ c.put_eightbyte-2.ensures.1
+    put_both a.size a.classes _ (omega arith) (omega arith) (omega arith) _ c.room.ensures _ c.has_room.ensures c.if-not-has_room.false-raw _ c.eq-up.ensures _ _ p.ensures.0 p.ensures.1 _ c.put_eightbyte-2.ensures.1
 
 pub returns-then-size-eq0 : goal.returns-then-size-eq0
 returns-then-size-eq0 c = put_empty _ _ _ (omega arith) c.if-size-eq0.true

@@ -1,25 +1,22 @@
-use mathlib.Core.Path.{refl}
+use mathlib.Core.Path.{refl, sym, ◌∙◌}
 use Rattle.slot_writing.proofs.EachPiece.{each_short, each_room, each_start, each_end, each_left, each_next}
 use native.Mathlib.Omega.{arith}
 use Rattle.slot_writing.proofs.pieces.put_pieces.Goals as goal
 
-pub loop-at-preserved : goal.loop-at-preserved
-loop-at-preserved c =
-    let l = c.loop-at.invariant in (
+pub loop-p-preserved : goal.loop-p-preserved
+loop-p-preserved c =
+    let l = c.loop-p.invariant in
+    let st = c.in-Some.ensures.steps in (
       omega arith,
-      omega arith,
-      omega (arith, each_left _ _ _ _ _ l.0 l.2 l.3 c.loop-at-test.true),
-      each_next _ _ _ _ _ l.0 l.2 l.3 c.loop-at-test.true _ c.piece_at.ensures _ c.slot_of.ensures _ c.put_slot.ensures,
+      omega (arith, each_left _ _ _ _ l.1 l.2 _ _ st),
+      each_next _ _ _ _ l.1 l.2 _ _ st _ c.slot_of.ensures _ c.put_slot.ensures,
     )
 
 pub returns-then-words-room : goal.returns-then-words-room
 returns-then-words-room c = search (each_short)
 
-pub loop-at-init : goal.loop-at-init
-loop-at-init c = (omega arith, refl, search (each_room), each_start _ _)
-
-pub shape_of-out : goal.shape_of-out
-shape_of-out c = omega arith
+pub loop-p-init : goal.loop-p-init
+loop-p-init c = (refl, rw (c.into_iter-p-iterator.ensures.into_iter_gives, c.each_piece-p-items.ensures) (search (each_room)), rw (c.into_iter-p-iterator.ensures.into_iter_gives, c.each_piece-p-items.ensures) (each_start _ _))
 
 pub returns : goal.returns
-returns c = search (each_end)
+returns c = let l = c.loop-p.invariant in each_end _ _ _ _ l.1 l.2 c.in-None.ensures.steps.0
