@@ -94,6 +94,7 @@ pub fn check_piece(p: Piece) -> Result<(), Refusal>
 }
 
 // The refusal of one scalar, by kind, size, alignment.
+// kept: a piece's offset is refused between its size and its alignment, so neither of these two is the other and a test more.
 #[tactic(auto, unfolding(crate::specs::Check::scalar_refusal))]
 pub fn check_scalar(s: Scalar) -> Result<(), Refusal>
     ensures { refusal_of result ≡ scalar_refusal s }
