@@ -32,6 +32,8 @@ pub struct Steps {
 
 // Takes the bytes of one record and writes the line that comes of it, if one does, from a place of the text on. A record of fewer bytes is
 // a short one. Nothing is done where the longest line has no room.
+// kept: three lent buffers as parameters, here and below. Behind a struct of references a call that is lent two of them has no proof: the borrow
+// checker doesn't cover it.
 pub fn take_record(
     state: State,
     bytes: &[u8],

@@ -64,6 +64,8 @@ fn are_there(n: u64, words: usize) -> bool
     (n <= slots::MOST_SLOTS as u64) & (n <= slots::room(words) as u64)
 }
 
+// kept: a buffer and a place in it as parameters, of each function that puts text. The crate text takes and answers them so, and each method of a
+// struct that held both would have to promise besides that it holds the same buffer still.
 fn print(act: Act, before: u64, answer: Answer, slots: &[u64], out: &mut [u8], at: usize) -> usize
     requires { (at + spec.longest ≤ length out.old) × (answer.outcome.slots ≤ most_slots) × (answer.outcome.slots * slot_size ≤ length slots.now) }
     ensures { Put out.old at (spec.line act before answer slots.now) result out.new }

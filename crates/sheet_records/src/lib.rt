@@ -15,6 +15,7 @@ use records::{Record, record_of};
 use shape::{Arg, Piece, Scalar, Shape};
 
 // First words, as far as they are told apart.
+// kept: an enum between a first word and its operation would name each of the three operations on a value twice more.
 const FIRST_FRESH: u64 = 0;
 
 const FIRST_MARK: u64 = 1;

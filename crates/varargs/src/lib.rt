@@ -230,6 +230,7 @@ fn overflow_start(overflow: u64, align: u64) -> u64
 }
 
 // The bytes that a size takes, in places of 8.
+// kept: here and above the rounding is written out, as `round_up` defines it: `next_multiple_of` asks besides whether a rest is left.
 #[tactic(auto, unfolding(shape::specs::Arithmetic::round_up))]
 fn rounded(size: u64) -> u64
     requires { size ≤ 16 }
