@@ -13,7 +13,7 @@ use slots::Source;
 // What a call has left: registers in each bank, and the mark. Where the mark isn't 0, floats go in integer registers alone. It is a word, so
 // that whatever C hands in is a call.
 #[repr(C)]
-#[derive(Clone, Copy)]
+#[derive(Clone, Copy, PartialEq, Eq)]
 pub struct Left {
     pub integer: u64,
     pub float: u64,
@@ -89,7 +89,7 @@ impl From<u64> for Way {
 
 // The registers that one operation passes over and gives, in each bank.
 #[repr(C)]
-#[derive(Clone, Copy)]
+#[derive(Clone, Copy, PartialEq, Eq)]
 pub struct Spent {
     pub integers_passed: u64,
     pub integers_given: u64,

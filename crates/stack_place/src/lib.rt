@@ -31,7 +31,7 @@ pub struct Area {
 
 // A value's bytes on the stack: so many from an offset on; 0 and 0 where none of it is there.
 #[repr(C)]
-#[derive(Clone, Copy)]
+#[derive(Clone, Copy, PartialEq, Eq)]
 pub struct Stacked {
     pub at: u64,
     pub bytes: u64,
