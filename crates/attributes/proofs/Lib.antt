@@ -1,4 +1,4 @@
 pub mod NameLaws
 pub mod Answered
-mod SpellingLaws
+pub mod SpellingLaws
 mod Unique

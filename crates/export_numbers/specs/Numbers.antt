@@ -1,5 +1,8 @@
 -- Calls, shapes and what is asked about, from the numbers that C and Rust hand in (REFERENCE 13).
-use Rattle.std.specs.Prelude.{ℕ, Bool, not, eqb}
+use Rattle.std.specs.Prelude.{ℕ, Bool, not, eqb, Ok, Err, Result}
+use Rattle.shape.specs.Numbers.{accepted}
+use Rattle.shape.specs.declared.refusals.Refusal.{Refusal}
+use Rattle.shape.specs.Refusals.{number_of}
 use Rattle.shape.specs.declared.Arg as args
 use Rattle.shape.specs.declared.Shape.{Shape}
 use Rattle.classify.specs.declared.Call.{Call}
@@ -33,3 +36,8 @@ aggregate_from size align complex floating = args.TheVariants.Aggregate (shape_f
 
 abbrev pub told : ℕ → ℕ → Told
 told refusal value = record { refusal = refusal; value = value }
+
+-- an answer's number, or the number of its refusal beside 0
+abbrev pub told_of : Result ℕ Refusal → Told
+told_of (Ok value) = told accepted value
+told_of (Err r) = told (number_of r) 0

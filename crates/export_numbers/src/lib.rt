@@ -3,10 +3,10 @@
 #![tactic(auto)]
 
 ghost use Rattle.std.specs.Prelude.{◌≡◌};
-ghost use Rattle.export_numbers.specs.Numbers.{call_from, shape_from};
+ghost use Rattle.export_numbers.specs.Numbers.{call_from, shape_from, told_of};
 
 use classify::Call;
-use shape::Shape;
+use shape::{Refusal, Shape};
 use spend::Left;
 
 // A refusal, or one number.
@@ -15,6 +15,24 @@ use spend::Left;
 pub struct Told {
     pub refusal: u64,
     pub value: u64,
+}
+
+// What is told of an answer: its number, or the number of the refusal beside 0.
+impl From<Result<u64, Refusal>> for Told {
+    ghost from_gives = { λ answer r. r ≡ told_of answer };
+
+    fn from(answer: Result<u64, Refusal>) -> Told {
+        match answer {
+            Ok(value) => Told {
+                refusal: shape::ACCEPTED,
+                value,
+            },
+            Err(refusal) => Told {
+                refusal: refusal.number(),
+                value: 0,
+            },
+        }
+    }
 }
 
 // A call from its description, the counts left, the mark and the stack offset.

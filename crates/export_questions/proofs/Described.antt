@@ -1,7 +1,7 @@
 -- From a description's parts and from the bytes of its row, to the numbers that are promised of it.
 use Prim.Native.Nat.{ℕ, zero, suc, ◌+◌, ◌*◌, ◌/◌, ◌%◌, ◌<◌, ◌≤◌}
-use mathlib.Core.Path.{◌≡◌, refl}
-use mathlib.Core.Bool.{Bool, true, false}
+use mathlib.Core.Path.{◌≡◌, refl, ap}
+use mathlib.Core.Bool.{Bool, true, false, cond}
 use mathlib.Core.Logic.{◌⊎◌, inl, inr, ⊎_elim}
 use mathlib.Core.List.{List, [], ◌∷◌, map}
 use native.Mathlib.Omega.{arith}
@@ -25,7 +25,7 @@ use Rattle.abis.proofs.Rows.{row_others}
 use Rattle.abis.proofs.Lists.{returns_few, arguments_few}
 use Rattle.export_questions.specs.declared.descriptions.Description.{Description}
 use Rattle.export_questions.specs.declared.descriptions.RuleNumbers.{RuleNumbers}
-use Rattle.export_questions.specs.Descriptions.{fields_of, no_description, description_answer, return_rule_answer, argument_rule_answer, rule_in, rule_numbers, rule_numbers_at}
+use Rattle.export_questions.specs.Descriptions.{fields_of, no_description, description_answer, return_rule_answer, argument_rule_answer, rule_in, rule_made, rule_told, rule_numbers, rule_numbers_at}
 
 -- ---- fields
 
@@ -82,15 +82,6 @@ module _ (abi : ℕ) (brief : Brief) (eb : brief ≡ brief_of (described abi)) (
   fields shared e1 whole e2 even e3 drains e4 by e5 stored e6 decimal e7 quad e8 pointer e9 variadic e10 stack e11 narrow e12 bits e13 cleanup e14 falls e15 =
       rw (e1, e2, e3, e4, e5, e6, e7, e8, e9, e10, e11, e12, e13, e14, e15, eb, e_o)
 
-module _ (abi : ℕ) (r : Description) where
-  pub description_none : description_count ≤ abi → r ≡ no_description → r ≡ description_answer abi
-  unfolding description_answer
-  description_none h e = rw (le-leb description_count abi h) e
-
-  pub description_some : abi < description_count → r ≡ fields_of (described abi) → r ≡ description_answer abi
-  unfolding description_answer
-  description_some h e = rw (lt-leb description_count abi h) e
-
 -- ---- rules
 
 -- The way of travel and what happens when short, out of the byte that they share.
@@ -122,32 +113,15 @@ module _ (row : List ℕ) (first : ℕ) (rules : List Rule) (few : length rules 
       (λ (h : i < 4). rw (lt-leb 4 i h, (there i h).0, (there i h).1, (there i h).2, way_travels rules i, way_shorts rules i))
       (past_or_not i (leb 4 i) refl)
 
-module _ (row : List ℕ) (first : ℕ) (i : ℕ) (r : RuleNumbers) where
-  pub rule_past : 4 ≤ i → r ≡ rule_numbers accepted 0 0 0 → r ≡ rule_numbers_at row first i
-  unfolding rule_numbers_at
-  rule_past h e = rw (le-leb 4 i h) e
+-- rule i of a list, from the row of its description
+pub return_rule_read : (abi i : ℕ) → rule_told abi 8 i ≡ return_rule_answer abi i
+unfolding return_rule_answer
+return_rule_read abi i =
+    ap (λ (r : RuleNumbers). cond (leb description_count abi) (rule_made bad_abi 0 0 0 0) r)
+    (rule_read (encode (described abi)) 8 (described abi).returns (returns_few abi) (returns_there (described abi)) i)
 
-  pub rule_there : i < 4 → r ≡ rule_numbers accepted (get_or row (first + 3 * i) 0) (get_or row (first + 3 * i + 1) 0) (get_or row (first + 3 * i + 2) 0) → r ≡ rule_numbers_at row first i
-  unfolding rule_numbers_at
-  rule_there h e = rw (lt-leb 4 i h) e
-
-module _ (abi : ℕ) (i : ℕ) (r : RuleNumbers) where
-  module _ (h : description_count ≤ abi) (e : r ≡ rule_numbers bad_abi 0 0 0) where
-    pub return_rule_none : r ≡ return_rule_answer abi i
-    unfolding return_rule_answer
-    return_rule_none = rw (le-leb description_count abi h) e
-
-    pub argument_rule_none : r ≡ argument_rule_answer abi i
-    unfolding argument_rule_answer
-    argument_rule_none = rw (le-leb description_count abi h) e
-
-  module _ (h : abi < description_count) (row : List ℕ) (er : row ≡ encode (described abi)) where
-    pub return_rule_some : r ≡ rule_numbers_at row 8 i → r ≡ return_rule_answer abi i
-    unfolding return_rule_answer
-    return_rule_some e =
-        rw (lt-leb description_count abi h, e, er) (rule_read (encode (described abi)) 8 (described abi).returns (returns_few abi) (returns_there (described abi)) i)
-
-    pub argument_rule_some : r ≡ rule_numbers_at row 20 i → r ≡ argument_rule_answer abi i
-    unfolding argument_rule_answer
-    argument_rule_some e =
-        rw (lt-leb description_count abi h, e, er) (rule_read (encode (described abi)) 20 (described abi).arguments (arguments_few abi) (arguments_there (described abi)) i)
+pub argument_rule_read : (abi i : ℕ) → rule_told abi 20 i ≡ argument_rule_answer abi i
+unfolding argument_rule_answer
+argument_rule_read abi i =
+    ap (λ (r : RuleNumbers). cond (leb description_count abi) (rule_made bad_abi 0 0 0 0) r)
+    (rule_read (encode (described abi)) 20 (described abi).arguments (arguments_few abi) (arguments_there (described abi)) i)

@@ -1,2 +1,3 @@
 mod Described
+mod Looked
 mod Unique

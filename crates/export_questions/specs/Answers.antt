@@ -1,11 +1,9 @@
 -- What the entries that ask answer, as numbers (REFERENCE 13.2 to 13.6).
 use Rattle.std.specs.Prelude.{ℕ}
 use Rattle.shape.specs.Numbers.{one_if}
-use Rattle.text.specs.declared.Written.{Written}
-use Rattle.layouts.specs.declared.Placed.{Placed}
-use Rattle.layouts.specs.declared.Recorded.{Recorded}
-use Rattle.abis.specs.declared.Asked.{Asked}
-use Rattle.abis.specs.declared.AskedFormat.{AskedFormat}
+use Rattle.text.specs.Text.{Written}
+use Rattle.layouts.specs.Answers.{Placed, Recorded}
+use Rattle.abis.specs.Answers.{Asked, AskedFormat}
 use Rattle.classify.specs.declared.InMemory.{InMemory}
 use Rattle.export_numbers.specs.declared.Told.{Told}
 use Rattle.export_numbers.specs.Numbers.{told}

@@ -4,6 +4,7 @@ use Rattle.shape.specs.Numbers.{accepted, bad_abi, one_if}
 use Rattle.describe.specs.declared.Rule.{Rule}
 use Rattle.describe.specs.Description as described
 use Rattle.rows.specs.Codes.{test_code, test_number, travel_code, short_code, return_pointer_code, variadic_code, stack_args_code, narrow_code, bit_ints_code, cleanup_code}
+use Rattle.rows.specs.Row.{encode}
 use Rattle.abis.specs.Abis as abis
 use Rattle.export_questions.specs.declared.descriptions.Description.{Description}
 use Rattle.export_questions.specs.declared.descriptions.RuleNumbers.{RuleNumbers}
@@ -93,3 +94,6 @@ unfoldable pub rule_numbers_at : List ℕ → ℕ → ℕ → RuleNumbers
 rule_numbers_at row first i =
     cond (leb 4 i) (rule_numbers accepted 0 0 0)
     (rule_numbers accepted (get_or row (first + 3 * i) 0) (get_or row (first + 3 * i + 1) 0) (get_or row (first + 3 * i + 2) 0))
+
+abbrev pub rule_told : ℕ → ℕ → ℕ → RuleNumbers
+rule_told abi first i = cond (leb abis.description_count abi) (rule_made bad_abi 0 0 0 0) (rule_numbers_at (encode (abis.described abi)) first i)

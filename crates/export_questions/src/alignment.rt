@@ -22,12 +22,8 @@ pub fn barkpaddle_in_memory(
     ensures { result ≡ align_told (in_memory_answer (call_from abi integer float integers_only stack) (shape_from size align complex floating) words.now) }
 {
     let call = export_numbers::call_from(abi, integer, float, integers_only, stack);
-    let answer = call.in_memory(
+    Told::from(call.in_memory(
         export_numbers::shape_from(size, align, complex, floating),
         words,
-    );
-    Told {
-        refusal: answer.refusal,
-        value: answer.align,
-    }
+    ))
 }

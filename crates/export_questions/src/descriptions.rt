@@ -3,14 +3,16 @@ ghost use Rattle.std.specs.Prelude.{◌≡◌, ◌≤◌, length};
 ghost use Rattle.abis.specs.Abis.{described};
 ghost use Rattle.abis.specs.Answers.{is_by_reference_answer, returns_by_reference_answer, wide_returns_in_answer, name_answer, name_written};
 ghost use Rattle.export_questions.specs.Answers.{yes_told, format_told, length_told};
-ghost use Rattle.export_questions.specs.Descriptions.{description_answer, return_rule_answer, argument_rule_answer, fields_of, no_description, rule_numbers_at, rule_numbers};
+ghost use Rattle.export_questions.specs.Descriptions.{description_answer, return_rule_answer, argument_rule_answer, fields_of, rule_told, rule_numbers_at, rule_numbers};
+ghost use Rattle.shape.specs.Numbers.{accepted};
 
+use describe::{Others, Terms};
 use export_numbers::Told;
 use rows::WIDTH;
 
 // A refusal, or the fields of a description: banks, scalar rules, and the fields beside them; a field that came later stands last.
 #[repr(C)]
-#[derive(Clone, Copy)]
+#[derive(Clone, Copy, Default)]
 pub struct Description {
     pub refusal: u64,
     pub integer: u64,
@@ -39,7 +41,7 @@ pub struct Description {
 // A refusal, or a rule: its test, the test's number, the way of travel, and what happens when short. All zeros past the end of a list: no test
 // has the number 0.
 #[repr(C)]
-#[derive(Clone, Copy)]
+#[derive(Clone, Copy, Default)]
 pub struct RuleNumbers {
     pub refusal: u64,
     pub test: u64,
@@ -49,94 +51,78 @@ pub struct RuleNumbers {
 }
 
 // The fields of a description.
+#[tactic(auto, unfolding(crate::specs::Descriptions::description_answer))]
 pub fn barkpaddle_description(abi: u64) -> Description
     ensures { result ≡ description_answer abi }
 {
     if abi >= abis::DESCRIPTIONS {
-        return no_description();
+        return Description {
+            refusal: shape::BAD_ABI,
+            ..Description::default()
+        };
     }
     fields_of(abi)
 }
 
 // Rule `index` of a description's list for returns.
+#[tactic(auto, using(crate::proofs::Described::return_rule_read))]
 pub fn barkpaddle_return_rule(abi: u64, index: u64) -> RuleNumbers
     ensures { result ≡ return_rule_answer abi index }
 {
-    if abi >= abis::DESCRIPTIONS {
-        return rule_numbers(shape::BAD_ABI, 0, 0, 0);
-    }
-    rule_at(abis::row(abi), rows::RETURNS, index)
+    rule_of(abi, rows::RETURNS, index)
 }
 
 // Rule `index` of a description's list for arguments.
+#[tactic(auto, using(crate::proofs::Described::argument_rule_read))]
 pub fn barkpaddle_argument_rule(abi: u64, index: u64) -> RuleNumbers
     ensures { result ≡ argument_rule_answer abi index }
 {
-    if abi >= abis::DESCRIPTIONS {
-        return rule_numbers(shape::BAD_ABI, 0, 0, 0);
-    }
-    rule_at(abis::row(abi), rows::ARGUMENTS, index)
+    rule_of(abi, rows::ARGUMENTS, index)
 }
 
 // A description's name, at the front of the buffer; how many bytes.
 pub fn barkpaddle_name(abi: u64, name: &mut [u8]) -> Told
     ensures { (result ≡ length_told (name_answer abi (length name.old))) × (name.new ≡ name_written abi name.old) }
 {
-    let written = abis::name(abi, name);
-    Told {
-        refusal: written.refusal,
-        value: written.length,
-    }
+    Told::from(abis::name(abi, name).map(|length| length as u64))
 }
 
 // Whether a scalar of this size travels as the address of a copy.
 pub fn barkpaddle_scalar_is_by_reference(abi: u64, size: u64) -> Told
     ensures { result ≡ yes_told (is_by_reference_answer abi size) }
 {
-    yes_or_no(abis::scalar_is_by_reference(abi, size))
+    Told::from(abis::scalar_is_by_reference(abi, size).map(u64::from))
 }
 
 // Whether a scalar of this size comes back through the address that the caller passes.
 pub fn barkpaddle_scalar_returns_by_reference(abi: u64, size: u64) -> Told
     ensures { result ≡ yes_told (returns_by_reference_answer abi size) }
 {
-    yes_or_no(abis::scalar_returns_by_reference(abi, size))
+    Told::from(abis::scalar_returns_by_reference(abi, size).map(u64::from))
 }
 
 // The format in which an integer of this size comes back where it is by reference otherwise, or 0 for none.
 pub fn barkpaddle_wide_integer_returns_in(abi: u64, size: u64) -> Told
     ensures { result ≡ format_told (wide_returns_in_answer abi size) }
 {
-    let asked = abis::wide_integer_returns_in(abi, size);
-    Told {
-        refusal: asked.refusal,
-        value: asked.format,
-    }
-}
-
-fn yes_or_no(asked: abis::Asked) -> Told
-    ensures { result ≡ yes_told asked }
-{
-    Told {
-        refusal: asked.refusal,
-        value: shape::one_if(asked.answer),
-    }
+    Told::from(abis::wide_integer_returns_in(abi, size))
 }
 
 fn fields_of(abi: u64) -> Description
     ensures { result ≡ fields_of (described abi) }
 {
-    let brief = abis::read(abi);
-    let others = rows::others_of(abis::row(abi));
-    let terms = brief.terms;
-    let banks = terms.banks;
-    let scalars = terms.scalars;
-    let pointer = terms.return_pointer;
-    let variadic = terms.variadic;
-    let stack = terms.stack_args;
-    let narrow = others.narrow;
-    let bits = others.bit_ints;
-    let cleanup = others.cleanup;
+    let Terms {
+        banks,
+        scalars,
+        return_pointer,
+        variadic,
+        stack_args,
+    } = abis::read(abi).terms;
+    let Others {
+        narrow,
+        bit_ints,
+        cleanup,
+    } = rows::others_of(abis::row(abi));
     Description {
         refusal: shape::ACCEPTED,
         integer: banks.integer,
@@ -153,66 +139,51 @@ fn fields_of(abi: u64) -> Description
         wide_integer_in_memory: shape::one_if(scalars.wide_integer_in_memory),
         decimal_in_integers: shape::one_if(scalars.decimal_in_integers),
         quad_returns_by_reference: shape::one_if(scalars.quad_returns_by_reference),
-        return_pointer: rows::return_pointer_number(pointer),
+        return_pointer: rows::return_pointer_number(return_pointer),
         variadic: rows::variadic_number(variadic),
-        stack_args: rows::stack_args_number(stack),
+        stack_args: rows::stack_args_number(stack_args),
         narrow: rows::narrow_number(narrow),
-        bit_ints: rows::bit_ints_number(bits),
+        bit_ints: rows::bit_ints_number(bit_ints),
         cleanup: rows::cleanup_number(cleanup),
         float_falls_to_integers: shape::one_if(scalars.float_falls_to_integers),
     }
 }
 
-fn no_description() -> Description
-    ensures { result ≡ no_description }
+// Rule `index` of the list whose first byte stands at `first` of a description's row.
+fn rule_of(abi: u64, first: usize, index: u64) -> RuleNumbers
+    requires { first ≤ 20 }
+    ensures { result ≡ rule_told abi first index }
 {
-    Description {
-        refusal: shape::BAD_ABI,
-        integer: 0,
-        float: 0,
-        shared: 0,
-        integer_width: 0,
-        float_width: 0,
-        in_memory: 0,
-        wide_integer_is_all_or_nothing: 0,
-        wide_integer_starts_even: 0,
-        wide_integer_drains: 0,
-        wide_is_by_reference: 0,
-        wide_integer_returns_in: 0,
-        wide_integer_in_memory: 0,
-        decimal_in_integers: 0,
-        quad_returns_by_reference: 0,
-        return_pointer: 0,
-        variadic: 0,
-        stack_args: 0,
-        narrow: 0,
-        bit_ints: 0,
-        cleanup: 0,
-        float_falls_to_integers: 0,
+    if abi >= abis::DESCRIPTIONS {
+        return RuleNumbers {
+            refusal: shape::BAD_ABI,
+            ..RuleNumbers::default()
+        };
     }
+    rule_at(abis::row(abi), first, index)
 }
 
-// Rule `index` of the list whose first byte stands at `first`.
+#[tactic(auto, unfolding(crate::specs::Descriptions::rule_numbers_at))]
 fn rule_at(row: [u8; WIDTH], first: usize, index: u64) -> RuleNumbers
     requires { first ≤ 20 }
     ensures { result ≡ rule_numbers_at row first index }
 {
     if index >= rows::RULES {
-        return rule_numbers(shape::ACCEPTED, 0, 0, 0);
+        return RuleNumbers::default();
     }
     let at = first + 3 * (index as usize);
-    rule_numbers(shape::ACCEPTED, row[at], row[at + 1], row[at + 2])
+    rule_numbers(row[at], row[at + 1], row[at + 2])
 }
 
 // A rule from its three bytes: the way of travel and what happens when short share the third.
-fn rule_numbers(refusal: u64, test: u8, number: u8, way: u8) -> RuleNumbers
-    ensures { result ≡ rule_numbers refusal test number way }
+fn rule_numbers(test: u8, number: u8, way: u8) -> RuleNumbers
+    ensures { result ≡ rule_numbers accepted test number way }
 {
     RuleNumbers {
-        refusal,
-        test: test as u64,
-        number: number as u64,
-        travel: (way % 8) as u64,
-        short: (way / 8) as u64,
+        refusal: shape::ACCEPTED,
+        test: u64::from(test),
+        number: u64::from(number),
+        travel: u64::from(way % 8),
+        short: u64::from(way / 8),
     }
 }

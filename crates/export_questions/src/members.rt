@@ -8,7 +8,7 @@ use export_numbers::Told;
 
 // A refusal, or the shape of a record.
 #[repr(C)]
-#[derive(Clone, Copy)]
+#[derive(Clone, Copy, Default)]
 pub struct RecordNumbers {
     pub refusal: u64,
     pub size: u64,
@@ -21,24 +21,24 @@ pub struct RecordNumbers {
 pub fn barkpaddle_pieces(members: &[u64], pieces: &mut [u64]) -> Told
     ensures { (result ≡ count_told (pieces_answer members.now pieces.old)) × (pieces.new ≡ pieces_written members.now pieces.old) }
 {
-    let answer = layouts::pieces(members, pieces);
-    Told {
-        refusal: answer.refusal,
-        value: answer.count,
-    }
+    Told::from(layouts::pieces(members, pieces))
 }
 
 // The record that these pieces make.
 pub fn barkpaddle_record(words: &[u64]) -> RecordNumbers
     ensures { result ≡ record_numbers (record_answer words.now) }
 {
-    let answer = layouts::record(words);
-    let shape = answer.shape;
-    RecordNumbers {
-        refusal: answer.refusal,
-        size: shape.size,
-        align: shape.align,
-        complex: shape::one_if(shape.complex),
-        floating: shape::one_if(shape.floating),
+    match layouts::record(words) {
+        Ok(shape) => RecordNumbers {
+            refusal: shape::ACCEPTED,
+            size: shape.size,
+            align: shape.align,
+            complex: u64::from(shape.complex),
+            floating: u64::from(shape.floating),
+        },
+        Err(refusal) => RecordNumbers {
+            refusal: refusal.number(),
+            ..RecordNumbers::default()
+        },
     }
 }

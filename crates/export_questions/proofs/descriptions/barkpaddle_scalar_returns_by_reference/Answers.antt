@@ -1,5 +1,0 @@
--- `barkpaddle_scalar_returns_by_reference` hands on what `scalar_returns_by_reference` answers.
-use Rattle.export_questions.proofs.descriptions.barkpaddle_scalar_returns_by_reference.Goals as goal
-
-pub returns : goal.returns
-returns c = cc
