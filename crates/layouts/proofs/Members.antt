@@ -73,18 +73,19 @@ module _ (total : List ℕ) (to end : ℕ) (left : List Scalar) (out : List ℕ)
         let f = fits s here.0 in
         omega (arith, first, rounded_up, f.size≤, f.align≤, round_bound end (max s.align 1) (omega arith))
 
-    pub next_written : (out' : List ℕ) → out' ≡ put_at out to (piece_words (piece s.kind s.size s.align o)) → Writing total (to + 4) (o + s.size) rest out'
+    pub next_written : (p : Piece) → p ≡ piece s.kind s.size s.align o → (out' : List ℕ) → out' ≡ put_at out to (piece_words p)
+        → Writing total (to + 4) (o + s.size) rest out'
     unfolding placed pieces_words
-    next_written out' eo' =
+    next_written p ep out' eo' =
         let r : to + 4 * suc (length rest) ≤ length out = rw e at w.room in
-        let p : List ℕ = piece_words (piece s.kind s.size s.align o) in
         record {
           near = next_near;
           ok = here.1;
-          room = rw eo' (omega (arith, length_put out to p (omega arith)));
+          room = rw eo' (omega (arith, length_put out to (piece_words p) (omega arith)));
           words =
-              rw (w.words, e, ← rounded_up, eo')
-              (put_split out to p (pieces_words (placed (o + s.size) rest)) (omega (arith, room_words (o + s.size) rest)));
+              rw (w.words, e, ← rounded_up, eo', ep)
+              (put_split out to (piece_words (piece s.kind s.size s.align o)) (pieces_words (placed (o + s.size) rest))
+              (omega (arith, room_words (o + s.size) rest)));
         }
 
 or_refused : (n : ℕ) → (n ≡ accepted → ⊥) → (rest : Placed) → ◌≡◌ {A = Placed} (record { refusal = n; count = 0 }) (or_placed n rest)

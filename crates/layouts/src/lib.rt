@@ -10,7 +10,7 @@ ghost use Rattle.layouts.specs.Members.{members_refusal, pieces_answer, pieces_w
 ghost use Rattle.layouts.specs.Record.{largest_align, furthest_end, is_floating, record_answer};
 
 use checks::{MOST_OFFSET, MOST_PIECES, check_list, check_pieces, check_scalar};
-use shape::{PIECE, Piece, Refusal, SCALAR, Shape, each_piece, each_scalar, put_piece, round_up};
+use shape::{PIECE, Refusal, SCALAR, Shape, each_piece, each_scalar, put_piece, round_up};
 
 // How many pieces were written: each member at the next offset that it fits, as pieces at the front of the buffer. A refusal writes nothing.
 #[tactic(auto, using(crate::proofs::Members::pieces_laws))]
@@ -28,16 +28,7 @@ pub fn pieces(members: &[u64], out: &mut [u64]) -> Result<u64, Refusal>
     let mut end = 0;
     for s in each_scalar(members) {
         let offset = round_up(end, s.align);
-        put_piece(
-            out,
-            to,
-            Piece {
-                kind: s.kind,
-                size: s.size,
-                align: s.align,
-                offset,
-            },
-        );
+        put_piece(out, to, s.at(offset));
         end = offset + s.size;
         to += PIECE;
     }

@@ -14,6 +14,7 @@ use Rattle.shape.proofs.scalar_at.Reads as scalar_at
 use Rattle.shape.proofs.Scalar.integer.Reads as scalar_integer
 use Rattle.shape.proofs.Scalar.float.Reads as scalar_float
 use Rattle.shape.proofs.Scalar.is_float.Reads as scalar_is_float
+use Rattle.shape.proofs.Scalar.at.Reads as scalar_as_piece
 use Rattle.shape.proofs.Piece.is_float.Reads as piece_is_float
 use Rattle.shape.proofs.Piece.end.Reads as piece_end
 use Rattle.shape.proofs.least.Reads as least
@@ -61,6 +62,9 @@ scalar_float_decides κs a r q s t p p' = p ∙ sym p'
 
 scalar_is_float_decides : (κs : Lfts 0) → OneAnswer (scalar_is_float.Post κs)
 scalar_is_float_decides κs a r q s t p p' = p ∙ sym p'
+
+scalar_as_piece_decides : (κs : Lfts 0) → OneAnswer (scalar_as_piece.Post κs)
+scalar_as_piece_decides κs a r q s t p p' = p ∙ sym p'
 
 piece_is_float_decides : (κs : Lfts 0) → OneAnswer (piece_is_float.Post κs)
 piece_is_float_decides κs a r q s t p p' = p ∙ sym p'

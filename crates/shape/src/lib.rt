@@ -6,7 +6,7 @@ ghost use Rattle.std.specs.Prelude.{◌≡◌, ◌-◌, ◌<◌, ◌≤◌, min,
 ghost use native.Mathlib.Omega.{arith};
 ghost use Rattle.shape.specs.Numbers.{one_if};
 ghost use Rattle.shape.specs.Arithmetic.{plus, times, rounded};
-ghost use Rattle.shape.specs.Words.{pieces_of, pieces_left, scalars_of, scalars_left, piece_from, scalar_from, piece_at, scalar_at, put_at, piece_size, piece_words};
+ghost use Rattle.shape.specs.Words.{piece, pieces_of, pieces_left, scalars_of, scalars_left, piece_from, scalar_from, piece_at, scalar_at, put_at, piece_size, piece_words};
 ghost use Rattle.shape.specs.Questions.{integer_of, float_of, is_float, end_of, is_all_of};
 ghost use Rattle.shape.specs.Refusals.{number_of};
 ghost use Rattle.std.specs.Iterator.{YieldsFirst, item_count};
@@ -104,6 +104,18 @@ impl Scalar {
         ensures { result ≡ is_float self.kind }
     {
         self.kind != INTEGER
+    }
+
+    // The piece that this scalar is at an offset.
+    pub fn at(self, offset: u64) -> Piece
+        ensures { result ≡ piece self.kind self.size self.align offset }
+    {
+        Piece {
+            kind: self.kind,
+            size: self.size,
+            align: self.align,
+            offset,
+        }
     }
 }
 

@@ -15,7 +15,7 @@ overflow_add-end c =
 
 pub loop-s-preserved : goal.loop-s-preserved
 loop-s-preserved c =
-    next_written _ _ _ _ _ c.loop-s.invariant _ _ c.in-Some.ensures.steps _ c.round_up-offset.ensures _ c.put_piece.ensures.1
+    next_written _ _ _ _ _ c.loop-s.invariant _ _ c.in-Some.ensures.steps _ c.round_up-offset.ensures _ c.at.ensures _ c.put_piece.ensures.1
 
 pub returns-clause-words : goal.returns-clause-words
 returns-clause-words c = written_end _ _ _ _ _ c.loop-s.invariant c.in-None.ensures.steps.0
