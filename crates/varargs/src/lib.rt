@@ -102,6 +102,8 @@ fn bytes_at<'a>(area: &'a [u8], start: u64, count: u64) -> &'a [u8]
 }
 
 // Where the next scalar of a list stands: of the two areas only the lengths matter.
+// kept: offsets and scalar as two parameters. A list keeps the one from read to read and is asked about the other, and what a struct of both would
+// spare, two functions below, it would cost where it is made.
 pub fn find<'a>(
     save: &'a [u8],
     overflow: &'a [u8],
