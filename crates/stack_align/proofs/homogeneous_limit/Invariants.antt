@@ -5,7 +5,4 @@ use Rattle.stack_align.specs.Limits.{list_limit}
 use Rattle.stack_align.proofs.homogeneous_limit.Given as goal
 
 abbrev pub invariant-loop-rules : goal.invariant-loop-rules
-invariant-loop-rules l = list_limit (listed l.initial.rules) ≡ list_limit (listed l.rules)
-
-abbrev pub decreases-loop-rules : goal.decreases-loop-rules
-decreases-loop-rules l = l.rules.tests
+invariant-loop-rules l = list_limit (listed l.initial.rules-iterator) ≡ list_limit (listed l.rules-iterator)

@@ -1,12 +1,19 @@
--- `packed_align` answers the alignment in a packed area.
-use Rattle.stack_align.proofs.Aligned.{packed_none, packed_homogeneous, packed_other}
+-- `packed_align` answers the alignment in a packed area, by what was found.
+use mathlib.Core.Path.{sym, ◌∙◌}
+use Rattle.stack_align.proofs.Aligned.{packed_without, packed_homogeneous, packed_other, some_none}
 use Rattle.stack_align.proofs.packed_align.Goals as goal
+use Rattle.stack_align.proofs.packed_align.Goals.{in-Some, in-None}
 
-pub returns-in_default : goal.returns-in_default
-returns-in_default c = search (packed_none)
+pub returns-in-Some-found : goal.returns-in-Some-found
+returns-in-Some-found c =
+    elim c.match-homogeneous_limit.branch [
+      | in-Some w ↦ packed_homogeneous _ _ _ _ _ (w.in-Some.ensures) _ (sym c.in-Some-found.is ∙ w.found-is ∙ w.homogeneous-found.ensures)
+      | in-None w ↦ absurd (some_none _ (sym c.in-Some-found.is ∙ w.found-is))
+    ]
 
-pub returns-in-Slots : goal.returns-in-Slots
-returns-in-Slots c = search (packed_homogeneous)
-
-pub returns-in-Nothing : goal.returns-in-Nothing
-returns-in-Nothing c = search (packed_other)
+pub returns-in-None-found : goal.returns-in-None-found
+returns-in-None-found c =
+    elim c.match-homogeneous_limit.branch [
+      | in-Some w ↦ packed_other _ _ _ _ _ (w.in-Some.ensures) _ c.most.ensures (sym c.in-None-found.is ∙ w.found-is ∙ w.homogeneous-found.ensures)
+      | in-None w ↦ packed_without _ _ _ _ _ c.most.ensures (w.in-None.ensures)
+    ]
