@@ -1,11 +1,11 @@
 -- The laws of what concerns one class, by its cases, and what the code's own tests of classes say.
-use mathlib.Core.Path.{◌≡◌, refl, sym, ap₂, ◌∙◌}
+use mathlib.Core.Path.{◌≡◌, refl, ap₂, ◌∙◌}
 use mathlib.Core.Bool.{Bool, true, false, cond, not, ◌||◌, false≢true}
 use denote.Enum.Bare.{sameb, same_true}
 use denote.Enum.Declared.{tag_of}
 use lib.Dec.{eqb}
 use Rattle.eightbytes.specs.contracts.Class.{the_type}
-use Rattle.eightbytes.specs.Class.{Class, None, Integer, Sse, SseUp, X87, Memory, code, same, later, mended, is_plain}
+use Rattle.eightbytes.specs.Class.{Class, None, Integer, Sse, SseUp, X87, Memory, code, same, mended, is_plain}
 
 -- the equality that the code derives
 tag_code : (c : Class) → tag_of the_type c ≡ code c

@@ -12,7 +12,7 @@ use lib.ListN.{length, get_or, take, drop, replicate, length-take, take-append-d
 use Rattle.shape.specs.Numbers.{one_if}
 use Rattle.slots.specs.Search.{counted, found_of}
 use Rattle.eightbytes.specs.contracts.Class.{the_type}
-use Rattle.eightbytes.specs.Class.{Class, None, Sse, SseUp, code, same, is_plain}
+use Rattle.eightbytes.specs.Class.{Class, None, Sse, code, same, is_plain}
 use Rattle.eightbytes.specs.Eightbytes.{spoiled, mend, settled, slots_found, eight_of, slot_count}
 use Rattle.eightbytes.proofs.OneClass.{same_is, plain_mended, plain_spoils, plain_up}
 use Rattle.eightbytes.proofs.Counts.{sses_in, slots_length, slots_floats}

@@ -8,7 +8,6 @@ use Rattle.slots.specs.Search.{counted, found_of, Search, found}
 use Rattle.describe.specs.declared.Banks.{Banks}
 use Rattle.describe.specs.declared.Test.{Test}
 use Rattle.describe.specs.declared.Test.TheVariants.{Anything, Empty, SizeOneOf, SizeAtMost, Homogeneous, FloatPair, X87Stack, LoneFloat, FloatingMode, ComplexFloat, Eightbytes}
-use Rattle.eightbytes.specs.Class.{same}
 use Rattle.eightbytes.specs.declared.Class.{Class}
 use Rattle.eightbytes.specs.declared.Class.TheVariants.{None}
 use Rattle.eightbytes.specs.Eightbytes as eight

@@ -1,4 +1,3 @@
-use mathlib.Core.Path.{sym, ◌∙◌}
 use Rattle.stack_align.proofs.Aligned.{limit_none, limit_next, limit_here}
 use Rattle.stack_align.proofs.homogeneous_limit.Goals as goal
 

@@ -1,4 +1,4 @@
-use mathlib.Core.Path.{refl, sym, ◌∙◌}
+use mathlib.Core.Path.{refl}
 use Rattle.slot_writing.proofs.EachPiece.{each_short, each_room, each_start, each_end, each_left, each_next}
 use native.Mathlib.Omega.{arith}
 use Rattle.slot_writing.proofs.pieces.put_pieces.Goals as goal
