@@ -20,6 +20,7 @@ use Rattle.describe.specs.declared.Test.{Test}
 use Rattle.describe.specs.Description.{Description, terms_of}
 use Rattle.describe.specs.Dots.{as_fixed, dots_of}
 use Rattle.spend.specs.declared.Left.{Left}
+use Rattle.spend.specs.declared.Decision.{Decision}
 use Rattle.spend.specs.declared.Wanted.{Wanted}
 use Rattle.spend.specs.Ways.{marked, way_number, MemoryIsGivenNothing}
 use Rattle.spend.specs.Spending.{travel_of}

@@ -1,21 +1,24 @@
 -- The laws of the operations: what decides a value, and from there to the answer and the buffer that are promised.
 use Prim.Native.Nat.{ℕ, zero, suc, ◌-◌, ◌/◌, ◌≤◌, ◌<◌}
-use mathlib.Core.Path.{◌≡◌, refl, sym, ◌∙◌}
+use mathlib.Core.Path.{◌≡◌, refl, ◌∙◌}
 use mathlib.Core.List.{List, []}
 use mathlib.Core.Bool.{Bool, true, false, ◌&&◌, ◌||◌, not, cond}
 use native.Mathlib.Omega.{arith}
 use borrow.Author.Tests.{le-ltb}
 use lib.Dec.{eqb, leb, ltb}
 use lib.ListN.{length}
+use Rattle.std.specs.Prelude.{Ok, Err}
 use Rattle.shape.specs.declared.Arg as args
 use Rattle.shape.specs.declared.Scalar.{Scalar}
 use Rattle.shape.specs.declared.Shape.{Shape}
 use Rattle.shape.specs.declared.Piece.{Piece}
+use Rattle.shape.specs.declared.refusals.Refusal.{Refusal}
+use Rattle.shape.specs.Refusals.{number_of}
 use Rattle.shape.specs.Numbers.{accepted, bad_abi, no_room, integer}
 use Rattle.shape.specs.Questions.{is_float}
 use Rattle.shape.specs.Words.{pieces_of}
 use Rattle.checks.specs.Check.{or_else, unless_refused}
-use Rattle.checks.proofs.Check.{left_alone}
+use Rattle.checks.proofs.Check.{number_leaves}
 use Rattle.slots.specs.declared.Slot.{Slot}
 use Rattle.slots.specs.Words.{slot_size, written}
 use Rattle.describe.specs.declared.Banks.{Banks}
@@ -45,15 +48,18 @@ use Rattle.spend.specs.Ways.{marked, with_mark}
 use Rattle.spend.specs.Spending.{want_of, by_pointer}
 use Rattle.spend_scalar.specs.Spending.{skip_of, integer_argument, scalar_in_registers, scalar_argument, scalar_return}
 use Rattle.after_dots.specs.AfterDots.{skipped_for, left_for, settled_for}
+use Rattle.eightbytes.specs.declared.Class.{Class}
 use Rattle.find.specs.Matches.{no_classes}
 use Rattle.slot_writing.specs.Sources.{source_slots, scalar_slots}
 use Rattle.slot_writing.proofs.Writing.{nothing_written}
-use Rattle.stack_place.specs.Stacked.{Placed}
-use Rattle.stack_place.specs.Stacked.{behind}
+use Rattle.stack_place.specs.declared.Place.{Place}
+use Rattle.stack_place.specs.Stacked.{Placed, told, behind}
 use Rattle.stack_place.proofs.Placing.{no_length}
 use Rattle.classify.specs.declared.Call.{Call}
 use Rattle.classify.specs.declared.Answer.{Answer}
 use Rattle.classify.specs.declared.Decided.{Decided}
+use Rattle.classify.specs.declared.Role.{Role}
+use Rattle.classify.specs.declared.Role.TheVariants.{Return, Argument, VariadicArgument}
 use Rattle.classify.specs.Classify as rust
 use Rattle.classify.specs.Classify.{Passed}
 use Rattle.classify.specs.Spending as rules
@@ -61,30 +67,10 @@ use Rattle.classify.specs.Answers.{state_refusal, arg_refusal, checked, call_ref
 use Rattle.classify.specs.Stacking.{stacked_of}
 use Rattle.classify.specs.Parts as parts
 use Rattle.classify.proofs.Accepted.{sound, call_checked, unmarked, alone_unmarked}
-use Rattle.classify.proofs.Steps.{row_there, row_missing, or_refused, slots_short, slots_fit}
+use Rattle.classify.proofs.Steps.{row_there, row_missing, or_refused, slots_short, slots_fit, stack_short, stack_fits}
 use Rattle.classify.proofs.Agree.{Agrees, slots_for, argument_agrees, returns_agrees, variadic_argument_agrees}
 
 -- ---- what decides a value
-
-otherwise : (b : Bool) (d e : Decision) → b ≡ false → cond b d e ≡ e
-otherwise b d e h = rw h
-
-module _ (T : Terms) (returning : Bool) (dots : Dots) (left : Left) (s : Scalar) (r : Decision) where
-  pub scalar_back : returning ≡ true → r ≡ scalar_return T.scalars T.return_pointer left s → r ≡ rules.scalar_by T returning dots left s
-  unfolding rules.scalar_by
-  scalar_back h er = rw (er, h)
-
-  module _ (h : returning ≡ false) where
-    pub scalar_memory : dots.emptied ≡ true → r ≡ made.plain ways.TheVariants.Direct made.nothing → r ≡ rules.scalar_by T returning dots left s
-    unfolding rules.scalar_by
-    scalar_memory z er = rw (er, h, z)
-
-    pub scalar_out : dots.emptied ≡ false → (n : ℕ) → n ≡ skipped_for dots T.banks left s.size s.align → (l : Left) → l ≡ left_for dots n left
-        → (d : Decision) → d ≡ scalar_argument T.banks T.scalars l s → r ≡ settled_for dots left.integer n d → r ≡ rules.scalar_by T returning dots left s
-    unfolding rules.scalar_by
-    scalar_out z n en l el d ed er =
-        let er' : r ≡ settled_for dots left.integer n (scalar_argument T.banks T.scalars (left_for dots n left) s) = rw (ed, el) at er in
-        rw (← en, h) (er' ∙ sym (otherwise dots.emptied _ _ z))
 
 pub aggregate_found : (T : Terms) (list : List Rule) (returning : Bool) (dots : Dots) (left : Left) (shape : Shape) (ps : List Piece)
     (n : ℕ) → n ≡ skipped_for dots T.banks left shape.size shape.align → (l : Left) → l ≡ left_for dots n left
@@ -118,13 +104,23 @@ module _ (T : Terms) (list : List Rule) (returning : Bool) (dots : Dots) (c : Ca
   unfolding parts.aggregate_decided
   aggregate_short h e = rw ed at (slots_short out room er c d.decision (parts.stacked_by T list returning dots c (parts.aggregate_arg shape) (pieces_of ws) d.decision) (parts.decided_slots d (pieces_of ws)) r h e)
 
-  pub aggregate_done : d.decision.count ≤ room → (placed : Placed) → placed ≡ parts.stacked_by T list returning dots c (parts.aggregate_arg shape) (pieces_of ws) d.decision
+  aggregate_done : d.decision.count ≤ room → (placed : Placed) → placed ≡ parts.stacked_by T list returning dots c (parts.aggregate_arg shape) (pieces_of ws) d.decision
       → (after : List ℕ) → parts.Settles c d.decision placed (parts.decided_slots d (pieces_of ws)) out r after → parts.By T list returning dots c (parts.aggregate_arg shape) ws out r after
   unfolding parts.aggregate_decided
   aggregate_done h placed ep after e = rw (ep, ed) at (slots_fit out room er c d.decision placed (parts.decided_slots d (pieces_of ws)) r h after e)
 
+  module _ (h : d.decision.count ≤ room) where
+    pub aggregate_placed : (place : Place) → told c.stack (Ok place) ≡ parts.stacked_by T list returning dots c (parts.aggregate_arg shape) (pieces_of ws) d.decision
+        → (after : List ℕ) → after ≡ written (parts.decided_slots d (pieces_of ws)) out → r ≡ parts.accepted_by c d.decision (told c.stack (Ok place))
+        → parts.By T list returning dots c (parts.aggregate_arg shape) ws out r after
+    aggregate_placed place ep after ew e = aggregate_done h _ ep after (stack_fits c d.decision _ (parts.decided_slots d (pieces_of ws)) out r place refl e after ew)
+
+    pub aggregate_unplaced : (q : Refusal) → told c.stack (Err q) ≡ parts.stacked_by T list returning dots c (parts.aggregate_arg shape) (pieces_of ws) d.decision
+        → r ≡ refused c (number_of q) → parts.By T list returning dots c (parts.aggregate_arg shape) ws out r out
+    aggregate_unplaced q ep e = aggregate_done h _ ep out (stack_short c d.decision _ (parts.decided_slots d (pieces_of ws)) out r q refl e)
+
 -- the slots of a scalar stand in no pieces and no classes
-module _ (cs : List ℕ) (ps : List Piece) where
+module _ (cs : List Class) (ps : List Piece) where
   record Alone (d : Decision) : Type 0 where
     same : scalar_slots d.source ≡ source_slots d.source cs ps
 
@@ -191,10 +187,20 @@ module _ (T : Terms) (returning : Bool) (dots : Dots) (c : Call) (s : Scalar) (o
   unfolding pieces_of
   scalar_short h e = rw ed at (slots_short out room er c d (parts.stacked_by T [] returning dots c (parts.scalar_arg s) [] d) (source_slots d.source no_classes []) r h e)
 
-  pub scalar_done : d.count ≤ room → (placed : Placed) → placed ≡ stacked_of T [] returning dots c.stack (parts.scalar_arg s) [] d.way d.spent d.count
+  scalar_done : d.count ≤ room → (placed : Placed) → placed ≡ stacked_of T [] returning dots c.stack (parts.scalar_arg s) [] d.way d.spent d.count
       → (after : List ℕ) → parts.Settles c d placed (scalar_slots d.source) out r after → parts.By T [] returning dots c (parts.scalar_arg s) [] out r after
   unfolding pieces_of
   scalar_done h placed ep after e = rw (ep, alone, ed) at (slots_fit out room er c d placed (scalar_slots d.source) r h after e)
+
+  module _ (h : d.count ≤ room) where
+    pub scalar_placed : (place : Place) → told c.stack (Ok place) ≡ stacked_of T [] returning dots c.stack (parts.scalar_arg s) [] d.way d.spent d.count
+        → (after : List ℕ) → after ≡ written (scalar_slots d.source) out → r ≡ parts.accepted_by c d (told c.stack (Ok place))
+        → parts.By T [] returning dots c (parts.scalar_arg s) [] out r after
+    scalar_placed place ep after ew e = scalar_done h _ ep after (stack_fits c d _ (scalar_slots d.source) out r place refl e after ew)
+
+    pub scalar_unplaced : (q : Refusal) → told c.stack (Err q) ≡ stacked_of T [] returning dots c.stack (parts.scalar_arg s) [] d.way d.spent d.count
+        → r ≡ refused c (number_of q) → parts.By T [] returning dots c (parts.scalar_arg s) [] out r out
+    scalar_unplaced q ep e = scalar_done h _ ep out (stack_short c d _ (scalar_slots d.source) out r q refl e)
 
 -- ---- what decides a value comes to what is promised, where the rules agree with the Rust
 
@@ -281,39 +287,40 @@ module _ (returning variadic_argument : Bool) (c : Call) (arg : args.Arg) (ws ou
   unfolding parts.performed_by parts.performed_by_in
   row_missing_refused h er = performs c arg ws out r out returning variadic_argument (record { answers = rw (er, row_missing c.abi h); writes = rw (row_missing c.abi h) })
 
-  module _ (h : c.abi < description_count) (b : Brief) (eb : b ≡ brief_of (described c.abi)) (n : ℕ) (en : n ≡ checked b.terms c arg ws) where
-    checks : n ≡ checked (terms_of (described c.abi)) c arg ws
-    checks = rw eb at en
-
-    pub row_refused : (n ≡ accepted → ⊥) → r ≡ refused c n → parts.Performs returning variadic_argument c arg ws out r out
+  module _ (h : c.abi < description_count) (b : Brief) (eb : b ≡ brief_of (described c.abi)) where
+    pub row_refused : (q : Refusal) → number_of q ≡ checked b.terms c arg ws → r ≡ refused c (number_of q) → parts.Performs returning variadic_argument c arg ws out r out
     unfolding parts.performed_by parts.performed_by_in
-    row_refused z er =
+    row_refused q en er =
+        let checks : number_of q ≡ checked (terms_of (described c.abi)) c arg ws = rw eb at en in
         performs c arg ws out r out returning variadic_argument
-        (record { answers = rw (er, row_there c.abi h, ← checks) (or_refused n c _ z); writes = rw (row_there c.abi h, ← checks) (left_alone n _ out z) })
+        (record { answers = rw (er, row_there c.abi h, ← checks) (or_refused q c _); writes = rw (row_there c.abi h, ← checks) (number_leaves q _ out) })
 
-    module _ (z : n ≡ accepted) (b' : Brief) (eb' : b' ≡ brief_of (described c.abi))
+    module _ (z : accepted ≡ checked b.terms c arg ws) (b' : Brief) (eb' : b' ≡ brief_of (described c.abi))
         (dots : Dots) (ed : dots ≡ parts.dots_for variadic_argument b'.terms.variadic) (after : List ℕ) where
+      checks : accepted ≡ checked (terms_of (described c.abi)) c arg ws
+      checks = rw eb at z
+
       by_row : (list : List Rule) → list ≡ parts.rules_for returning (described c.abi) → parts.By b'.terms list returning dots c arg ws out r after
           → parts.Performs returning variadic_argument c arg ws out r after
       unfolding parts.performed_by parts.performed_by_in
       by_row list el e =
           let ed' : dots ≡ parts.dots_for variadic_argument (described c.abi).variadic = rw eb' at ed in
           let e' : parts.By (terms_of (described c.abi)) list returning dots c arg ws out r after = rw eb' at e in
-          performs c arg ws out r after returning variadic_argument (rw (row_there c.abi h, ← checks, z, ← ed', ← el) e')
+          performs c arg ws out r after returning variadic_argument (rw (row_there c.abi h, ← checks, ← ed', ← el) e')
 
-      pub row_aggregate : (list : Rules) → list ≡ parts.list_for returning b' → parts.By b'.terms (listed list) returning dots c arg ws out r after
+      pub row_aggregate : (list : Rules) → list ≡ parts.list_for returning b' → (back : Bool) → back ≡ returning → parts.By b'.terms (listed list) back dots c arg ws out r after
           → parts.Performs returning variadic_argument c arg ws out r after
-      row_aggregate list el e = by_row (listed list) (list_is c.abi b' eb' returning list el) e
+      row_aggregate list el back ek e = by_row (listed list) (list_is c.abi b' eb' returning list el) (rw ek at e)
 
 -- a scalar's rules are no list's, and its terms are those that the checks looked at
 pub row_scalar : (returning variadic_argument : Bool) (c : Call) (s : Scalar) (out : List ℕ) (r : Answer) → c.abi < description_count
-    → (b : Brief) → b ≡ brief_of (described c.abi) → (n : ℕ) → n ≡ checked b.terms c (parts.scalar_arg s) [] → n ≡ accepted
+    → (b : Brief) → b ≡ brief_of (described c.abi) → accepted ≡ checked b.terms c (parts.scalar_arg s) []
     → (dots : Dots) → dots ≡ parts.dots_for variadic_argument b.terms.variadic → (after : List ℕ)
-    → parts.By b.terms [] returning dots c (parts.scalar_arg s) [] out r after
+    → (back : Bool) → back ≡ returning → parts.By b.terms [] back dots c (parts.scalar_arg s) [] out r after
     → parts.Performs returning variadic_argument c (parts.scalar_arg s) [] out r after
 unfolding stacked_of
-row_scalar returning variadic_argument c s out r h b eb n en z dots ed after e =
-    by_row returning variadic_argument c (parts.scalar_arg s) [] out r h b eb n en z b eb dots ed after (parts.rules_for returning (described c.abi)) refl e
+row_scalar returning variadic_argument c s out r h b eb z dots ed after back ek e =
+    by_row returning variadic_argument c (parts.scalar_arg s) [] out r h b eb z b eb dots ed after (parts.rules_for returning (described c.abi)) refl (rw ek at e)
 
 -- ---- the operations, by what is asked about
 
@@ -355,15 +362,15 @@ module _ (returning variadic_argument : Bool) (c : Call) (arg : args.Arg) (ws ou
 
 -- a scalar has no pieces
 module _ (c : Call) (arg : args.Arg) (ws out : List ℕ) (r : Answer) (s : Scalar) (e : arg ≡ args.TheVariants.Scalar s) (after : List ℕ) where
-  pub returns_scalar : Returns c (parts.scalar_arg s) [] out r after → Returns c arg ws out r after
+  returns_scalar : Returns c (parts.scalar_arg s) [] out r after → Returns c arg ws out r after
   unfolding returns_answer returns_written returns_answer_by returns_written_by returns_account stacked_of refusal_by checked arg_refusal rust.returns rules.return_choice
   returns_scalar k = rw e k
 
-  pub argument_scalar : Passes c (parts.scalar_arg s) [] out r after → Passes c arg ws out r after
+  argument_scalar : Passes c (parts.scalar_arg s) [] out r after → Passes c arg ws out r after
   unfolding argument_answer argument_written argument_answer_by argument_written_by argument_account stacked_of refusal_by checked arg_refusal rust.argument rules.argument_choice
   argument_scalar k = rw e k
 
-  pub variadic_argument_scalar : PassesVariadic c (parts.scalar_arg s) [] out r after → PassesVariadic c arg ws out r after
+  variadic_argument_scalar : PassesVariadic c (parts.scalar_arg s) [] out r after → PassesVariadic c arg ws out r after
   unfolding variadic_argument_answer variadic_argument_written variadic_argument_answer_by variadic_argument_written_by variadic_argument_account stacked_of refusal_by checked arg_refusal rust.argument rust.variadic_argument rules.variadic_argument_choice
   variadic_argument_scalar k = rw (e, wordless (described c.abi).variadic (described c.abi) c.left) k
     where
@@ -375,3 +382,9 @@ module _ (c : Call) (arg : args.Arg) (ws out : List ℕ) (r : Answer) (s : Scala
       wordless IntegersOnly D left = refl
       wordless UnnamedIntegers D left = refl
       wordless UnnamedIntegersEven D left = refl
+
+  pub by_scalar : (role : Role) → parts.Performs (parts.is_return role) (parts.is_after_dots role) c (parts.scalar_arg s) [] out r after
+      → parts.Performs (parts.is_return role) (parts.is_after_dots role) c arg ws out r after
+  by_scalar Return = returns_scalar
+  by_scalar Argument = argument_scalar
+  by_scalar VariadicArgument = variadic_argument_scalar

@@ -1,19 +1,21 @@
 -- The laws of the parts of an operation: each way out of the code is one line of a definition. A law's premises are the tests and the callees'
 -- promises as the code has them.
 use Prim.Native.Nat.{ℕ, zero, suc, ◌/◌, ◌≤◌, ◌<◌, min}
-use mathlib.Core.Path.{◌≡◌, refl, sym, ◌∙◌}
-use mathlib.Core.List.{List, []}
+use mathlib.Core.Path.{◌≡◌, refl, ap, sym, ◌∙◌}
+use mathlib.Core.List.{List}
 use mathlib.Core.Bool.{Bool, true, false}
-use borrow.Author.Tests.{lt-ltb, le-ltb, le-leb, lt-leb, eq-eqb, ne_eqb}
+use borrow.Author.Tests.{lt-ltb, le-ltb, le-leb, lt-leb}
 use lib.ListN.{length}
-use Rattle.shape.specs.declared.Arg as args
+use Rattle.std.specs.Prelude.{Ok, Err, Result}
 use Rattle.shape.specs.declared.Piece.{Piece}
-use Rattle.shape.specs.declared.Scalar.{Scalar}
 use Rattle.shape.specs.declared.Shape.{Shape}
-use Rattle.shape.specs.Numbers.{most_word, accepted, bad_abi, bad_call, no_room}
+use Rattle.shape.specs.declared.refusals.Refusal.{Refusal}
+use Rattle.shape.specs.declared.refusals.Refusal.TheVariants.{BadAbi}
+use Rattle.shape.specs.Refusals.{number_of}
+use Rattle.shape.proofs.Refused.{number_decides, number_refuses}
+use Rattle.shape.specs.Numbers.{most_word, accepted, bad_abi, no_room}
 use Rattle.shape.specs.Words.{pieces_of}
-use Rattle.checks.specs.Check.{scalar_refusal, shape_refusal}
-use Rattle.checks.proofs.Check.{else_first, left_alone}
+use Rattle.checks.proofs.Check.{number_leaves}
 use Rattle.slots.specs.declared.Slot.{Slot}
 use Rattle.slots.specs.Words.{slot_size, written}
 use Rattle.describe.specs.declared.Dots.{Dots}
@@ -30,20 +32,16 @@ use Rattle.abis.specs.Brief.{brief_of}
 use Rattle.abis.proofs.Rows.{arguments_listed}
 use Rattle.spend.specs.declared.Left.{Left}
 use Rattle.spend.specs.declared.Decision.{Decision}
-use Rattle.spend.specs.declared.Spent.{Spent}
-use Rattle.spend.specs.declared.Way.TheVariants.{Ignore}
-use Rattle.spend.specs.Ways.{nothing, no_mark, with_mark, way_number, left_after}
 use Rattle.stack_align.specs.InMemory.{in_memory_by}
 use Rattle.stack_place.specs.declared.Area.{Area}
-use Rattle.stack_place.specs.Stacked.{Placed}
-use Rattle.stack_place.specs.Stacked.{most_stack, aggregate_bytes, is_held, aggregate_rounding, stands, nowhere, placed_of, return_placed, scalar_placed}
+use Rattle.stack_place.specs.declared.Place.{Place}
+use Rattle.stack_place.specs.Stacked.{Placed, told, aggregate_bytes, is_held, aggregate_rounding, nowhere, placed_of, return_placed}
 use Rattle.stack_place.proofs.Placing.{held_none, place_none, place_capped}
 use Rattle.classify.specs.declared.Call.{Call}
 use Rattle.classify.specs.declared.Answer.{Answer}
-use Rattle.classify.specs.declared.InMemory.{InMemory}
 use Rattle.classify.specs.Classify.{is_integers_only}
 use Rattle.classify.specs.Stacking.{area_of, stacked_of}
-use Rattle.classify.specs.Answers.{call_with, unmarked, state_refusal, arg_refusal, checked, call_refusal_by, refusal_by, row_refusal, refused, done, or_answer, Leaves, fresh_answer, variadic_answer_by, variadic_answer, void_answer_by, void_answer, or_align, in_memory_answer_by, in_memory_answer}
+use Rattle.classify.specs.Answers.{InMemory, memory_told, call_with, state_refusal, checked, call_refusal_by, refusal_by, row_refusal, refused, done, or_answer, Leaves, variadic_answer_by, variadic_answer, void_answer_by, void_answer, or_align, in_memory_answer_by, in_memory_answer}
 use Rattle.classify.specs.Parts as parts
 
 -- ---- a row
@@ -59,7 +57,7 @@ row_missing abi h = rw (le-leb _ _ h)
 -- ---- check
 
 -- the Rust's test of a variadic kind, and what the kind comes to
-mark_is : (v : Variadic) → is_integers_only v ≡ (dots_of v).mark
+pub mark_is : (v : Variadic) → is_integers_only v ≡ (dots_of v).mark
 mark_is SameAsFixed = refl
 mark_is AlwaysMemory = refl
 mark_is BothBanks = refl
@@ -67,62 +65,14 @@ mark_is IntegersOnly = refl
 mark_is UnnamedIntegers = refl
 mark_is UnnamedIntegersEven = refl
 
-module _ (T : Terms) (c : Call) where
-  pub state_integers : T.banks.integer < c.left.integer → bad_call ≡ state_refusal T c
-  unfolding state_refusal
-  state_integers h = rw (lt-ltb _ _ h)
+-- ---- the mark and void
 
-  module _ (i : c.left.integer ≤ T.banks.integer) where
-    pub state_floats : T.banks.float < c.left.float → bad_call ≡ state_refusal T c
-    unfolding state_refusal
-    state_floats h = rw (le-ltb _ _ i, lt-ltb _ _ h)
+or_nonzero : (n : ℕ) (c : Call) (rest : Answer) → (n ≡ accepted → ⊥) → refused c n ≡ or_answer n c rest
+or_nonzero zero c rest h = absurd (h refl)
+or_nonzero (suc n) c rest h = refl
 
-    module _ (f : c.left.float ≤ T.banks.float) where
-      pub state_stack : most_stack < c.stack → bad_call ≡ state_refusal T c
-      unfolding state_refusal
-      state_stack h = rw (le-ltb _ _ i, le-ltb _ _ f, lt-ltb _ _ h)
-
-      module _ (w : c.stack ≤ most_stack) where
-        pub state_unmarked : c.left.integers_only ≡ no_mark → accepted ≡ state_refusal T c
-        unfolding state_refusal
-        state_unmarked h = rw (le-ltb _ _ i, le-ltb _ _ f, le-ltb _ _ w, eq-eqb c.left.integers_only no_mark h)
-
-        module _ (m : c.left.integers_only ≡ no_mark → ⊥) (dots : Dots) (ed : dots ≡ dots_of T.variadic) where
-          pub state_marked : dots.mark ≡ true → accepted ≡ state_refusal T c
-          unfolding state_refusal
-          state_marked h = rw (le-ltb _ _ i, le-ltb _ _ f, le-ltb _ _ w, ne_eqb c.left.integers_only no_mark m, mark_is T.variadic, ← ed, h)
-
-          pub state_marked_badly : dots.mark ≡ false → bad_call ≡ state_refusal T c
-          unfolding state_refusal
-          state_marked_badly h = rw (le-ltb _ _ i, le-ltb _ _ f, le-ltb _ _ w, ne_eqb c.left.integers_only no_mark m, mark_is T.variadic, ← ed, h)
-
-module _ (T : Terms) (c : Call) (r : ℕ) (er : r ≡ state_refusal T c) where
-  pub checked_call : (arg : args.Arg) (ws : List ℕ) → (r ≡ accepted → ⊥) → r ≡ checked T c arg ws
-  unfolding checked
-  checked_call arg ws h = rw (← er) (else_first _ _ h)
-
-  pub checked_scalar : r ≡ accepted → (s : Scalar) (q : ℕ) → q ≡ scalar_refusal s → q ≡ checked T c (parts.scalar_arg s) []
-  unfolding checked arg_refusal
-  checked_scalar z s q eq = rw (← er, z, eq)
-
-  pub checked_shape : r ≡ accepted → (shape : Shape) (ws : List ℕ) (q : ℕ) → q ≡ shape_refusal shape ws → q ≡ checked T c (parts.aggregate_arg shape) ws
-  unfolding checked arg_refusal
-  checked_shape z shape ws q eq = rw (← er, z, eq)
-
--- ---- fresh, the mark and void
-
-pub fresh_refused : (abi : ℕ) → description_count ≤ abi → (c : Call) → c ≡ unmarked 0 0 0 → (r : Answer) → r ≡ refused c bad_abi → r ≡ fresh_answer abi
-unfolding fresh_answer
-fresh_refused abi h c ec r er = rw (er, ec, le-leb _ _ h)
-
-pub fresh_done : (abi : ℕ) → abi < description_count → (b : Brief) → b ≡ brief_of (described abi) → (c : Call) → c ≡ unmarked abi b.terms.banks.integer b.terms.banks.float
-    → (r : Answer) → r ≡ done c → r ≡ fresh_answer abi
-unfolding fresh_answer
-fresh_done abi h b eb c ec r er = rw (er, ec, eb, lt-leb _ _ h)
-
-pub or_refused : (n : ℕ) (c : Call) (rest : Answer) → (n ≡ accepted → ⊥) → refused c n ≡ or_answer n c rest
-or_refused zero c rest h = absurd (h refl)
-or_refused (suc n) c rest h = refl
+pub or_refused : (e : Refusal) (c : Call) (rest : Answer) → refused c (number_of e) ≡ or_answer (number_of e) c rest
+or_refused e c rest = or_nonzero (number_of e) c rest (number_refuses e)
 
 module _ (c : Call) (r : Answer) where
   pub mark_missing : description_count ≤ c.abi → r ≡ refused c bad_abi → r ≡ variadic_answer c
@@ -133,42 +83,34 @@ module _ (c : Call) (r : Answer) where
   unfolding void_answer void_answer_by call_refusal_by
   void_missing h er = rw (er, row_missing c.abi h)
 
-  module _ (h : c.abi < description_count) (b : Brief) (eb : b ≡ brief_of (described c.abi)) (n : ℕ) (en : n ≡ state_refusal b.terms c) where
-    refusal_is : n ≡ state_refusal (terms_of (described c.abi)) c
-    refusal_is = rw eb at en
+  module _ (h : c.abi < description_count) (b : Brief) (eb : b ≡ brief_of (described c.abi)) where
+    module _ (e : Refusal) (en : number_of e ≡ state_refusal b.terms c) (er : r ≡ refused c (number_of e)) where
+      refusal_is : number_of e ≡ state_refusal (terms_of (described c.abi)) c
+      refusal_is = rw eb at en
 
-    pub mark_refused : (n ≡ accepted → ⊥) → r ≡ refused c n → r ≡ variadic_answer c
-    unfolding variadic_answer variadic_answer_by call_refusal_by
-    mark_refused z er = rw (er, row_there c.abi h, ← refusal_is) (or_refused n c _ z)
+      pub mark_refused : r ≡ variadic_answer c
+      unfolding variadic_answer variadic_answer_by call_refusal_by
+      mark_refused = rw (er, row_there c.abi h, ← refusal_is) (or_refused e c _)
 
-    pub mark_done : n ≡ accepted → (left : Left) → left ≡ parts.marked_by b.terms.variadic c.left → r ≡ done (call_with c.abi left c.stack) → r ≡ variadic_answer c
-    unfolding variadic_answer variadic_answer_by call_refusal_by
-    mark_done z left el er = rw (er, el, eb, row_there c.abi h, mark_is, ← refusal_is, z)
+      pub void_refused : r ≡ void_answer c
+      unfolding void_answer void_answer_by call_refusal_by
+      void_refused = rw (er, row_there c.abi h, ← refusal_is) (or_refused e c _)
 
-    pub void_refused : (n ≡ accepted → ⊥) → r ≡ refused c n → r ≡ void_answer c
-    unfolding void_answer void_answer_by call_refusal_by
-    void_refused z er = rw (er, row_there c.abi h, ← refusal_is) (or_refused n c _ z)
+    module _ (z : accepted ≡ state_refusal b.terms c) where
+      none_is : accepted ≡ state_refusal (terms_of (described c.abi)) c
+      none_is = rw eb at z
 
-    pub void_done : n ≡ accepted → r ≡ done c → r ≡ void_answer c
-    unfolding void_answer void_answer_by call_refusal_by
-    void_done z er = rw (er, row_there c.abi h, ← refusal_is, z)
+      pub mark_done : (left : Left) → left ≡ parts.marked_by b.terms.variadic c.left → r ≡ done (call_with c.abi left c.stack) → r ≡ variadic_answer c
+      unfolding variadic_answer variadic_answer_by call_refusal_by
+      mark_done left el er = rw (er, el, eb, row_there c.abi h, mark_is, ← none_is)
 
-module _ (v : Variadic) (left : Left) (dots : Dots) (ed : dots ≡ dots_of v) where
-  pub marks : dots.mark ≡ true → (r : Left) → r ≡ with_mark left → r ≡ parts.marked_by v left
-  marks h r er = rw (er, ← ed, h)
-
-  pub marks_nothing : dots.mark ≡ false → left ≡ parts.marked_by v left
-  marks_nothing h = rw (← ed, h)
+      pub void_done : r ≡ done c → r ≡ void_answer c
+      unfolding void_answer void_answer_by call_refusal_by
+      void_done er = rw (er, row_there c.abi h, ← none_is)
 
 -- ---- where it stands
 
 module _ (T : Terms) (dots : Dots) (stack : ℕ) (d : Decision) (r : Placed) where
-  -- what comes back
-  pub placed_back : (rules : List Rule) (returning : Bool) → returning ≡ true → r ≡ return_placed (area_of T dots) stack d.way T.return_pointer d.spent
-      → (s : Scalar) → r ≡ stacked_of T rules returning dots stack (parts.scalar_arg s) [] d.way d.spent d.count
-  unfolding stacked_of return_placed
-  placed_back rules returning h er s = rw h er
-
   pub aggregate_back : (rules : List Rule) (returning : Bool) → returning ≡ true → r ≡ return_placed (area_of T dots) stack d.way T.return_pointer d.spent
       → (shape : Shape) (ps : List Piece) → r ≡ stacked_of T rules returning dots stack (parts.aggregate_arg shape) ps d.way d.spent d.count
   unfolding stacked_of return_placed
@@ -181,15 +123,7 @@ module _ (T : Terms) (dots : Dots) (stack : ℕ) (d : Decision) (r : Placed) whe
       rw (h, held_none d.way d.spent d.count shape.size T.banks.integer_width (sym eb ∙ held)) (er ∙ place_none (area_of T dots) stack 0 _ refl)
 
   module _ (a : Area) (ea : a ≡ area_of T dots) where
-    pub return_stands : r ≡ return_placed a stack d.way T.return_pointer d.spent → r ≡ return_placed (area_of T dots) stack d.way T.return_pointer d.spent
-    return_stands er = rw (← ea) er
-
     module _ (rules : List Rule) (returning : Bool) (h : returning ≡ false) where
-      pub scalar_stands : (s : Scalar) → r ≡ scalar_placed a stack d.way d.spent s
-          → r ≡ stacked_of T rules returning dots stack (parts.scalar_arg s) [] d.way d.spent d.count
-      unfolding stacked_of scalar_placed
-      scalar_stands s er = let er' : r ≡ scalar_placed (area_of T dots) stack d.way d.spent s = rw ea at er in rw h er'
-
       pub aggregate_stands : (shape : Shape) (ps : List Piece) (n : ℕ) → n ≡ min (aggregate_bytes d.way d.spent d.count shape.size a.width) most_word
           → (align : ℕ) → align ≡ in_memory_by T rules shape ps → r ≡ placed_of a stack n (aggregate_rounding d.way a align)
           → r ≡ stacked_of T rules returning dots stack (parts.aggregate_arg shape) ps d.way d.spent d.count
@@ -202,22 +136,13 @@ module _ (T : Terms) (dots : Dots) (stack : ℕ) (d : Decision) (r : Placed) whe
 
 -- ---- the writing and the answer
 
-pub refuses : (c : Call) (n way : ℕ) → way ≡ way_number Ignore → (spent : Spent) → spent ≡ nothing
-    → ◌≡◌ {A = Answer} (record { next = c; outcome = record { refusal = n; way = way; spent = spent; slots = 0; stacked = stands 0 0 } }) (refused c n)
-refuses c n way ew spent es = rw (ew, es)
-
-pub accepts : (c : Call) (d : Decision) (placed : Placed) (left : Left) → left ≡ left_after c.left d.spent → (way : ℕ) → way ≡ way_number d.way
-    → ◌≡◌ {A = Answer}
-    (record { next = call_with c.abi left placed.next; outcome = record { refusal = accepted; way = way; spent = d.spent; slots = d.count; stacked = placed.stacked } })
-    (parts.accepted_by c d placed)
-accepts c d placed left el way ew = rw (el, ew)
-
 module _ (c : Call) (d : Decision) (placed : Placed) (slots : List Slot) (out : List ℕ) (r : Answer) where
-  pub stack_short : (placed.refusal ≡ accepted → ⊥) → r ≡ refused c placed.refusal → parts.Settles c d placed slots out r out
-  stack_short z e = record { answers = rw e (or_refused placed.refusal c _ z); writes = left_alone placed.refusal _ out z }
+  pub stack_short : (q : Refusal) → told c.stack (Err q) ≡ placed → r ≡ refused c (number_of q) → parts.Settles c d placed slots out r out
+  stack_short q ep e = rw (← ep) (record { answers = e ∙ or_refused q c _; writes = number_leaves q _ out })
 
-  pub stack_fits : placed.refusal ≡ accepted → r ≡ parts.accepted_by c d placed → (after : List ℕ) → after ≡ written slots out → parts.Settles c d placed slots out r after
-  stack_fits z e after ew = record { answers = rw (e, z); writes = rw (ew, z) }
+  pub stack_fits : (place : Place) → told c.stack (Ok place) ≡ placed → r ≡ parts.accepted_by c d (told c.stack (Ok place)) → (after : List ℕ) → after ≡ written slots out
+      → parts.Settles c d placed slots out r after
+  stack_fits place ep e after ew = rw (← ep) (record { answers = e; writes = ew })
 
 -- the slots' room, whatever the place
 module _ (out : List ℕ) (room : ℕ) (er : room ≡ length out / slot_size) (c : Call) (d : Decision) (placed : Placed) (slots : List Slot) (r : Answer) where
@@ -236,19 +161,27 @@ or_unaligned zero align h = absurd (h refl)
 or_unaligned (suc n) align h = refl
 
 module _ (c : Call) (shape : Shape) (ws : List ℕ) where
-  pub memory_missing : description_count ≤ c.abi → ◌≡◌ {A = InMemory} (record { refusal = bad_abi; align = 0 }) (in_memory_answer c shape ws)
+  pub memory_missing : description_count ≤ c.abi → memory_told (Err BadAbi) ≡ in_memory_answer c shape ws
   unfolding in_memory_answer in_memory_answer_by refusal_by
   memory_missing h = rw (row_missing c.abi h)
 
-  module _ (h : c.abi < description_count) (b : Brief) (eb : b ≡ brief_of (described c.abi)) (n : ℕ) (en : n ≡ checked b.terms c (parts.aggregate_arg shape) ws) where
-    checks : n ≡ checked (terms_of (described c.abi)) c (parts.aggregate_arg shape) ws
-    checks = rw eb at en
-
-    pub memory_refused : (n ≡ accepted → ⊥) → ◌≡◌ {A = InMemory} (record { refusal = n; align = 0 }) (in_memory_answer c shape ws)
+  module _ (h : c.abi < description_count) (b : Brief) (eb : b ≡ brief_of (described c.abi)) where
+    pub memory_refused : (e : Refusal) → number_of e ≡ checked b.terms c (parts.aggregate_arg shape) ws → memory_told (Err e) ≡ in_memory_answer c shape ws
     unfolding in_memory_answer in_memory_answer_by refusal_by
-    memory_refused z = rw (row_there c.abi h, ← checks) (or_unaligned n _ z)
+    memory_refused e en =
+        let checks : number_of e ≡ checked (terms_of (described c.abi)) c (parts.aggregate_arg shape) ws = rw eb at en in
+        rw (row_there c.abi h, ← checks) (or_unaligned (number_of e) _ (number_refuses e))
 
-    pub memory_answered : n ≡ accepted → (a : ℕ) → a ≡ in_memory_by b.terms (listed b.arguments) shape (pieces_of ws)
-        → ◌≡◌ {A = InMemory} (record { refusal = accepted; align = a }) (in_memory_answer c shape ws)
+    pub memory_answered : accepted ≡ checked b.terms c (parts.aggregate_arg shape) ws → (a : ℕ) → a ≡ in_memory_by b.terms (listed b.arguments) shape (pieces_of ws)
+        → memory_told (Ok a) ≡ in_memory_answer c shape ws
     unfolding in_memory_answer in_memory_answer_by refusal_by
-    memory_answered z a ea = rw (row_there c.abi h, ea, eb, arguments_listed c.abi, ← checks, z)
+    memory_answered z a ea =
+        let checks : accepted ≡ checked (terms_of (described c.abi)) c (parts.aggregate_arg shape) ws = rw eb at z in
+        rw (row_there c.abi h, ea, eb, arguments_listed c.abi, ← checks)
+
+-- what is told of an answer tells it apart from any other
+pub memory_decides : (r q : Result ℕ Refusal) → memory_told r ≡ memory_told q → r ≡ q
+memory_decides (Ok a) (Ok b) e = ap Ok (ap (λ (m : InMemory). m.align) e)
+memory_decides (Ok a) (Err q) e = absurd (number_refuses q (sym (ap (λ (m : InMemory). m.refusal) e)))
+memory_decides (Err r) (Ok b) e = absurd (number_refuses r (ap (λ (m : InMemory). m.refusal) e))
+memory_decides (Err r) (Err q) e = ap Err (number_decides r q (ap (λ (m : InMemory). m.refusal) e))

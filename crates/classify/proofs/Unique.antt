@@ -2,6 +2,7 @@
 use mathlib.Core.Path.{sym, ◌∙◌}
 use contract.Lifetimes.{Lfts}
 use Rattle.shape.proofs.OneAnswer.{OneAnswer, OneExit}
+use Rattle.classify.proofs.Steps.{memory_decides}
 use Rattle.classify.proofs.Call.fresh.Reads as fresh
 use Rattle.classify.proofs.Call.variadic.Reads as variadic
 use Rattle.classify.proofs.Call.returns.Reads as returns
@@ -84,7 +85,7 @@ variadic_argument_aggregate_words : (κs : Lfts 2) → OneExit (variadic_argumen
 variadic_argument_aggregate_words κs a r q s t p p' = p.writes ∙ sym p'.writes
 
 in_memory_decides : (κs : Lfts 1) → OneAnswer (in_memory.Post κs)
-in_memory_decides κs a r q s t p p' = p ∙ sym p'
+in_memory_decides κs a r q s t p p' = memory_decides r q (p ∙ sym p')
 
 abi_decides : (κs : Lfts 0) → OneAnswer (abi.Post κs)
 abi_decides κs a r q s t p p' = p ∙ sym p'

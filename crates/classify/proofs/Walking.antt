@@ -1,6 +1,6 @@
 -- The laws of the rule walk: what one rule's search and step decide of the list from there on, and that a rule that doesn't decide leaves
 -- others behind it.
-use Prim.Native.Nat.{ℕ, ◌<◌}
+use Prim.Native.Nat.{ℕ}
 use mathlib.Core.Path.{◌≡◌, refl, ap, sym, ◌∙◌}
 use mathlib.Core.List.{List, [], ◌∷◌}
 use mathlib.Core.Bool.{Bool, true, false, ◌&&◌, not}
@@ -11,15 +11,15 @@ use Rattle.std.specs.Prelude.{Option, Some, None}
 use Rattle.shape.specs.declared.Shape.{Shape}
 use Rattle.shape.specs.declared.Piece.{Piece}
 use Rattle.slots.specs.declared.Slot.{Slot}
-use Rattle.slots.specs.declared.Found as founds
-use Rattle.slots.specs.Search.{Search, found, nothing, found_of, floats_in}
+use Rattle.slots.specs.declared.Found.{Found}
+use Rattle.slots.specs.Search.{Search, found, nothing, counted, found_of, floats_in}
 use Rattle.describe.specs.declared.Rule.{Rule}
 use Rattle.describe.specs.declared.Test.{Test}
 use Rattle.rows.specs.declared.Rules.{Rules}
 use Rattle.describe.specs.declared.Terms.{Terms}
 use Rattle.describe.specs.Description.{Decides, Ends}
-use Rattle.rows.specs.Row.{first_rule, later_rules, listed}
-use Rattle.rows.proofs.Packed.{later_less, listed_none, listed_next, ends_later}
+use Rattle.rows.specs.Row.{first_rule, listed}
+use Rattle.rows.proofs.Packed.{ends_later}
 use Rattle.spend.specs.declared.Left.{Left}
 use Rattle.spend.specs.declared.Decision.{Decision}
 use Rattle.spend.specs.Ways.{marked}
@@ -32,7 +32,7 @@ use Rattle.classify.proofs.Ends.{decides_found, decides_step}
 
 -- ---- what a search's counts say of its slots
 
-found_nothing : (m : Search) → found_of m ≡ founds.TheVariants.Nothing → m ≡ nothing
+found_nothing : (m : Search) → found_of m ≡ None → m ≡ nothing
 unfolding found_of
 found_nothing (found ss) e = absurd (let z : ◌≡◌ {A = ℕ} 0 1 = cc in omega arith)
 found_nothing nothing e = refl
@@ -43,10 +43,12 @@ record FoundAs (m : Search) (n k : ℕ) : Type 0 where
   count : n ≡ length ss
   floats : k ≡ floats_in ss
 
-found_slots : (m : Search) (n k : ℕ) → found_of m ≡ founds.TheVariants.Slots n k → FoundAs m n k
+found_slots : (m : Search) (f : Found) → found_of m ≡ Some f → FoundAs m f.count f.floats
 unfolding found_of
-found_slots (found ss) n k e = record { ss = ss; is = refl; count = (cc); floats = (cc) }
-found_slots nothing n k e = absurd (let z : ◌≡◌ {A = ℕ} 0 1 = cc in omega arith)
+found_slots (found ss) f e =
+    let z : f ≡ counted (length ss) (floats_in ss) = cc in
+    record { ss = ss; is = refl; count = ap (λ (x : Found). x.count) z; floats = ap (λ (x : Found). x.floats) z }
+found_slots nothing f e = absurd (let z : ◌≡◌ {A = ℕ} 0 1 = cc in omega arith)
 
 -- ---- one rule of a list
 
@@ -94,23 +96,18 @@ pub whole_list : (T : Terms) (list : Rules) → Ends (listed list) → (returnin
 whole_list T list ends returning left shape ps = record { ends = ends; decide = refl }
 
 -- a list that ends has a rule
-some_left : (R : Rules) → Ends (listed R) → R.tests ≡ 0 → ⊥
-some_left R ends e = let z = (rw (listed_none R e) at ends).some in omega arith
+pub none_left : (T : Terms) (list : Rules) (returning : Bool) (left : Left) (shape : Shape) (ps : List Piece) (R : Rules)
+    → Remaining T list returning left shape ps R → listed R ≡ [] → ⊥
+none_left T list returning left shape ps R inv e = let z = (rw e at inv.ends).some in omega arith
 
 module _ (T : Terms) (list : Rules) (returning : Bool) (left : Left) (shape : Shape) (ps : List Piece)
     (R : Rules) (inv : Remaining T list returning left shape ps R)
-    (R' : Rules) (er : R' ≡ later_rules R) (when : Test) (ew : when ≡ (first_rule R).when) (s : Matched) (esw : s ≡ matched_by T.banks when shape ps) where
+    (these R' : Rules) (next : listed R ≡ first_rule these ∷ listed R') (when : Test) (ew : when ≡ (first_rule these).when) (s : Matched) (esw : s ≡ matched_by T.banks when shape ps) where
   abbrev rule : Rule
-  rule = first_rule R
+  rule = first_rule these
 
   es : s ≡ matched_by T.banks rule.when shape ps
   es = rw (← ew) esw
-
-  next : listed R ≡ rule ∷ listed R'
-  next = rw er (listed_next R (some_left R inv.ends))
-
-  pub falls : R'.tests < R.tests
-  falls = rw er (later_less R (some_left R inv.ends))
 
   opened : walked T returning left (listed list) shape ps ≡ walked T returning left (rule ∷ listed R') shape ps
   opened = inv.decide ∙ ap (λ (rules : List Rule). walked T returning left rules shape ps) next
@@ -132,7 +129,7 @@ module _ (T : Terms) (list : Rules) (returning : Bool) (left : Left) (shape : Sh
   unfolding matched_by
   classes_are = ap (λ (x : Matched). x.classes) es
 
-  module _ (e : s.found ≡ founds.TheVariants.Nothing) where
+  module _ (e : s.found ≡ None) where
     none : matches T.banks rule.when shape ps ≡ nothing
     none = found_nothing _ (sym found_is ∙ e)
 
@@ -141,11 +138,11 @@ module _ (T : Terms) (list : Rules) (returning : Bool) (left : Left) (shape : Sh
         goes_on (λ (d : Decides rule). let p : nothing ≡ found [] = sym none ∙ decides_found T.banks rule shape ps d in
         let z : ◌≡◌ {A = ℕ} 0 1 = cc in omega arith) (step_nothing T returning left shape ps rule _ none)
 
-  module _ (n m : ℕ) (e : s.found ≡ founds.TheVariants.Slots n m) where
-    some : FoundAs (matches T.banks rule.when shape ps) n m
-    some = found_slots _ n m (sym found_is ∙ e)
+  module _ (f : Found) (e : s.found ≡ Some f) where
+    some : FoundAs (matches T.banks rule.when shape ps) f.count f.floats
+    some = found_slots _ f (sym found_is ∙ e)
 
-    module _ (h : skipped left returning m ≡ true) where
+    module _ (h : skipped left returning f.floats ≡ true) where
       skip : skipped left returning (floats_in some.ss) ≡ true
       skip = rw (← some.floats) h
 
@@ -156,16 +153,16 @@ module _ (T : Terms) (list : Rules) (returning : Bool) (left : Left) (shape : Sh
           let t : skipped left returning (floats_in []) ≡ true = rw q at skip in no_float (marked left && not returning) t)
           (step_skipped T returning left shape ps rule _ some.ss some.is skip)
 
-    module _ (h : skipped left returning m ≡ false) (first : Rule) (ef : first ≡ first_rule R) (t : Option Decision)
-        (et : t ≡ travel_of T.banks T.return_pointer returning left first shape.size (record { count = n; floats = m; source = s.source })) where
+    module _ (h : skipped left returning f.floats ≡ false) (first : Rule) (ef : first ≡ first_rule these) (t : Option Decision)
+        (et : t ≡ travel_of T.banks T.return_pointer returning left first shape.size (record { count = f.count; floats = f.floats; source = s.source })) where
       kept : skipped left returning (floats_in some.ss) ≡ false
       kept = rw (← some.floats) h
 
       travelled : t ≡ travel_of T.banks T.return_pointer returning left rule shape.size (wanted_by rule.when shape.size some.ss)
       travelled =
           let eu : s.source ≡ source_of rule.when shape.size = source_is in
-          let en : n ≡ length some.ss = some.count in
-          let em : m ≡ floats_in some.ss = some.floats in
+          let en : f.count ≡ length some.ss = some.count in
+          let em : f.floats ≡ floats_in some.ss = some.floats in
           let el : first ≡ rule = ef in
           cc
 

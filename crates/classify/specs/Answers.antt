@@ -2,10 +2,12 @@
 -- and the counts left as the Rust has them (Classify.antt), what is passed over and given by the rules (Spending.antt), and where the value stands
 -- on the stack (Stacking.antt). Each is said by a description and by what the description's source refuses; a call on one of the rows is the case of
 -- the description of its number, and of BAD_ABI where there is none.
-use Rattle.std.specs.Prelude.{ℕ, zero, suc, ◌/◌, ◌≡◌, List, Bool, true, false, ◌&&◌, ◌||◌, not, cond, leb, ltb, length}
+use Rattle.std.specs.Prelude.{ℕ, zero, suc, ◌/◌, ◌≡◌, List, Bool, true, false, ◌&&◌, ◌||◌, not, cond, leb, ltb, length, Result, Ok, Err}
 use Rattle.shape.specs.declared.Arg as args
 use Rattle.shape.specs.declared.Piece.{Piece}
 use Rattle.shape.specs.declared.Shape.{Shape}
+use Rattle.shape.specs.declared.refusals.Refusal.{Refusal}
+use Rattle.shape.specs.Refusals.{number_of}
 use Rattle.shape.specs.Numbers.{accepted, bad_abi, bad_call, no_room}
 use Rattle.shape.specs.Words.{pieces_of}
 use Rattle.checks.specs.Check.{refuse, or_else, unless_refused, scalar_refusal, shape_refusal}
@@ -28,7 +30,6 @@ use Rattle.stack_place.specs.Stacked.{Placed}
 use Rattle.stack_place.specs.Stacked.{most_stack, stands}
 use Rattle.classify.specs.declared.Call.{Call}
 use Rattle.classify.specs.declared.Answer.{Answer}
-use Rattle.classify.specs.declared.InMemory.{InMemory}
 use Rattle.classify.specs.Pass.{way_of, pass_slots}
 use Rattle.classify.specs.Classify.{Passed, counts, call, variadic, is_integers_only, returns, argument, variadic_argument}
 use Rattle.classify.specs.Spending.{return_choice, argument_choice, variadic_argument_choice}
@@ -184,6 +185,15 @@ unfoldable pub variadic_argument_written_by : ℕ → Description → Call → a
 variadic_argument_written_by source D c arg ws out = written_to (refusal_by source D c arg ws) (variadic_argument_account D c arg (pieces_of ws)) out
 
 -- the alignment in the argument area, or a refusal of the call or of the shape
+pub record InMemory : Type 0 where
+  pub refusal : ℕ
+  pub align : ℕ
+
+-- what the code answers
+abbrev pub memory_told : Result ℕ Refusal → InMemory
+memory_told (Ok align) = record { refusal = accepted; align = align }
+memory_told (Err refusal) = record { refusal = number_of refusal; align = 0 }
+
 abbrev pub or_align : ℕ → ℕ → InMemory
 or_align zero align = record { refusal = accepted; align = align }
 or_align (suc n) align = record { refusal = suc n; align = 0 }

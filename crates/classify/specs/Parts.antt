@@ -23,12 +23,15 @@ use Rattle.abis.specs.Abis.{described}
 use Rattle.spend.specs.declared.Left.{Left}
 use Rattle.spend.specs.declared.Decision.{Decision}
 use Rattle.spend.specs.Ways.{with_mark, left_after}
+use Rattle.eightbytes.specs.declared.Class.{Class}
 use Rattle.find.specs.Matches.{no_classes, classes_by}
 use Rattle.slot_writing.specs.Sources.{source_slots}
 use Rattle.stack_place.specs.Stacked.{Placed}
 use Rattle.classify.specs.declared.Call.{Call}
 use Rattle.classify.specs.declared.Answer.{Answer}
 use Rattle.classify.specs.declared.Decided.{Decided}
+use Rattle.classify.specs.declared.Role.{Role}
+use Rattle.classify.specs.declared.Role.TheVariants.{Return, Argument, VariadicArgument}
 use Rattle.classify.specs.Spending.{Chosen, by_rules, aggregate_by, choice}
 use Rattle.classify.specs.Stacking.{stacked_of}
 use Rattle.classify.specs.Answers.{call_with, checked, row_refusal, room_refusal, answered, or_answer, Leaves, Returns, Passes, PassesVariadic}
@@ -39,12 +42,24 @@ scalar_arg s = args.TheVariants.Scalar s
 abbrev pub aggregate_arg : Shape → args.Arg
 aggregate_arg shape = args.TheVariants.Aggregate shape
 
+-- ---- what is asked about
+
+abbrev pub is_return : Role → Bool
+is_return Return = true
+is_return Argument = false
+is_return VariadicArgument = false
+
+abbrev pub is_after_dots : Role → Bool
+is_after_dots Return = false
+is_after_dots Argument = false
+is_after_dots VariadicArgument = true
+
 -- ---- what decides a value, with the classes beside it
 
-abbrev pub decided : Decision → List ℕ → Decided
+abbrev pub decided : Decision → List Class → Decided
 decided decision classes = record { decision = decision; classes = classes }
 
-abbrev pub arg_classes : args.Arg → Test → List Piece → List ℕ
+abbrev pub arg_classes : args.Arg → Test → List Piece → List Class
 arg_classes args.TheVariants.Void test ps = no_classes
 arg_classes (args.TheVariants.Scalar s) test ps = no_classes
 arg_classes (args.TheVariants.Aggregate shape) test ps = classes_by test shape ps

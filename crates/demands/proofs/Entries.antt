@@ -27,7 +27,7 @@ use Rattle.attributes.specs.Spellings.{attribute}
 use Rattle.stack_align.specs.InMemory.{in_memory}
 use Rattle.stack_place.specs.Stacked.{most_stack}
 use Rattle.classify.specs.declared.Call.{Call}
-use Rattle.classify.specs.declared.InMemory.{InMemory}
+use Rattle.classify.specs.Answers.{InMemory}
 use Rattle.classify.specs.Answers.{refusal_of}
 use Rattle.classify.proofs.Call.in_memory.Reads as call_in_memory
 use Rattle.export_numbers.specs.declared.Told.{Told}

@@ -4,7 +4,7 @@ use Rattle.shape.specs.Numbers.{one_if}
 use Rattle.text.specs.Text.{Written}
 use Rattle.layouts.specs.Answers.{Placed, Recorded}
 use Rattle.abis.specs.Answers.{Asked, AskedFormat}
-use Rattle.classify.specs.declared.InMemory.{InMemory}
+use Rattle.classify.specs.Answers.{InMemory}
 use Rattle.export_numbers.specs.declared.Told.{Told}
 use Rattle.export_numbers.specs.Numbers.{told}
 use Rattle.export_questions.specs.declared.members.RecordNumbers.{RecordNumbers}

@@ -4,8 +4,5 @@ use Rattle.shape.specs.Words.{pieces_of}
 use Rattle.classify.proofs.Walking.{Remaining}
 use Rattle.classify.proofs.apply.Given as goal
 
-abbrev pub invariant-loop-count : goal.invariant-loop-count
-invariant-loop-count l = Remaining l.terms l.initial.rules l.returning l.left l.shape (pieces_of l.words) l.rules
-
-abbrev pub decreases-loop-count : goal.decreases-loop-count
-decreases-loop-count l = l.rules.tests
+abbrev pub invariant-loop-rules : goal.invariant-loop-rules
+invariant-loop-rules l = Remaining l.terms l.fn.list l.returning l.left l.shape (pieces_of l.words) l.rules-iterator

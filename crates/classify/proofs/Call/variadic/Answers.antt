@@ -1,12 +1,6 @@
--- `variadic` answers the marked call.
-use Rattle.classify.proofs.Steps.{mark_missing, mark_refused, mark_done}
+-- `variadic` refuses what the check of the call refuses.
+use Rattle.classify.proofs.Steps.{mark_refused}
 use Rattle.classify.proofs.Call.variadic.Goals as goal
 
-pub returns-then-self-ge-DESCRIPTIONS : goal.returns-then-self-ge-DESCRIPTIONS
-returns-then-self-ge-DESCRIPTIONS c = search (mark_missing)
-
-pub returns-then-refusal-ne-ACCEPTED : goal.returns-then-refusal-ne-ACCEPTED
-returns-then-refusal-ne-ACCEPTED c = search (mark_refused)
-
-pub returns : goal.returns
-returns c = search (mark_done)
+pub returns-in-Err : goal.returns-in-Err
+returns-in-Err c = search (mark_refused, c.in-Err.ensures)

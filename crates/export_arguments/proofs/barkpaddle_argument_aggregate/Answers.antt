@@ -1,5 +1,0 @@
--- `barkpaddle_argument_aggregate` hands on what the operation answers and writes.
-use Rattle.export_arguments.proofs.barkpaddle_argument_aggregate.Goals as goal
-
-pub returns : goal.returns
-returns c = record { answers = cc; writes = cc }

@@ -1,5 +1,0 @@
--- `barkpaddle_return_scalar` hands on what the operation answers and writes.
-use Rattle.export_returns.proofs.barkpaddle_return_scalar.Goals as goal
-
-pub returns : goal.returns
-returns c = record { answers = cc; writes = cc }
