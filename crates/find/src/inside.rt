@@ -50,7 +50,7 @@ fn one_member(only: Piece, integer_width: u64, float_width: u64) -> Option<Found
 fn two_members(first: Piece, second: Piece, integer_width: u64, float_width: u64) -> Option<Found>
     ensures { result ≡ found_of (find.float_pair integer_width float_width (first ∷ second ∷ [])) }
 {
-    let floats = shape::one_if(first.is_float()) + shape::one_if(second.is_float());
+    let floats = u64::from(first.is_float()) + u64::from(second.is_float());
     if floats == 0 {
         return None;
     }

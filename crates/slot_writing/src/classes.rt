@@ -52,7 +52,7 @@ fn put_pair(classes: [Class; 8], size: u64, out: &mut [u64])
 fn eightbytes_in(size: u64) -> usize
     ensures { result ≡ min (eightbytes_in size) 8 }
 {
-    shape::least(slots::parts(size, EIGHTBYTE), 8) as usize
+    slots::parts(size, EIGHTBYTE).min(8) as usize
 }
 
 // Whether the slots of the first n classes are at most so many. They are at most n, so they are counted only where that is too many.
@@ -70,7 +70,7 @@ fn count_slots(classes: [Class; 8], n: usize) -> usize
 {
     let mut count = 0;
     for class in &classes[..n] {
-        count += shape::one_if(*class != Class::SseUp) as usize;
+        count += usize::from(*class != Class::SseUp);
     }
     count
 }
@@ -116,7 +116,7 @@ fn slot_of(class: Class, up: bool, offset: u64, left: u64) -> Slot
         _ => Slot {
             kind: shape::INTEGER,
             offset,
-            size: shape::least(left, EIGHTBYTE),
+            size: left.min(EIGHTBYTE),
         },
     }
 }

@@ -32,7 +32,7 @@ fn packed_align(banks: Banks, arguments: Rules, shape: Shape, words: &[u64]) -> 
     };
     match found {
         Some(_) => shape.align,
-        None => shape::most(shape.align, banks.integer_width),
+        None => shape.align.max(banks.integer_width),
     }
 }
 

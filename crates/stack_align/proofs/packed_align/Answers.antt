@@ -14,6 +14,6 @@ returns-in-Some-found c =
 pub returns-in-None-found : goal.returns-in-None-found
 returns-in-None-found c =
     elim c.match-homogeneous_limit.branch [
-      | in-Some w ↦ packed_other _ _ _ _ _ (w.in-Some.ensures) _ c.most.ensures (sym c.in-None-found.is ∙ w.found-is ∙ w.homogeneous-found.ensures)
-      | in-None w ↦ packed_without _ _ _ _ _ c.most.ensures (w.in-None.ensures)
+      | in-Some w ↦ packed_other _ _ _ _ _ (w.in-Some.ensures) _ c.max.ensures (sym c.in-None-found.is ∙ w.found-is ∙ w.homogeneous-found.ensures)
+      | in-None w ↦ packed_without _ _ _ _ _ c.max.ensures (w.in-None.ensures)
     ]
