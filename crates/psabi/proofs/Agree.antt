@@ -13,8 +13,10 @@ use lib.ListN.{length, get_or, replicate, get_or-replicate, length-replicate, ge
 use Rattle.shape.proofs.Bools.{both_true, both_false}
 use Rattle.shape.specs.declared.Piece.{Piece}
 use Rattle.shape.specs.Lists.{any}
+use Rattle.eightbytes.specs.declared.Class as our_class
 use Rattle.eightbytes.specs.Class as ours
-use Rattle.eightbytes.specs.Class.{None, kind_class, later}
+use Rattle.eightbytes.specs.declared.Class.TheVariants.{None}
+use Rattle.eightbytes.specs.Class.{kind_class, later}
 use Rattle.eightbytes.specs.Eightbytes.{mark}
 use Rattle.eightbytes.specs.Reach.{first_of}
 use Rattle.eightbytes.proofs.Marks.{mark_length}
@@ -24,15 +26,15 @@ use Rattle.psabi.specs.Domain.{is_x87_piece, x87_in}
 use Rattle.psabi.proofs.Clauses.{Usual, int1, int2, int4, int8, int16, single4, double8, x87_16, quad16, Each, done, more}
 
 -- the classifier's class for one of the psABI's
-unfoldable pub rep : Class → ours.Class
-rep INTEGER = ours.Integer
-rep SSE = ours.Sse
-rep SSEUP = ours.SseUp
-rep X87 = ours.X87
-rep X87UP = ours.X87
-rep COMPLEX-X87 = ours.X87
-rep NO-CLASS = ours.None
-rep MEMORY = ours.Memory
+unfoldable pub rep : Class → our_class.Class
+rep INTEGER = our_class.TheVariants.Integer
+rep SSE = our_class.TheVariants.Sse
+rep SSEUP = our_class.TheVariants.SseUp
+rep X87 = our_class.TheVariants.X87
+rep X87UP = our_class.TheVariants.X87
+rep COMPLEX-X87 = our_class.TheVariants.X87
+rep NO-CLASS = our_class.TheVariants.None
+rep MEMORY = our_class.TheVariants.Memory
 
 -- a piece of a small shape at a multiple of its size
 pub record Ready (p : Piece) : Type 0 where
@@ -78,7 +80,7 @@ upper double8 o n e a b = absurd (omega arith)
 upper x87_16 o n e a b = refl
 upper quad16 o n e a b = refl
 
-module _ (cs : List ours.Class) (p : Piece) (k : ℕ) (r : Ready p) where
+module _ (cs : List our_class.Class) (p : Piece) (k : ℕ) (r : Ready p) where
   pos : 0 < p.size
   pos = usual_pos r.usual
 
@@ -160,7 +162,7 @@ and-false true b h t = absurd (true≢false (sym t ∙ h))
 and-false false b h t = refl
 
 -- no X87 piece lies in it
-pub plain_agrees : (ps : List Piece) (cs : List ours.Class) (c : Class) (k : ℕ) → Each Ready ps → k < length cs → any (λ p. x87_in p k) ps ≡ false → Plain c
+pub plain_agrees : (ps : List Piece) (cs : List our_class.Class) (c : Class) (k : ℕ) → Each Ready ps → k < length cs → any (λ p. x87_in p k) ps ≡ false → Plain c
     → get_or cs k None ≡ rep c → (get_or (mark_all cs ps) k None ≡ rep (merged_in c ps k)) × Plain (merged_in c ps k)
 unfolding mark_all merged_in any
 plain_agrees [] cs c k done l x pl e = (e, pl)
@@ -200,7 +202,7 @@ unfolding classes_from
 classes_length ps k zero = refl
 classes_length ps k (suc n) = ap suc (classes_length ps (k + 1) n)
 
-mark_all_length : (cs : List ours.Class) (ps : List Piece) → length (mark_all cs ps) ≡ length cs
+mark_all_length : (cs : List our_class.Class) (ps : List Piece) → length (mark_all cs ps) ≡ length cs
 unfolding mark_all
 mark_all_length cs [] = refl
 mark_all_length cs (p ∷ ps) = mark_all_length (mark cs p) ps ∙ mark_length cs p

@@ -20,7 +20,7 @@ use Rattle.shape.specs.Questions.{all_of, is_all_of}
 use Rattle.slots.specs.Search.{Search, found, nothing, floats_in}
 use Rattle.find.specs.Find.{found_if, floats_at, x87_stack}
 use Rattle.eightbytes.specs.Class as ours
-use Rattle.eightbytes.specs.Class.{None}
+use Rattle.eightbytes.specs.declared.Class.TheVariants.{None}
 use Rattle.eightbytes.specs.Eightbytes.{cover, mark, classes_after, spoiled, mend, settled, classified, slots_found, eightbytes}
 use Rattle.eightbytes.specs.Reach.{fits}
 use Rattle.eightbytes.proofs.At.{all_fit, mark_all, marked_all}
