@@ -24,7 +24,7 @@ use stack_place::{Area, Place, Stacked};
 
 // One call: the number of its description, what it has left, and the offset at which the next argument on the stack may stand.
 #[repr(C)]
-#[derive(Clone, Copy)]
+#[derive(Clone, Copy, PartialEq, Eq)]
 pub struct Call {
     pub abi: u64,
     pub left: Left,
@@ -34,7 +34,7 @@ pub struct Call {
 // The number of the way that the value travels, what it passes over and is given, how many slots were written, and where on the stack it stands; or
 // the refusal, with every other number 0. Methods, exported entries and the forms over a lent call all have this one.
 #[repr(C)]
-#[derive(Clone, Copy)]
+#[derive(Clone, Copy, PartialEq, Eq)]
 pub struct Outcome {
     pub refusal: u64,
     pub way: u64,
@@ -56,7 +56,7 @@ impl Outcome {
 
 // The next call beside the outcome. A refusal hands back the call that it was handed.
 #[repr(C)]
-#[derive(Clone, Copy)]
+#[derive(Clone, Copy, PartialEq, Eq)]
 pub struct Answer {
     pub next: Call,
     pub outcome: Outcome,
