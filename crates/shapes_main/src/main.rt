@@ -3,367 +3,210 @@
 // that its pieces make, and the pieces that their scalars make. The answers of the original to the same shapes are compared with these.
 #![tactic(auto)]
 
-ghost use Rattle.std.specs.Prelude.{◌<◌, ◌≤◌, length, IfOk};
-
-use classify::{Call, InMemory};
-use shape::Shape;
-use slots::Found;
-use std::io;
-use std::io::{Read, Stdin, Stdout};
-use text::{append, append_number};
+use classify::Call;
+use shape::{PIECE, Shape};
+use slots::{Found, SLOT};
+use std::alloc::{AllocError, Global};
+use std::io::{BufReader, BufWriter, ErrorKind, Read, Write};
+use std::{fmt, io};
 use words::WORD;
 
 // Words of a record, and the most pieces that a shape may have here.
 const RECORD: usize = 6;
 
-const MOST_HELD: u64 = 64;
+const MOST_HELD: usize = 64;
 
-// The lines of a shape, and how many of them come before those of the eightbytes and before those of the layouts.
-const LINES: usize = 23;
+// A shape, and its pieces as words.
+#[derive(Drop)]
+struct Asked {
+    shape: Shape,
+    pieces: Vec<u64>,
+}
 
-const TESTS: usize = 15;
+// What ends a run: the input's end, also where a shape isn't whole yet, a shape of too many pieces, or an error.
+#[derive(Debug, Drop)]
+enum Stop {
+    Ended,
+    TooMany,
+    Failed(io::Error),
+}
 
-const LAYOUTS: usize = 20;
+impl From<io::Error> for Stop {
+    fn from(error: io::Error) -> Stop {
+        if error.kind() == ErrorKind::UnexpectedEof {
+            Stop::Ended
+        } else {
+            Stop::Failed(error)
+        }
+    }
+}
 
-// Behind the fronts of the lines, the texts that a line may end with.
-const NOTHING: usize = 23;
+impl From<AllocError> for Stop {
+    fn from(error: AllocError) -> Stop {
+        Stop::Failed(io::Error::from(error))
+    }
+}
 
-const REFUSED: usize = 24;
+fn main(rt: HostRuntime) -> io::Result<()> {
+    let alloc = rt.alloc();
+    let mut input = BufReader::new(alloc, rt.reader())?;
+    let mut out = BufWriter::new(alloc, io::writer(&rt))?;
+    match print_all(alloc, &mut input, &mut out) {
+        Ok(()) | Err(Stop::Ended) => {}
+        Err(Stop::TooMany) => writeln!(out, "too many")?,
+        Err(Stop::Failed(error)) => return Err(error),
+    }
+    out.flush()
+}
 
 // A proved loop has to end, and nothing says that the input does. So the turns are counted up to a number that no run comes to.
-fn main(rt: HostRuntime) -> io::Result<()> {
-    let mut stdin = rt.stdin();
+fn print_all(alloc: Global, input: &mut impl Read, out: &mut impl Write) -> Result<(), Stop> {
     for _ in 0..u64::MAX {
-        if !one_shape(&mut stdin, rt.stdout())? {
-            break;
-        }
+        let asked = read_shape(alloc, input)?;
+        print(alloc, out, asked.shape, &asked.pieces)?;
     }
     Ok(())
 }
 
-// Reads a shape and its pieces and prints its lines; whether another shape may follow.
-fn one_shape(stdin: &mut Stdin, stdout: Stdout) -> io::Result<bool> {
-    let mut bytes = [0u8; 48];
-    let mut head = [0u64; 6];
-    if !read(stdin, &mut bytes, &mut head)? {
-        return Ok(false);
+fn read_shape(alloc: Global, input: &mut impl Read) -> Result<Asked, Stop> {
+    let [_, _, size, align, marks, count] = read_record(input)?;
+    if count > MOST_HELD as u64 {
+        return Err(Stop::TooMany);
     }
-    answer(stdin, stdout, shape_of(head), head[5])
+    let mut pieces = Vec::new(alloc);
+    for _ in 0..count {
+        let [_, kind, size, align, offset, _] = read_record(input)?;
+        pieces.extend_from_slice(&[kind, size, align, offset])?;
+    }
+    let shape = Shape {
+        size,
+        align,
+        complex: marks % 2 == 1,
+        floating: marks / 2 % 2 == 1,
+    };
+    Ok(Asked { shape, pieces })
 }
 
-fn shape_of(head: [u64; 6]) -> Shape {
-    Shape {
-        size: head[2],
-        align: head[3],
-        complex: head[4] % 2 == 1,
-        floating: head[4] / 2 % 2 == 1,
-    }
+fn read_record(input: &mut impl Read) -> io::Result<[u64; RECORD]> {
+    let mut bytes = [0; RECORD * WORD];
+    let mut record = [0; RECORD];
+    input.read_exact(&mut bytes)?;
+    words::unpack(&bytes, &mut record);
+    Ok(record)
 }
 
-// Reads so many pieces and prints the shape's lines; whether all came.
-fn answer(stdin: &mut Stdin, stdout: Stdout, shape: Shape, count: u64) -> io::Result<bool> {
-    let mut bytes = [0u8; 3072];
-    let mut words = [0u64; 384];
-    if count > MOST_HELD {
-        stdout.write_all(b"too many\n")?;
-        return Ok(false);
-    }
-    let n = count as usize * RECORD;
-    let size = n * WORD;
-    with_pieces(stdin, stdout, shape, &mut bytes[..size], &mut words[..n])
+fn print(alloc: Global, out: &mut impl Write, shape: Shape, pieces: &[u64]) -> io::Result<()> {
+    found_in_pieces(out, shape, pieces)?;
+    found_in_eightbytes(out, shape, pieces)?;
+    memory(out, shape, pieces)?;
+    record(out, pieces)?;
+    members(alloc, out, pieces)
 }
 
-fn with_pieces(
-    stdin: &mut Stdin,
-    stdout: Stdout,
-    shape: Shape,
-    bytes: &mut [u8],
-    words: &mut [u64],
-) -> io::Result<bool> {
-    if !read(stdin, bytes, words)? {
-        return Ok(false);
+fn found_in_pieces(out: &mut impl Write, shape: Shape, pieces: &[u64]) -> io::Result<()> {
+    let mut slots = [0; MOST_HELD * SLOT];
+    slot_writing::put_pieces(pieces, &mut slots);
+    let told = |found| Slots {
+        found,
+        slots: &slots,
+    };
+    for limit in 1..=8 {
+        let found = told(find::homogeneous(shape, pieces, limit));
+        writeln!(out, "homogeneous {limit} {found}")?;
     }
-    with_records(stdout, shape, words)?;
-    Ok(true)
+    for (integer, float) in [(8, 16), (8, 8), (4, 8)] {
+        let found = told(find::float_pair(pieces, integer, float));
+        writeln!(out, "float_pair {integer} {float} {found}")?;
+    }
+    writeln!(out, "x87_stack {}", told(find::x87_stack(shape, pieces)))?;
+    writeln!(out, "lone_float {}", told(find::lone_float(pieces)))?;
+    writeln!(out, "floating_mode {}", told(find::floating_mode(shape)))?;
+    writeln!(
+        out,
+        "complex_float {}",
+        told(find::complex_float(shape, pieces))
+    )
 }
 
-// Reads so many bytes into words; whether all came.
-fn read(stdin: &mut Stdin, bytes: &mut [u8], words: &mut [u64]) -> io::Result<bool> {
-    if read_full(stdin, bytes)? < bytes.len() {
-        return Ok(false);
+fn found_in_eightbytes(out: &mut impl Write, shape: Shape, pieces: &[u64]) -> io::Result<()> {
+    for limit in [8, 16, 24, 32, 64] {
+        let mut slots = [0; slots::MOST_WORDS];
+        let answer = eightbytes::eightbytes(shape, pieces, limit);
+        slot_writing::put_eightbytes(answer.classes, shape.size, &mut slots);
+        let found = Slots {
+            found: answer.found,
+            slots: &slots,
+        };
+        writeln!(out, "eightbytes {limit} {found}")?;
     }
-    words::unpack(bytes, words);
-    Ok(true)
+    Ok(())
 }
 
-// Reads until the bytes are full or the input ends; how many came.
-fn read_full(stdin: &mut Stdin, bytes: &mut [u8]) -> io::Result<usize>
-    ensures { IfOk result (λ n. n ≤ length bytes.new) }
-{
-    let mut done = 0;
-    while done < bytes.len() {
-        let got = stdin.read(&mut bytes[done..])?;
-        if got == 0 {
-            return Ok(done);
+// What a test found: nothing, or so many of the slots.
+#[derive(Clone, Copy)]
+struct Slots<'a> {
+    found: Option<Found>,
+    slots: &'a [u64],
+}
+
+impl fmt::Display for Slots<'_> {
+    fn fmt<W: fmt::Write>(&self, f: &mut fmt::Formatter<W>) -> fmt::Result {
+        let Some(found) = self.found else {
+            return f.write_str("nothing");
+        };
+        let count = found.count;
+        write!(f, "{count}")?;
+        let (slots, _) = self.slots.as_chunks::<SLOT>();
+        for [kind, offset, size] in slots.iter().take(count as usize) {
+            write!(f, " {kind}:{offset}:{size}")?;
         }
-        done += got;
+        Ok(())
     }
-    Ok(done)
-}
-
-// Prints the shape's lines. The words of a piece are those behind the first of its record.
-fn with_records(stdout: Stdout, shape: Shape, words: &[u64]) -> io::Result<()> {
-    let mut pieces = [0u64; 256];
-    let n = close_up(words, RECORD, 1, 1 + shape::PIECE, &mut pieces);
-    print(stdout, shape, &pieces[..n])
-}
-
-// Of each record of so many words, those from one place of it to another, with nothing between two records; how many words there are.
-fn close_up(words: &[u64], size: usize, from: usize, to: usize, out: &mut [u64]) -> usize
-    requires { 0 < size }
-    ensures { result ≤ length out.new }
-{
-    let mut n = 0;
-    for i in 0..words.len() {
-        if is_between(i % size, from, to) {
-            n = put_word(out, n, words[i]);
-        }
-    }
-    n
-}
-
-fn is_between(place: usize, from: usize, to: usize) -> bool {
-    (from <= place) & (place < to)
-}
-
-fn put_word(out: &mut [u64], at: usize, word: u64) -> usize
-    requires { at ≤ length out.old }
-    ensures { result ≤ length out.old }
-{
-    if at < out.len() {
-        out[at] = word;
-        return at + 1;
-    }
-    at
-}
-
-fn print(stdout: Stdout, shape: Shape, pieces: &[u64]) -> io::Result<()> {
-    let mut each = [0u64; MOST_HELD as usize * slots::SLOT];
-    let mut out = [0u8; 16384];
-    slot_writing::put_pieces(pieces, &mut each);
-    let n = lines(shape, pieces, &each, &mut out);
-    stdout.write_all(&out[..n])
-}
-
-// The lines of a shape as text; how many bytes it has. `each` holds the slots of the pieces.
-fn lines(shape: Shape, pieces: &[u64], each: &[u64], out: &mut [u8]) -> usize
-    ensures { result ≤ length out.new }
-{
-    let mut at = 0;
-    for number in 0..LINES {
-        at = line(out, at, number, shape, pieces, each);
-    }
-    within(at, out)
-}
-
-// A number of bytes, no more than there are.
-fn within(n: usize, out: &[u8]) -> usize
-    ensures { result ≤ length out.now }
-{
-    if n > out.len() {
-        return 0;
-    }
-    n
-}
-
-fn line(
-    out: &mut [u8],
-    at: usize,
-    number: usize,
-    shape: Shape,
-    pieces: &[u64],
-    each: &[u64],
-) -> usize {
-    let a = put_text(out, at, number);
-    let b = put_answer(out, a, number, shape, pieces, each);
-    append(out, b, b"\n")
-}
-
-fn put_answer(
-    out: &mut [u8],
-    at: usize,
-    number: usize,
-    shape: Shape,
-    pieces: &[u64],
-    each: &[u64],
-) -> usize {
-    if number < TESTS {
-        return put_found(out, at, found_by(number, shape, pieces), each);
-    }
-    if number < LAYOUTS {
-        return put_eightbytes(out, at, number, shape, pieces);
-    }
-    put_layout(out, at, number - LAYOUTS, shape, pieces)
-}
-
-// What the test of a line finds.
-fn found_by(test: usize, shape: Shape, pieces: &[u64]) -> Found {
-    if test < 8 {
-        return find::homogeneous(shape, pieces, test as u64 + 1);
-    }
-    if test == 8 {
-        return find::float_pair(pieces, 8, 16);
-    }
-    if test == 9 {
-        return find::float_pair(pieces, 8, 8);
-    }
-    if test == 10 {
-        return find::float_pair(pieces, 4, 8);
-    }
-    if test == 11 {
-        return find::x87_stack(shape, pieces);
-    }
-    if test == 12 {
-        return find::lone_float(pieces);
-    }
-    if test == 13 {
-        return find::floating_mode(shape);
-    }
-    find::complex_float(shape, pieces)
-}
-
-fn put_eightbytes(out: &mut [u8], at: usize, test: usize, shape: Shape, pieces: &[u64]) -> usize {
-    let mut each = [0u64; slots::MOST_WORDS];
-    let answer = eightbytes::eightbytes(shape, pieces, limit(test));
-    let classes = answer.classes;
-    slot_writing::put_eightbytes(classes, shape.size, &mut each);
-    let found = answer.found;
-    put_found(out, at, found, &each)
-}
-
-// 8, 16, 24, 32 and 64 bytes.
-fn limit(test: usize) -> u64 {
-    if test == 19 {
-        return 64;
-    }
-    (test as u64 % 15 + 1) * 8
-}
-
-fn put_layout(out: &mut [u8], at: usize, layout: usize, shape: Shape, pieces: &[u64]) -> usize {
-    if layout == 0 {
-        return put_memory(out, at, shape, pieces);
-    }
-    if layout == 1 {
-        return put_record(out, at, pieces);
-    }
-    put_pieces(out, at, pieces)
 }
 
 // The alignment in the argument area, on each of the rows. A fresh call is never refused, so a refusal is the shape's and every row's: it is said
 // once.
-fn put_memory(out: &mut [u8], from: usize, shape: Shape, pieces: &[u64]) -> usize {
-    let mut at = from;
+fn memory(out: &mut impl Write, shape: Shape, pieces: &[u64]) -> io::Result<()> {
+    write!(out, "memory")?;
     for row in 0..abis::DESCRIPTIONS {
-        let answer = in_memory(row, shape, pieces);
-        at = put_align(out, at, answer);
-        if answer.refusal != shape::ACCEPTED {
-            return at;
+        match Call::fresh(row).next.in_memory(shape, pieces) {
+            Ok(align) => write!(out, " {align}")?,
+            Err(refusal) => {
+                write!(out, " refused {}", refusal.number())?;
+                break;
+            }
         }
     }
-    at
-}
-
-fn put_align(out: &mut [u8], at: usize, answer: InMemory) -> usize {
-    let numbers = [answer.align];
-    put_accepted(out, at, answer.refusal, 1, 1, &numbers)
-}
-
-fn in_memory(row: u64, shape: Shape, pieces: &[u64]) -> InMemory {
-    let fresh = Call::fresh(row);
-    let call = fresh.next;
-    call.in_memory(shape, pieces)
+    writeln!(out)
 }
 
 // The record that the pieces make.
-fn put_record(out: &mut [u8], at: usize, pieces: &[u64]) -> usize {
-    let answer = layouts::record(pieces);
-    let record = answer.shape;
-    let numbers = [record.size, record.align, record.floating as u64];
-    put_accepted(out, at, answer.refusal, 1, 3, &numbers)
+fn record(out: &mut impl Write, pieces: &[u64]) -> io::Result<()> {
+    match layouts::record(pieces) {
+        Ok(made) => writeln!(
+            out,
+            "record {} {} {}",
+            made.size, made.align, made.floating as u8
+        ),
+        Err(refusal) => writeln!(out, "record refused {}", refusal.number()),
+    }
 }
 
 // The pieces that their scalars make, as the members of a record.
-fn put_pieces(out: &mut [u8], at: usize, pieces: &[u64]) -> usize {
-    let mut members = [0u64; 192];
-    let n = close_up(pieces, shape::PIECE, 0, shape::SCALAR, &mut members);
-    put_members(out, at, &members[..n])
-}
-
-fn put_members(out: &mut [u8], at: usize, members: &[u64]) -> usize {
-    let mut pieces = [0u64; 256];
-    let answer = layouts::pieces(members, &mut pieces);
-    put_accepted(out, at, answer.refusal, shape::PIECE, answer.count, &pieces)
-}
-
-// The refusal, or where there is none so many records of so many words.
-fn put_accepted(
-    out: &mut [u8],
-    at: usize,
-    refusal: u64,
-    size: usize,
-    count: u64,
-    each: &[u64],
-) -> usize
-    requires { 0 < size }
-{
-    if refusal != shape::ACCEPTED {
-        let to = put_text(out, at, REFUSED);
-        return append_number(out, to, b' ', refusal);
+fn members(alloc: Global, out: &mut impl Write, pieces: &[u64]) -> io::Result<()> {
+    let mut members = Vec::new(alloc);
+    for p in shape::each_piece(pieces) {
+        members.extend_from_slice(&[p.kind, p.size, p.align])?;
     }
-    put_words(out, at, size, count, each)
-}
-
-// The front of a line, or one of the ends. Each has sixteen bytes here, filled up with dots.
-fn put_text(out: &mut [u8], at: usize, number: usize) -> usize {
-    let texts = b"homogeneous 1...homogeneous 2...homogeneous 3...homogeneous 4...\
-        homogeneous 5...homogeneous 6...homogeneous 7...homogeneous 8...\
-        float_pair 8 16.float_pair 8 8..float_pair 4 8..x87_stack.......\
-        lone_float......floating_mode...complex_float...eightbytes 8....\
-        eightbytes 16...eightbytes 24...eightbytes 32...eightbytes 64...\
-        memory..........record..........pieces.......... nothing........ refused........";
-    text::append_up_to_dot(out, at, texts, number % 25 * 16)
-}
-
-// The end of a line: nothing, or how many slots and then that many of `each`.
-fn put_found(out: &mut [u8], at: usize, found: Found, each: &[u64]) -> usize {
-    match found {
-        Found::Nothing => put_text(out, at, NOTHING),
-        Found::Slots { count, floats: _ } => put_slots(out, at, count, each),
-    }
-}
-
-fn put_slots(out: &mut [u8], at: usize, count: u64, each: &[u64]) -> usize {
-    let to = append_number(out, at, b' ', count);
-    put_words(out, to, slots::SLOT, count, each)
-}
-
-// So many records of so many words: a space before each record, and a colon between its words.
-fn put_words(out: &mut [u8], from: usize, size: usize, count: u64, each: &[u64]) -> usize
-    requires { 0 < size }
-{
-    let mut at = from;
-    for i in 0..each.len() {
-        if (i / size) as u64 >= count {
-            return at;
+    let mut made = [0; MOST_HELD * PIECE];
+    match layouts::pieces(&members, &mut made) {
+        Ok(count) => {
+            write!(out, "pieces")?;
+            for p in shape::each_piece(&made).take(count as usize) {
+                write!(out, " {}:{}:{}:{}", p.kind, p.size, p.align, p.offset)?;
+            }
+            writeln!(out)
         }
-        at = append_number(out, at, before(i % size), each[i]);
+        Err(refusal) => writeln!(out, "pieces refused {}", refusal.number()),
     }
-    at
-}
-
-fn before(word: usize) -> u8 {
-    if word == 0 {
-        return b' ';
-    }
-    b':'
 }
