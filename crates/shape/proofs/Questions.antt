@@ -2,15 +2,14 @@
 use Prim.Native.Nat.{ℕ}
 use mathlib.Core.Path.{◌≡◌, refl, ◌∙◌}
 use mathlib.Core.List.{List, [], ◌∷◌}
-use mathlib.Core.Bool.{true, false, ◌&&◌}
+use mathlib.Core.Bool.{true, false}
 use native.Mathlib.Omega.{arith}
-use lib.Dec.{eqb, leb}
+use lib.Dec.{leb}
 use Rattle.std.proofs.lemmas.Bool.{le-leb}
 use lib.ListN.{length}
 use Rattle.shape.specs.declared.Piece.{Piece}
 use Rattle.shape.specs.Words.{pieces_of}
 use Rattle.shape.specs.Questions.{all_of, is_all_of}
-use Rattle.shape.proofs.Words.{ByFirst}
 
 -- there is a piece where there are words for one
 pub all_where_any : (kind : ℕ) (ws : List ℕ) → true ≡ all_of kind (pieces_of ws) → leb 4 (length ws) ≡ is_all_of kind (pieces_of ws)
@@ -26,8 +25,3 @@ pub not_all_none : (kind : ℕ) (ps : List Piece) → false ≡ all_of kind ps �
 unfolding is_all_of
 not_all_none kind [] t = refl
 not_all_none kind (p ∷ ps) t = t
-
--- all of a kind, by the first piece and the rest
-pub kind_by_first : (kind : ℕ) → ByFirst (all_of kind) (λ p. eqb p.kind kind) ◌&&◌ true
-unfolding all_of
-kind_by_first kind = record { none = refl; more = λ p ps. refl }

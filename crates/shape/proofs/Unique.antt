@@ -17,14 +17,7 @@ use Rattle.shape.proofs.Scalar.is_float.Reads as scalar_is_float
 use Rattle.shape.proofs.Scalar.at.Reads as scalar_as_piece
 use Rattle.shape.proofs.Piece.is_float.Reads as piece_is_float
 use Rattle.shape.proofs.Piece.end.Reads as piece_end
-use Rattle.shape.proofs.least.Reads as least
-use Rattle.shape.proofs.most.Reads as most
-use Rattle.shape.proofs.minus.Reads as minus
-use Rattle.shape.proofs.sum.Reads as sum
-use Rattle.shape.proofs.product.Reads as product
 use Rattle.shape.proofs.round_up.Reads as round_up
-use Rattle.shape.proofs.one_if.Reads as one_if
-use Rattle.shape.proofs.wide.Reads as wide
 use Rattle.shape.proofs.refusals.Refusal.number.Reads as refusal_number
 
 is_all_of_decides : (κs : Lfts 1) → OneAnswer (is_all_of.Post κs)
@@ -72,29 +65,8 @@ piece_is_float_decides κs a r q s t p p' = p ∙ sym p'
 piece_end_decides : (κs : Lfts 0) → OneAnswer (piece_end.Post κs)
 piece_end_decides κs a r q s t p p' = p ∙ sym p'
 
-least_decides : (κs : Lfts 0) → OneAnswer (least.Post κs)
-least_decides κs a r q s t p p' = p ∙ sym p'
-
-most_decides : (κs : Lfts 0) → OneAnswer (most.Post κs)
-most_decides κs a r q s t p p' = p ∙ sym p'
-
-minus_decides : (κs : Lfts 0) → OneAnswer (minus.Post κs)
-minus_decides κs a r q s t p p' = p ∙ sym p'
-
-sum_decides : (κs : Lfts 0) → OneAnswer (sum.Post κs)
-sum_decides κs a r q s t p p' = p ∙ sym p'
-
-product_decides : (κs : Lfts 0) → OneAnswer (product.Post κs)
-product_decides κs a r q s t p p' = p ∙ sym p'
-
 round_up_decides : (κs : Lfts 0) → OneAnswer (round_up.Post κs)
 round_up_decides κs a r q s t p p' = p ∙ sym p'
-
-one_if_decides : (κs : Lfts 0) → OneAnswer (one_if.Post κs)
-one_if_decides κs a r q s t p p' = p.0 ∙ sym p'.0
-
-wide_decides : (κs : Lfts 0) → OneAnswer (wide.Post κs)
-wide_decides κs a r q s t p p' = p.0 ∙ sym p'.0
 
 refusal_number_decides : (κs : Lfts 0) → OneAnswer (refusal_number.Post κs)
 refusal_number_decides κs a r q s t p p' = p ∙ sym p'

@@ -175,25 +175,3 @@ module _ {A K : Type 0} {size : ℕ} {all : List ℕ → List A} {one : List ℕ
 
     pub test_next : not (test key x) ≡ false → total ≡ f key (all (drop (at + size) ws))
     test_next t = rw (loop_turn r (d key) total ws at inv w h x e, not-false (test key x) t)
-
--- ---- the same for what an iterator has left: `left` is what it has still to give
-
-module _ {A B C : Type 0} {f : List A → B} {g : A → C} {op : C → B → B} {last : B} (d : ByFirst f g op last)
-    (total : B) (left : List A) (inv : total ≡ f left) where
-  pub left_end : left ≡ [] → last ≡ total
-  left_end e = rw (inv, e, d.none)
-
-  pub left_turn : (x : A) (rest : List A) → left ≡ x ∷ rest → total ≡ op (g x) (f rest)
-  left_turn x rest e = rw (inv, e, d.more)
-
-module _ {A K : Type 0} {f : K → List A → Bool} {test : K → A → Bool} (d : (key : K) → ByFirst (f key) (test key) ◌&&◌ true)
-    (key : K) (total : Bool) (left : List A) (inv : total ≡ f key left) where
-  pub left_passed : left ≡ [] → true ≡ total
-  left_passed e = left_end (d key) total left inv e
-
-  module _ (x : A) (rest : List A) (e : left ≡ x ∷ rest) where
-    pub left_broken : test key x ≡ false → false ≡ total
-    left_broken t = rw (left_turn (d key) total left inv x rest e, t)
-
-    pub left_next : test key x ≡ true → total ≡ f key rest
-    left_next t = rw (left_turn (d key) total left inv x rest e, t)

@@ -139,7 +139,7 @@ impl Piece {
     pub fn end(self) -> u64
         ensures { result ≡ end_of self }
     {
-        sum(self.offset, most(self.size, 1))
+        self.offset.saturating_add(self.size.max(1))
     }
 }
 
@@ -314,62 +314,15 @@ pub fn scalar_at(words: &[u64], at: usize) -> Scalar
     }
 }
 
-pub fn least(a: u64, b: u64) -> u64
-    ensures { result ≡ min a b }
-{
-    a.min(b)
-}
-
-pub fn most(a: u64, b: u64) -> u64
-    ensures { result ≡ max a b }
-{
-    a.max(b)
-}
-
-// What is left of `a` without `b`: 0 where `b` is more.
-pub fn minus(a: u64, b: u64) -> u64
-    ensures { result ≡ a - b }
-{
-    a.saturating_sub(b)
-}
-
-// A sum, or the largest number where it passes 64 bits.
-pub fn sum(a: u64, b: u64) -> u64
-    ensures { result ≡ plus a b }
-{
-    a.saturating_add(b)
-}
-
-// A product, or the largest number where it passes 64 bits.
-pub fn product(a: u64, b: u64) -> u64
-    ensures { result ≡ times a b }
-{
-    a.saturating_mul(b)
-}
-
 // The next multiple of `a`, where 0 counts as 1, or the largest number where that passes 64 bits.
 #[tactic(auto, using(crate::proofs::Rounding::over_less, crate::proofs::Rounding::rounds_exact, crate::proofs::Rounding::rounds_over))]
 pub fn round_up(n: u64, a: u64) -> u64
     ensures { result ≡ rounded n a }
 {
-    let step = most(a, 1);
+    let step = a.max(1);
     let over = n % step;
     if over == 0 {
         return n;
     }
-    sum(n, step - over)
-}
-
-// A yes as 1, a no as 0.
-pub fn one_if(b: bool) -> u64
-    ensures { (result ≡ one_if b) × (result ≤ 1) }
-{
-    u64::from(b)
-}
-
-// A byte as a word.
-pub fn wide(byte: u8) -> u64
-    ensures { (result ≡ byte) × (result < 256) }
-{
-    u64::from(byte)
+    n.saturating_add(step - over)
 }
