@@ -25,17 +25,26 @@ pub struct Flattened {
 pub fn flatten(types: &[u64], members: &[u64], out: &mut [u64]) -> Flattened
     ensures { (result ≡ flatten_answer types.now members.now out.old) × (out.new ≡ flatten_written types.now members.now out.old) }
 {
-    let lists = Lists { types, members };
     if types.len() > types::SHORT_TABLE {
-        return told(flatten_within::<{ types::LONG_TABLE }>(lists, out));
+        return flatten_within::<{ types::LONG_TABLE }>(types, members, out);
     }
-    told(flatten_within::<{ types::SHORT_TABLE }>(lists, out))
+    flatten_within::<{ types::SHORT_TABLE }>(types, members, out)
 }
 
-fn told(answer: Result<Row, Refusal>) -> Flattened
-    ensures { result ≡ row_told answer }
+// The same, by a table of so many words: as many as the list has, or may have.
+fn flatten_within<const N: usize>(types: &[u64], members: &[u64], out: &mut [u64]) -> Flattened
+    requires { (min (length types.now) 4096 ≤ N) × (N ≤ 4096) }
+    ensures { (result ≡ flatten_answer types.now members.now out.old) × (out.new ≡ flatten_written types.now members.now out.old) }
 {
-    match answer {
+    let mut table = [0u64; N];
+    flatten_by(types, members, &mut table, out)
+}
+
+fn flatten_by(types: &[u64], members: &[u64], table: &mut [u64], out: &mut [u64]) -> Flattened
+    requires { min (length types.now) 4096 ≤ length table.old }
+    ensures { (result ≡ flatten_answer types.now members.now out.old) × (out.new ≡ flatten_written types.now members.now out.old) }
+{
+    match write_wanted(Lists { types, members }, table, out) {
         Ok(row) => Flattened {
             refusal: shape::ACCEPTED,
             pieces: row.leaves,
@@ -49,16 +58,8 @@ fn told(answer: Result<Row, Refusal>) -> Flattened
     }
 }
 
-// The row of the type whose pieces are written, by a table of so many words: as many as the list has, or may have.
-fn flatten_within<const N: usize>(lists: Lists<'_>, out: &mut [u64]) -> Result<Row, Refusal>
-    requires { (min (length lists.types.now) 4096 ≤ N) × (N ≤ 4096) }
-    ensures { (row_told result ≡ flatten_answer lists.entry.types.now lists.entry.members.now out.old) × (out.new ≡ flatten_written lists.entry.types.now lists.entry.members.now out.old) }
-{
-    let mut table = [0u64; N];
-    flatten_by(lists, &mut table, out)
-}
-
-fn flatten_by(lists: Lists<'_>, table: &mut [u64], out: &mut [u64]) -> Result<Row, Refusal>
+// Writes the pieces of the last entry's type: its row.
+fn write_wanted(lists: Lists<'_>, table: &mut [u64], out: &mut [u64]) -> Result<Row, Refusal>
     requires { min (length lists.types.now) 4096 ≤ length table.old }
     ensures { (row_told result ≡ flatten_answer lists.entry.types.now lists.entry.members.now out.old) × (out.new ≡ flatten_written lists.entry.types.now lists.entry.members.now out.old) }
 {
@@ -71,11 +72,10 @@ fn flatten_by(lists: Lists<'_>, table: &mut [u64], out: &mut [u64]) -> Result<Ro
     if row.leaves > (out.len() / PIECE) as u64 {
         return Err(Refusal::NoRoom);
     }
-    if row.leaves == 0 {
-        return Ok(row);
+    if row.leaves > 0 {
+        let measured = Measured { lists, table };
+        measured.write_type(out, last, 0, 0, types::MOST_LEVELS);
     }
-    let measured = Measured { lists, table };
-    measured.write_type(out, last, 0, 0, types::MOST_LEVELS);
     Ok(row)
 }
 

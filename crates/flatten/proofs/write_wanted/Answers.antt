@@ -1,7 +1,8 @@
--- `flatten_by` answers and writes what its definitions say: each way out is one law of the tests that led there.
+-- `write_wanted` answers and writes what its definitions say: each way out is one law of the tests that led there.
+use native.Mathlib.Omega.{arith}
 use Rattle.std.proofs.lemmas.Result.{err_from_is_err_and}
 use Rattle.flatten.proofs.Answering.{types_refused, some_entry, many_refused, short_refused, none_written, all_written}
-use Rattle.flatten.proofs.flatten_by.Goals as goal
+use Rattle.flatten.proofs.write_wanted.Goals as goal
 
 pub returns-in_err-measure : goal.returns-in_err-measure
 returns-in_err-measure c =
@@ -18,11 +19,11 @@ pub returns-then-row-out : goal.returns-then-row-out
 returns-then-row-out c =
     short_refused _ _ _ _ c.requires c.in_ok-measure.ensures.0 _ c.in_ok-measure.ensures.1 _ (rw c.entries.ensures at c.row_at-row.ensures) c.if-row.false c.if-row-out.true
 
-pub returns-then-row-eq0 : goal.returns-then-row-eq0
-returns-then-row-eq0 c =
-    none_written _ _ _ _ c.requires c.in_ok-measure.ensures.0 _ c.in_ok-measure.ensures.1 _ (rw c.entries.ensures at c.row_at-row.ensures) c.if-row.false c.if-row-out.false c.if-row-eq0.true
+pub returns-else-row-gt0 : goal.returns-else-row-gt0
+returns-else-row-gt0 c =
+    none_written _ _ _ _ c.requires c.in_ok-measure.ensures.0 _ c.in_ok-measure.ensures.1 _ (rw c.entries.ensures at c.row_at-row.ensures) c.if-row.false c.if-row-out.false (omega arith)
 
-pub returns : goal.returns
-returns c =
+pub returns-then-row-gt0 : goal.returns-then-row-gt0
+returns-then-row-gt0 c =
     all_written _ _ _ _ c.requires c.in_ok-measure.ensures.0 _ c.in_ok-measure.ensures.1 _ (rw c.entries.ensures at c.row_at-row.ensures) c.if-row.false c.if-row-out.false _
     (rw c.entries.ensures at c.write_type.ensures.1)
