@@ -93,11 +93,10 @@ impl<'a> Lists<'a> {
         ensures { refusal_of result ≡ lists_refusal self.entry.types.now self.entry.members.now }
     {
         let n = self.types.len();
-        if n % ENTRY != 0
-            || n / ENTRY == 0
-            || n / ENTRY > MOST_ENTRIES
-            || self.members.len() > MOST_MEMBERS
-        {
+        if n % ENTRY != 0 || n == 0 {
+            return Err(Refusal::BadList);
+        }
+        if n / ENTRY > MOST_ENTRIES || self.members.len() > MOST_MEMBERS {
             return Err(Refusal::BadList);
         }
         Ok(())
