@@ -3,12 +3,12 @@
 #![tactic(auto)]
 
 ghost use Rattle.std.specs.Prelude.{◌≡◌, ◌≤◌, min, length};
-ghost use Rattle.shape.specs.Words.{piece, piece_words, put_at};
+ghost use Rattle.shape.specs.Words.{piece_words, put_at};
 ghost use Rattle.types.specs.Entries.{members_from};
 ghost use Rattle.flatten.specs.Flattened.{row_told, flatten_answer, flatten_written};
 ghost use Rattle.flatten.specs.Writing.{over_members, over_elements, step_of, entry_pieces, next_at, pour_at, pour_words};
 
-use shape::{PIECE, Piece, Refusal, Scalar, sum};
+use shape::{PIECE, Piece, Refusal};
 use types::{Form, Lists, Row};
 
 // How many pieces were written, and the type's size and alignment; or the refusal.
@@ -99,7 +99,7 @@ impl<'a> Measured<'a> {
             return at;
         }
         match self.lists.form(e) {
-            Form::One(s) => put(out, at, piece_of(s, base)),
+            Form::One(s) => put(out, at, s.at(base)),
             Form::Members {
                 overlaid,
                 first,
@@ -126,16 +126,16 @@ impl<'a> Measured<'a> {
         ensures { (result ≡ pour_at (over_members (entry_pieces self.now.lists.types.now self.now.lists.members.now self.now.table.now levels) self.now.table.now overlaid base 0 (members_from self.now.lists.members.now first count)) out.old at) × (out.new ≡ pour_words (over_members (entry_pieces self.now.lists.types.now self.now.lists.members.now self.now.table.now levels) self.now.table.now overlaid base 0 (members_from self.now.lists.members.now first count)) out.old at) }
     {
         let mut to = at;
-        let mut end = 0;
+        let mut end: u64 = 0;
         for i in 0..count {
             let m = self.lists.member(first, i);
             let row = types::row_at(self.table, m);
             let offset = types::place(overlaid, end, row.align);
-            let start = sum(base, offset);
+            let start = base.saturating_add(offset);
             if row.leaves > 0 {
                 to = self.write_type(out, m, start, to, levels);
             }
-            end = sum(offset, row.takes);
+            end = offset.saturating_add(row.takes);
         }
         to
     }
@@ -156,23 +156,12 @@ impl<'a> Measured<'a> {
         let row = types::row_at(self.table, element);
         let step = shape::round_up(row.reach, row.align);
         let mut to = at;
-        let mut end = 0;
+        let mut end: u64 = 0;
         for _ in 0..count {
-            to = self.write_type(out, element, sum(base, end), to, levels);
-            end = sum(end, step);
+            to = self.write_type(out, element, base.saturating_add(end), to, levels);
+            end = end.saturating_add(step);
         }
         to
-    }
-}
-
-fn piece_of(s: Scalar, offset: u64) -> Piece
-    ensures { result ≡ piece s.kind s.size s.align offset }
-{
-    Piece {
-        kind: s.kind,
-        size: s.size,
-        align: s.align,
-        offset,
     }
 }
 

@@ -17,7 +17,7 @@ write_elements-loop-init t c =
 pub write_elements-loop-preserved : goal.write_elements-loop-preserved
 write_elements-loop-preserved t c =
     let i = c.loop.invariant in
-    let e = elements_turn _ _ _ _ _ _ c.loop-test.true _ c.sum.ensures _ c.sum-end.ensures in (
+    let e = elements_turn _ _ _ _ _ _ c.loop-test.true _ c.saturating_add.ensures _ c.saturating_add-end.ensures in (
       omega arith,
       turn_at _ _ _ e _ _ _ c.write_type-to.ensures.0 _ c.write_type-to.ensures.1 _ i.1,
       turn_words _ _ _ e _ _ _ c.write_type-to.ensures.0 _ c.write_type-to.ensures.1 _ i.2,
@@ -35,7 +35,7 @@ pub write_members-loop-i-preserved : goal.write_members-loop-i-preserved
 write_members-loop-i-preserved t c =
     let i = c.loop-i.invariant in
     let s = c.args.self.now in
-    let f = if_leaves c.row_at-row.result.leaves (entry_pieces s.lists.types.now s.lists.members.now s.table.now c.args.levels c.member-m.result c.sum-start.result) in
+    let f = if_leaves c.row_at-row.result.leaves (entry_pieces s.lists.types.now s.lists.members.now s.table.now c.args.levels c.member-m.result c.saturating_add-start.result) in
     -- where a member that has leaves and one that has none meet again
     let g : (c.if-row-gt0.to ≡ pour_at f c.loop-i.out c.loop-i.to) × (c.if-row-gt0.out ≡ pour_words f c.loop-i.out c.loop-i.to) × (length c.if-row-gt0.out ≡ length c.loop-i.out) =
     elim c.if-row-gt0.branch [
@@ -50,7 +50,7 @@ write_members-loop-i-preserved t c =
         ap length w.out-is,
       )
     ] in
-    let e = members_turn _ _ _ _ _ _ _ _ _ c.loop-i-test.true _ c.member-m.ensures _ c.row_at-row.ensures _ c.place-offset.ensures _ c.sum-start.ensures _ c.sum-end.ensures in (
+    let e = members_turn _ _ _ _ _ _ _ _ _ c.loop-i-test.true _ c.member-m.ensures _ c.row_at-row.ensures _ c.place-offset.ensures _ c.saturating_add-start.ensures _ c.saturating_add-end.ensures in (
       omega (arith, g.2, i.0),
       turn_at _ _ _ e _ _ _ g.0 _ g.1 _ i.1,
       turn_words _ _ _ e _ _ _ g.0 _ g.1 _ i.2,
@@ -81,5 +81,5 @@ write_type-returns-in-Elements t c =
 
 pub write_type-returns-in-One : goal.write_type-returns-in-One
 write_type-returns-in-One t c =
-    let e = of_scalar _ _ _ _ _ _ c.if-levels-eq0.false _ c.form.ensures _ c.in-One.is _ c.piece_of.ensures in
+    let e = of_scalar _ _ _ _ _ _ c.if-levels-eq0.false _ c.form.ensures _ c.in-One.is _ c.at.ensures in
     (said_at _ _ e _ _ _ (one_at _ _ _ _ c.put.ensures.0), said_words _ _ e _ _ _ (one_words _ _ _ _ c.put.ensures.1))
