@@ -133,6 +133,7 @@ fn mark(classes: &mut [Class; 8], p: Piece)
     let first = (p.offset / EIGHTBYTE) as usize;
     let last = ((p.end() - 1) / EIGHTBYTE) as usize;
     let mut class = Class::of(p.kind);
+    // most pieces lie in one eightbyte, and go without the loop
     if first == last {
         classes[first] = merge(classes[first], class);
         return;

@@ -56,6 +56,7 @@ pub fn matches(banks: Banks, test: Test, shape: Shape, words: &[u64]) -> Matched
 }
 
 // Whether a size is one of the first so many of four.
+// kept: word for word as the definition, and without the loop that an array of the four would bring.
 fn is_one_of(size: u64, n: u64, a: u64, b: u64, c: u64, d: u64) -> bool
     ensures { result ≡ is_one_of size n a b c d }
 {

@@ -14,6 +14,7 @@ pub fn put_pieces(words: &[u64], out: &mut [u64])
     if words.len() / shape::PIECE > slots::room(out.len()) {
         return;
     }
+    // kept: a place that is counted, since of a buffer lent out in chunks (chunks_exact_mut) no proof knows what was written.
     let mut to = 0;
     for p in shape::each_piece(words) {
         slots::put_slot(out, to, slot_of(p));

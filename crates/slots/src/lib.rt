@@ -69,6 +69,7 @@ pub fn integer_slots(size: u64, width: u64, out: &mut [u64]) -> u64
     if count > room(out.len()) as u64 {
         return count;
     }
+    // kept: of a buffer lent out in chunks (chunks_exact_mut) no proof knows what was written, so each slot is put at its place.
     for i in 0..count {
         let offset = i * w;
         let part = (size - offset).min(w);
