@@ -3,7 +3,8 @@
 // above it, and every refusal, which the line that is printed counts.
 #![tactic(auto)]
 
-ghost use Rattle.std.specs.Prelude.{◌≡◌, ◌≤◌, length};
+ghost use Rattle.std.specs.Prelude.{◌≡◌};
+ghost use Rattle.bridge_main.specs.Lending.{ReturnsAtMuts};
 ghost use Rattle.classify.specs.Answers.{variadic_answer};
 ghost use Rattle.bridge.specs.Lent.{LentReturns, LentPasses, LentPassesVariadic};
 
@@ -11,11 +12,9 @@ use bridge::What;
 use classify::{Answer, Call, Outcome};
 use shape::{Arg, Scalar, Shape};
 use spend::Left;
-use stack_place::Stacked;
-use std::io;
-use std::io::Stdout;
+use std::{array, fmt, io};
 
-const OPERATIONS: u64 = 60000;
+const OPERATIONS: usize = 60000;
 
 const SEED: u64 = 88172645463325252;
 
@@ -29,112 +28,110 @@ const TOO_ALIGNED: u64 = checks::MOST_ALIGN * 2;
 // A call of any numbers may have the two behind the last description.
 const PAST_THE_LAST: u64 = abis::DESCRIPTIONS + 2;
 
-// The tally: a place for each refusal, at its number, and behind them one for each way.
-const REFUSALS: usize = 10;
-
-const TALLY: usize = REFUSALS + 5;
-
-// The call behind an operation, the seed of the next one, whether the two forms agreed, and which place of the tally it counts in. Where they
-// agreed they left one call.
-#[derive(Clone, Copy)]
-struct Turn {
-    call: Call,
-    seed: u64,
-    same: bool,
-    place: usize,
-}
+// How many words pieces have at most.
+const WORDS: usize = 32;
 
 fn main(rt: HostRuntime) -> io::Result<()> {
-    let mut tally = [0u64; TALLY];
+    let mut tally = Tally {
+        refused: [0; 10],
+        ways: [0; 5],
+    };
     let done = agreed(&mut tally);
-    say(rt.stdout(), done, &tally)
+    let how = if done < OPERATIONS {
+        "and the next one differs"
+    } else {
+        "by value and lent"
+    };
+    println!(rt; "{done} operations agree, {how}{tally}")
 }
 
 // How many operations agree before one doesn't.
-fn agreed(tally: &mut [u64]) -> u64 {
-    let mut turn = start();
-    let mut done = 0;
-    while done < OPERATIONS {
-        let next = one(turn);
-        if !next.same {
+fn agreed(tally: &mut Tally) -> usize {
+    let mut call = Call::fresh(0).next;
+    for (done, drawn) in History(SEED).take(OPERATIONS).enumerate() {
+        let Some(answer) = one(call, drawn) else {
             return done;
-        }
-        count(tally, next.place);
-        turn = next;
-        done += 1;
+        };
+        tally.count(answer.outcome);
+        call = answer.next;
     }
-    done
+    OPERATIONS
 }
 
-// A refusal or a way that has no place is counted nowhere: then the line's numbers don't add up to all operations.
-fn place_of(outcome: Outcome) -> usize {
-    let refusal = outcome.refusal as usize;
-    let way = outcome.way as usize;
-    if refusal >= REFUSALS {
-        return TALLY;
-    }
-    if refusal > 0 {
-        return refusal;
-    }
-    if way >= TALLY - REFUSALS {
-        return TALLY;
-    }
-    REFUSALS + way
-}
-
-fn count(tally: &mut [u64], place: usize) {
-    if place >= tally.len() {
-        return;
-    }
-    let n = tally[place];
-    if n >= OPERATIONS {
-        return;
-    }
-    tally[place] = n + 1;
-}
-
-fn start() -> Turn {
-    let answer = Call::fresh(0);
-    let call = answer.next;
-    Turn {
-        call,
-        seed: SEED,
-        same: true,
-        place: 0,
-    }
-}
-
-// One operation. The slot buffers hold a number of the history first, so that a word that one form alone writes shows.
-fn one(turn: Turn) -> Turn {
-    let drawn = draw(turn.seed);
-    let call = turn.call;
-    let mut words = [0u64; 32];
-    let mut first = [drawn.a; slots::MOST_WORDS];
-    let mut second = [drawn.a; slots::MOST_WORDS];
-    fill(&mut words, drawn);
-    let n = among(words_of(drawn.c), &words);
-    let room = among(room_of(drawn.c), &first);
-    both(
-        renewed(call, drawn),
-        drawn,
-        &words[..n],
-        &mut first[..room],
-        &mut second[..room],
-    )
-}
-
-// An operation in both forms.
-fn both(call: Call, drawn: Drawn, words: &[u64], first: &mut [u64], second: &mut [u64]) -> Turn {
-    let op = drawn.a % 16;
+// One operation in both forms; what it left, where they agree. The slot buffers hold a number of the history first, so that a word that one
+// form alone writes shows.
+fn one(before: Call, drawn: Drawn) -> Option<Answer> {
+    let call = renewed(before, drawn);
+    let operation = Operation::drawn(drawn.a);
     let what = what_of(drawn);
-    let answer = pass(op, call, arg_of(what), words, first);
-    let left = lend(op, call, what, words, second);
-    compared(answer, left, first, second, drawn.c)
+    let words: [u64; WORDS] = array::from_fn(|i| word(i as u64, drawn.b, drawn.c));
+    let words = &words[..words_of(drawn.c).min(WORDS)];
+    let room = room_of(drawn.c).min(slots::MOST_WORDS);
+    let mut first = [drawn.a; slots::MOST_WORDS];
+    let mut second = first;
+    let by_value = pass(operation, call, arg_of(what), words, &mut first[..room]);
+    let lent = lend(operation, call, what, words, &mut second[..room]);
+    if by_value == lent && first == second {
+        Some(lent)
+    } else {
+        None
+    }
+}
+
+// ---- the tally: how many operations had each refusal and, where there was none, each way
+
+#[derive(Drop)]
+struct Tally {
+    refused: [u64; 10],
+    ways: [u64; 5],
+}
+
+impl Tally {
+    // A refusal or a way that has no place is counted nowhere: then the line's numbers don't add up to all operations.
+    fn count(&mut self, outcome: Outcome) {
+        if outcome.refusal == shape::ACCEPTED {
+            count_at(&mut self.ways, outcome.way);
+        } else {
+            count_at(&mut self.refused, outcome.refusal);
+        }
+    }
+}
+
+fn count_at(counts: &mut [u64], place: u64) {
+    if let Some(n) = counts.get_mut(place as usize) {
+        *n = n.saturating_add(1);
+    }
+}
+
+impl fmt::Display for Tally {
+    fn fmt<W: fmt::Write>(&self, f: &mut fmt::Formatter<W>) -> fmt::Result {
+        let refused = &self.refused[..];
+        let one_to_seven = Each(&refused[1..8]);
+        let nine = refused[9];
+        let ways = Each(&self.ways);
+        write!(
+            f,
+            "; refused with 1 to 7 and 9:{one_to_seven} {nine}; ways 0 to 4:{ways}"
+        )
+    }
+}
+
+// Numbers, each behind a space.
+#[derive(Clone, Copy)]
+struct Each<'a>(&'a [u64]);
+
+impl fmt::Display for Each<'_> {
+    fn fmt<W: fmt::Write>(&self, f: &mut fmt::Formatter<W>) -> fmt::Result {
+        for n in self.0 {
+            write!(f, " {n}")?;
+        }
+        Ok(())
+    }
 }
 
 // ---- the history
 
-// The next three numbers of the generator, xorshift of 64 bits.
+// The numbers that one operation is drawn from.
 #[derive(Clone, Copy)]
 struct Drawn {
     a: u64,
@@ -142,10 +139,20 @@ struct Drawn {
     c: u64,
 }
 
-fn draw(seed: u64) -> Drawn {
-    let a = after(seed);
-    let b = after(a);
-    Drawn { a, b, c: after(b) }
+// From a seed, three numbers a turn of the generator, xorshift of 64 bits.
+#[derive(Clone, Copy)]
+struct History(u64);
+
+impl Iterator for History {
+    type Item = Drawn;
+
+    fn next(&mut self) -> Option<Drawn> {
+        let a = after(self.0);
+        let b = after(a);
+        let c = after(b);
+        self.0 = c;
+        Some(Drawn { a, b, c })
+    }
 }
 
 fn after(seed: u64) -> u64 {
@@ -154,15 +161,31 @@ fn after(seed: u64) -> u64 {
     b ^ (b << 17)
 }
 
+#[derive(Clone, Copy, PartialEq, Eq)]
+enum Operation {
+    Variadic,
+    Returns,
+    Argument,
+    VariadicArgument,
+}
+
+impl Operation {
+    fn drawn(a: u64) -> Operation {
+        match a % 16 {
+            0 => Operation::Variadic,
+            1..=4 => Operation::Returns,
+            5..=10 => Operation::Argument,
+            _ => Operation::VariadicArgument,
+        }
+    }
+}
+
 // The call that an operation is performed on: the one before left it, or a fresh one, or now and then one of any numbers, or what the one before
 // left, but at another stack offset.
 fn renewed(call: Call, drawn: Drawn) -> Call {
-    let a = drawn.a;
-    let b = drawn.b;
+    let Drawn { a, b, .. } = drawn;
     if (a >> 8) % 16 == 0 {
-        let answer = Call::fresh((b >> 9) % abis::DESCRIPTIONS);
-        let fresh = answer.next;
-        return fresh;
+        return Call::fresh((b >> 9) % abis::DESCRIPTIONS).next;
     }
     if (a >> 20) % 128 == 0 {
         return Call {
@@ -176,11 +199,9 @@ fn renewed(call: Call, drawn: Drawn) -> Call {
         };
     }
     if (a >> 27) % 64 == 0 {
-        let left = call.left;
         return Call {
-            abi: call.abi,
-            left,
             stack: stack_of(b >> 42),
+            ..call
         };
     }
     call
@@ -188,15 +209,16 @@ fn renewed(call: Call, drawn: Drawn) -> Call {
 
 // Mostly a small offset; else one near the limit, below it or above it.
 fn stack_of(k: u64) -> u64 {
+    let small = (k >> 2) % 64;
     if k % 4 == 0 {
-        return stack_place::MOST_STACK - 48 + (k >> 2) % 64;
+        stack_place::MOST_STACK - 48 + small
+    } else {
+        small
     }
-    (k >> 2) % 64
 }
 
 fn what_of(drawn: Drawn) -> What {
-    let b = drawn.b;
-    let c = drawn.c;
+    let Drawn { b, c, .. } = drawn;
     let form = form_of(b % 16);
     What {
         form,
@@ -209,65 +231,49 @@ fn what_of(drawn: Drawn) -> What {
 }
 
 fn form_of(k: u64) -> u64 {
-    if k == 0 {
-        return shape::FORM_VOID;
+    match k {
+        0 => shape::FORM_VOID,
+        1..=4 => shape::FORM_SCALAR,
+        5..=14 => shape::FORM_AGGREGATE,
+        _ => k,
     }
-    if k < 5 {
-        return shape::FORM_SCALAR;
-    }
-    if k < 15 {
-        return shape::FORM_AGGREGATE;
-    }
-    k
 }
 
 // Mostly an integer, a Single or a Double; now and then any other, or the first number that is no kind.
 fn kind_of(k: u64) -> u64 {
-    if k <= NO_KIND {
-        return k;
-    }
-    k % 3
+    if k <= NO_KIND { k } else { k % 3 }
 }
 
 fn size_of(form: u64, b: u64, c: u64) -> u64 {
     if form == shape::FORM_SCALAR {
         return scalar_size((b >> 10) % 64);
     }
-    if (c >> 6) % 32 == 0 {
-        return TOO_LARGE;
+    match (c >> 6) % 32 {
+        0 => TOO_LARGE,
+        1..=5 => (c >> 12) % 70,
+        _ => spread((c >> 2) % 6, c),
     }
-    if (c >> 6) % 32 < 6 {
-        return (c >> 12) % 70;
-    }
-    spread((c >> 2) % 6, c)
 }
 
 // 1, 2, 4, 8 or 16; now and then 3, 64 or 65.
 fn scalar_size(k: u64) -> u64 {
-    if k < 60 {
-        return 1 << (k / 12);
+    match k {
+        0..=59 => 1 << (k / 12),
+        60 | 61 => 3,
+        _ => k % 64 + 2,
     }
-    if k < 62 {
-        return 3;
-    }
-    k % 64 + 2
 }
 
 fn align_of(c: u64) -> u64 {
-    if (c >> 18) % 64 == 0 {
-        return TOO_ALIGNED;
+    match (c >> 18) % 64 {
+        0 => TOO_ALIGNED,
+        1..=4 => 1,
+        _ => spread(1, c),
     }
-    if (c >> 18) % 64 < 5 {
-        return 1;
-    }
-    spread(1, c)
 }
 
 fn flag(k: u64) -> u64 {
-    if k < 3 {
-        return k;
-    }
-    0
+    if k < 3 { k } else { 0 }
 }
 
 // So many times the width of a piece, which is 4, 8 or 16.
@@ -276,50 +282,32 @@ fn spread(n: u64, c: u64) -> u64 {
 }
 
 // How many words of pieces are read: whole pieces but for now and then.
-fn words_of(c: u64) -> u64 {
-    let n = ((c >> 2) % 6) << 2;
-    if (c >> 50) % 64 == 0 {
-        return n | 1;
-    }
-    n
-}
-
-// How many words the slot buffer has: mostly room for the most slots.
-fn room_of(c: u64) -> u64 {
-    if (c >> 40) % 4 == 0 {
-        return (c >> 44) % (slots::MOST_WORDS as u64 + 1);
-    }
-    slots::MOST_WORDS as u64
-}
-
-// So many words, or all where there are fewer.
-fn among(n: u64, words: &[u64]) -> usize
-    ensures { result ≤ length words.now }
-{
-    if n > words.len() as u64 {
-        return words.len();
-    }
+fn words_of(c: u64) -> usize {
+    let whole = ((c >> 2) % 6) << 2;
+    let n = if (c >> 50) % 64 == 0 {
+        whole | 1
+    } else {
+        whole
+    };
     n as usize
 }
 
-// The pieces, side by side.
-fn fill(words: &mut [u64], drawn: Drawn) {
-    let n = words.len();
-    let mut i = 0;
-    while i < n {
-        words[i] = word(i as u64, drawn.b, drawn.c);
-        i += 1;
+// How many words the slot buffer has: mostly room for the most slots.
+fn room_of(c: u64) -> usize {
+    if (c >> 40) % 4 == 0 {
+        (c >> 44) as usize % (slots::MOST_WORDS + 1)
+    } else {
+        slots::MOST_WORDS
     }
 }
 
+// A word of the pieces, which stand side by side.
 fn word(i: u64, b: u64, c: u64) -> u64 {
-    if i % 4 == 0 {
-        return piece_kind(i / 4, b);
+    match i % 4 {
+        0 => piece_kind(i / 4, b),
+        3 => spread(i / 4, c),
+        _ => spread(1, c),
     }
-    if i % 4 == 3 {
-        return spread(i / 4, c);
-    }
-    spread(1, c)
 }
 
 fn piece_kind(piece: u64, b: u64) -> u64 {
@@ -334,201 +322,98 @@ fn piece_kind(piece: u64, b: u64) -> u64 {
 
 // ---- the value form
 
-fn pass(op: u64, call: Call, arg: Arg, words: &[u64], slots: &mut [u64]) -> Answer {
-    if op == 0 {
-        return call.variadic();
+fn pass(operation: Operation, call: Call, arg: Arg, words: &[u64], slots: &mut [u64]) -> Answer {
+    match operation {
+        Operation::Variadic => call.variadic(),
+        Operation::Returns => call.returns(arg, words, slots),
+        Operation::Argument => call.argument(arg, words, slots),
+        Operation::VariadicArgument => call.variadic_argument(arg, words, slots),
     }
-    if op < 5 {
-        return call.returns(arg, words, slots);
-    }
-    if op < 11 {
-        return call.argument(arg, words, slots);
-    }
-    call.variadic_argument(arg, words, slots)
 }
 
 fn arg_of(what: What) -> Arg {
-    if what.form == shape::FORM_VOID {
-        return Arg::Void;
-    }
-    if what.form == shape::FORM_SCALAR {
-        return Arg::Scalar(Scalar {
+    match what.form {
+        shape::FORM_VOID => Arg::Void,
+        shape::FORM_SCALAR => Arg::Scalar(Scalar {
             kind: what.kind,
             size: what.size,
             align: what.align,
-        });
-    }
-    if what.form == shape::FORM_AGGREGATE {
-        return Arg::Aggregate(Shape {
+        }),
+        shape::FORM_AGGREGATE => Arg::Aggregate(Shape {
             size: what.size,
             align: what.align,
             complex: what.complex > 0,
             floating: what.floating > 0,
-        });
+        }),
+        _ => Arg::Scalar(Scalar {
+            kind: 255,
+            size: 1,
+            align: 1,
+        }),
     }
-    Arg::Scalar(Scalar {
-        kind: 255,
-        size: 1,
-        align: 1,
-    })
 }
 
 // ---- the forms over a lent call
 
-fn lend(op: u64, call: Call, what: What, words: &[u64], slots: &mut [u64]) -> Answer {
-    if op == 0 {
-        return mark(call);
+fn lend(operation: Operation, call: Call, what: What, words: &[u64], slots: &mut [u64]) -> Answer {
+    match operation {
+        Operation::Variadic => mark(call),
+        Operation::Returns => returns(call, what, words, slots),
+        Operation::Argument => argument(call, what, words, slots),
+        Operation::VariadicArgument => variadic_argument(call, what, words, slots),
     }
-    if op < 5 {
-        return returns(call, what, words, slots);
-    }
-    if op < 11 {
-        return argument(call, what, words, slots);
-    }
-    variadic_argument(call, what, words, slots)
 }
 
 fn mark(call: Call) -> Answer
     ensures { (result.outcome ≡ (variadic_answer call).outcome) × (result.next ≡ (variadic_answer call).next) }
 {
-    let mut lent = call;
-    let outcome = bridge::barkpaddle_bridge_variadic(&mut lent);
-    Answer {
-        next: lent,
-        outcome,
-    }
+    lent(
+        call,
+        &mut [],
+        |call, _| bridge::barkpaddle_bridge_variadic(call),
+    )
 }
 
 fn returns(call: Call, what: What, words: &[u64], slots: &mut [u64]) -> Answer
     ensures { LentReturns call what words.now slots.old result.outcome result.next slots.new }
 {
-    let mut lent = call;
-    let outcome = bridge::barkpaddle_bridge_returns(&mut lent, what, words, slots);
-    Answer {
-        next: lent,
-        outcome,
-    }
+    lent(
+        call,
+        slots,
+        |call, slots| bridge::barkpaddle_bridge_returns(call, what, words, slots),
+    )
 }
 
 fn argument(call: Call, what: What, words: &[u64], slots: &mut [u64]) -> Answer
     ensures { LentPasses call what words.now slots.old result.outcome result.next slots.new }
 {
-    let mut lent = call;
-    let outcome = bridge::barkpaddle_bridge_argument(&mut lent, what, words, slots);
-    Answer {
-        next: lent,
-        outcome,
-    }
+    lent(
+        call,
+        slots,
+        |call, slots| bridge::barkpaddle_bridge_argument(call, what, words, slots),
+    )
 }
 
 fn variadic_argument(call: Call, what: What, words: &[u64], slots: &mut [u64]) -> Answer
     ensures { LentPassesVariadic call what words.now slots.old result.outcome result.next slots.new }
 {
-    let mut lent = call;
-    let outcome = bridge::barkpaddle_bridge_variadic_argument(&mut lent, what, words, slots);
-    Answer {
-        next: lent,
-        outcome,
-    }
+    lent(
+        call,
+        slots,
+        |call, slots| bridge::barkpaddle_bridge_variadic_argument(call, what, words, slots),
+    )
 }
 
-// ---- the comparison
-
-fn compared(answer: Answer, left: Answer, first: &[u64], second: &[u64], seed: u64) -> Turn {
-    let value = answer.next;
-    let lent = left.next;
-    let outcome = answer.outcome;
-    let lent_outcome = left.outcome;
-    Turn {
-        call: lent,
-        seed,
-        same: same_calls(value, lent)
-            & same_outcomes(outcome, lent_outcome)
-            & same_words(first, second),
-        place: place_of(lent_outcome),
-    }
-}
-
-fn same_calls(a: Call, b: Call) -> bool {
-    let left = a.left;
-    let other = b.left;
-    (a.abi == b.abi)
-        & (left.integer == other.integer)
-        & (left.float == other.float)
-        & (left.integers_only == other.integers_only)
-        & (a.stack == b.stack)
-}
-
-fn same_outcomes(a: Outcome, b: Outcome) -> bool {
-    let spent = a.spent;
-    let other = b.spent;
-    (a.refusal == b.refusal)
-        & (a.way == b.way)
-        & (spent.integers_passed == other.integers_passed)
-        & (spent.integers_given == other.integers_given)
-        & (spent.floats_passed == other.floats_passed)
-        & (spent.floats_given == other.floats_given)
-        & (a.slots == b.slots)
-        & same_places(a.stacked, b.stacked)
-}
-
-fn same_places(a: Stacked, b: Stacked) -> bool {
-    (a.at == b.at) & (a.bytes == b.bytes)
-}
-
-fn same_words(first: &[u64], second: &[u64]) -> bool {
-    let n = first.len();
-    if n != second.len() {
-        return false;
-    }
-    let mut i = 0;
-    while i < n {
-        if first[i] != second[i] {
-            return false;
-        }
-        i += 1;
-    }
-    true
-}
-
-// ---- the line
-
-fn say(stdout: Stdout, done: u64, tally: &[u64]) -> io::Result<()> {
-    stdout.print(done)?;
-    say_how(stdout, done)?;
-    say_counts(stdout, b"; refused with 1 to 7 and 9:", tally, 1, 8)?;
-    say_counts(stdout, b"", tally, 9, REFUSALS)?;
-    say_counts(stdout, b"; ways 0 to 4:", tally, REFUSALS, TALLY)?;
-    stdout.write_all(b"\n")
-}
-
-fn say_how(stdout: Stdout, done: u64) -> io::Result<()> {
-    if done < OPERATIONS {
-        return stdout.write_all(b" operations agree, and the next one differs");
-    }
-    stdout.write_all(b" operations agree, by value and lent")
-}
-
-fn say_counts(
-    stdout: Stdout,
-    words: &[u8],
-    tally: &[u64],
-    first: usize,
-    end: usize,
-) -> io::Result<()> {
-    stdout.write_all(words)?;
-    let mut i = first;
-    while i < end {
-        say_count(stdout, tally, i)?;
-        i += 1;
-    }
-    Ok(())
-}
-
-fn say_count(stdout: Stdout, tally: &[u64], i: usize) -> io::Result<()> {
-    stdout.write_all(b" ")?;
-    if i < tally.len() {
-        stdout.print(tally[i])?;
-    }
-    Ok(())
+// What an operation answers about a call that is lent to it, with a slot buffer, and the call that it leaves.
+fn lent<F: FnOnce(&mut Call, &mut [u64]) -> Outcome>(
+    call: Call,
+    slots: &mut [u64],
+    operation: F,
+) -> Answer
+    requires { F.IsAlwaysCallable operation }
+    ensures { ReturnsAtMuts F.FnOnce operation call slots.old result.outcome result.next slots.new }
+{
+    let mut next = call;
+    let outcome = operation(&mut next, slots);
+    Answer { next, outcome }
 }
