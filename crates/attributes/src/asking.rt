@@ -10,6 +10,7 @@ use targets::{
 };
 
 // The code of the convention that a name asks for.
+// kept: a code and no Convention, since not every Convention has a code: regparm of a number up to 2^64 passes it.
 pub fn by_name(architecture: Architecture, system: System, name: &[u8]) -> Option<u64>
     ensures { result ≡ optional (code_asked (asked_of architecture system name.now)) }
 {
