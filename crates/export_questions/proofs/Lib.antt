@@ -1,3 +1,4 @@
 mod Described
 mod Looked
+mod Aligned
 mod Unique

@@ -1,6 +1,6 @@
 -- `barkpaddle_attribute` hands on what `attribute` answers and writes.
 use mathlib.Core.Path.{◌≡◌}
-use Rattle.std.specs.Prelude.{Ok, Err, Some, None}
+use Rattle.std.specs.Prelude.{Ok, Some, None}
 use Rattle.export_questions.proofs.Looked.{looked}
 use Rattle.export_questions.proofs.lookups.barkpaddle_attribute.Goals as goal
 
