@@ -1,4 +1,4 @@
--- The laws of `align`: the first rule for homogeneous aggregates, and the alignment in a packed area.
+-- The laws of `in_memory`: the first rule for homogeneous aggregates, and the alignment in a packed area.
 use Rattle.std.specs.Prelude as Prelude
 use Prim.Native.Nat.{ℕ, max}
 use mathlib.Core.Path.{◌≡◌, refl, sym}

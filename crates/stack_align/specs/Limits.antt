@@ -1,4 +1,4 @@
--- The limit that the parts of `align` answer one another, or none.
+-- The limit that the parts of `in_memory` answer one another, or none.
 use Rattle.std.specs.Prelude as Prelude
 use Rattle.std.specs.Prelude.{ℕ, List}
 use Rattle.std.proofs.Math.Option.{Option}

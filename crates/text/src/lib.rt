@@ -1,4 +1,4 @@
-// Bytes of text, written into a lent buffer: the one way that names leave (REFERENCE 5.5, 6.4), and that programs make their lines.
+// Bytes of text, written into a lent buffer: the one way that names leave (REFERENCE 5.5, 6.4), and that a sheet's lines are made.
 #![tactic(auto)]
 
 ghost use Rattle.std.specs.Prelude.{◌≡◌, [], ◌∷◌, ◌+◌, ◌<◌, ◌≤◌, length, drop, position, ◌==◌};
