@@ -291,6 +291,8 @@ fn perform_aggregate(call: Call, role: Role, shape: Shape, words: &[u64], out: &
 
 // ---- an operation that passed the checks, by a description's terms and one of its lists: decide, room, place, then writing and the answer. Room is
 // asked before the place: of a scalar the compiler mostly knows there that it has no slots.
+// kept: terms, list, returning and dots as parameters. A scalar has no list and a return no dots, so that a struct of them would hold what half of
+// these functions don't read.
 
 fn scalar_by(
     terms: Terms,
