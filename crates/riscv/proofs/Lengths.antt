@@ -289,17 +289,17 @@ module _ (name : List ℕ) (fr fw I F : ℕ) where
       round_up (bytes_for (terms_of (riscv name fr fw)) false arg k.decision.way k.decision.spent k.decision.count) 8
       ≡ words_by k.decision.way (size_of_arg arg) k.decision.spent.integers_given k.decision.spent.floats_given (slots_for k arg ps)
 
-  scalar_length : (found : Left) (s : Scalar) (ps : List Piece) (classes : List ℕ)
-      → ScalarLength s (source_slots (scalar_argument (riscv name fr fw).banks (riscv name fr fw).scalars found s).source classes ps) (scalar_argument (riscv name fr fw).banks (riscv name fr fw).scalars found s)
+  scalar_length : (found : Left) (s : Scalar) (ps : List Piece)
+      → ScalarLength s (source_slots (scalar_argument (riscv name fr fw).banks (riscv name fr fw).scalars found s).source no_classes ps) (scalar_argument (riscv name fr fw).banks (riscv name fr fw).scalars found s)
   unfolding source_slots
-  scalar_length found s ps classes =
-      scalar_so name fr fw (λ (d : Decision). ScalarLength s (source_slots d.source classes ps) d) found s refl (λ _. held_length s [] (min 1 found.float))
+  scalar_length found s ps =
+      scalar_so name fr fw (λ (d : Decision). ScalarLength s (source_slots d.source no_classes ps) d) found s refl (λ _. held_length s [] (min 1 found.float))
       (cut_beyond (min (want_of s.size 8) found.integer) 0 s.size)
 
   named_length : (arg : args.Arg) (ps : List Piece) → Enough arg ps → LengthRead arg ps (argument_choice (riscv name fr fw) left arg ps)
   unfolding argument_choice scalar_by aggregate_by settled_for round_up
   named_length args.TheVariants.Void ps d = refl
-  named_length (args.TheVariants.Scalar s) ps d = scalar_length left s ps no_classes
+  named_length (args.TheVariants.Scalar s) ps d = scalar_length left s ps
   named_length (args.TheVariants.Aggregate shape) ps d = all_length shape ps name fr fw left (judged (board name fr fw) ps d.usual) refl
 
   -- what one of a size and an alignment finds left after the dots, behind so many
@@ -316,7 +316,7 @@ module _ (name : List ℕ) (fr fw I F : ℕ) where
   unnamed_length (args.TheVariants.Scalar s) ps d =
       let found : Left = behind_start s.size s.align in
       let decided : Decision = scalar_argument (riscv name fr fw).banks (riscv name fr fw).scalars found s in
-      settled_scalar s (source_slots decided.source no_classes ps) I (skipped s.size s.align) decided (scalar_length found s ps no_classes)
+      settled_scalar s (source_slots decided.source no_classes ps) I (skipped s.size s.align) decided (scalar_length found s ps)
   unnamed_length (args.TheVariants.Aggregate shape) ps d =
       let found : Left = behind_start shape.size shape.align in
       settled_aggregate shape ps I (skipped shape.size shape.align) (rules.all name fr fw found shape ps) (alone_length shape ps name fr fw found (judged (board name fr fw) ps d.usual) refl)
