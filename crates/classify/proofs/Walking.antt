@@ -95,11 +95,6 @@ pub whole_list : (T : Terms) (list : Rules) → Ends (listed list) → (returnin
     → Remaining T list returning left shape ps list
 whole_list T list ends returning left shape ps = record { ends = ends; decide = refl }
 
--- a list that ends has a rule
-pub none_left : (T : Terms) (list : Rules) (returning : Bool) (left : Left) (shape : Shape) (ps : List Piece) (R : Rules)
-    → Remaining T list returning left shape ps R → listed R ≡ [] → ⊥
-none_left T list returning left shape ps R inv e = let z = (rw e at inv.ends).some in omega arith
-
 module _ (T : Terms) (list : Rules) (returning : Bool) (left : Left) (shape : Shape) (ps : List Piece)
     (R : Rules) (inv : Remaining T list returning left shape ps R)
     (these R' : Rules) (next : listed R ≡ first_rule these ∷ listed R') (when : Test) (ew : when ≡ (first_rule these).when) (s : Matched) (esw : s ≡ matched_by T.banks when shape ps) where
