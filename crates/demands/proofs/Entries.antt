@@ -9,6 +9,8 @@ use mathlib.Core.Option.Option.{none, some}
 use contract.Lifetimes.{Lfts}
 use denote.Ref.{Bor, MutBor}
 use lib.ListN.{length}
+use Rattle.std.specs.Prelude.{Result}
+use Rattle.shape.specs.declared.refusals.Refusal.{Refusal}
 use Rattle.shape.specs.declared.Arg.TheVariants.{Aggregate}
 use Rattle.shape.specs.declared.Shape.{Shape}
 use Rattle.shape.specs.Numbers.{accepted, bad_call, most_size, most_offset, one_if}
@@ -27,7 +29,7 @@ use Rattle.attributes.specs.Spellings.{attribute}
 use Rattle.stack_align.specs.InMemory.{in_memory}
 use Rattle.stack_place.specs.Stacked.{most_stack}
 use Rattle.classify.specs.declared.Call.{Call}
-use Rattle.classify.specs.Answers.{InMemory}
+use Rattle.classify.specs.Answers.{memory_told}
 use Rattle.classify.specs.Answers.{refusal_of}
 use Rattle.classify.proofs.Call.in_memory.Reads as call_in_memory
 use Rattle.export_numbers.specs.declared.Told.{Told}
@@ -72,10 +74,10 @@ use Rattle.demands.proofs.Placed as placing
 
 pub in_memory_method : (κs : Lfts 1) (c : Call) (shape : Shape) (words : Bor (List ℕ))
     → AnswersAlone (call_in_memory.Post κs) (c, (shape, (words, tt)))
-    (λ (r : InMemory). (IsRefusal r.refusal → RefusedTold in_memory_refusals (align_told r) [] [])
-    × Extent c shape words.now r.refusal
-    × (c.abi < description_count → most_stack < c.stack → r.refusal ≡ bad_call)
-    × (refusal_of c (Aggregate shape) words.now ≡ accepted → align_told r ≡ told accepted (in_memory (described c.abi) shape (pieces_of words.now))))
+    (λ (r : Result ℕ Refusal). (IsRefusal (memory_told r).refusal → RefusedTold in_memory_refusals (align_told (memory_told r)) [] [])
+    × Extent c shape words.now (memory_told r).refusal
+    × (c.abi < description_count → most_stack < c.stack → (memory_told r).refusal ≡ bad_call)
+    × (refusal_of c (Aggregate shape) words.now ≡ accepted → align_told (memory_told r) ≡ told accepted (in_memory (described c.abi) shape (pieces_of words.now))))
 in_memory_method κs c shape words r s p =
     rw p (
       refusing.in_memory_refused c shape words.now,

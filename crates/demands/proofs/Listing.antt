@@ -12,9 +12,8 @@ use Rattle.shape.specs.Numbers.{quad, accepted, bad_kind, bad_size, bad_align, m
 use Rattle.classify.specs.declared.Answer.{Answer}
 use Rattle.ledger.specs.Ledger.{Operation, integers, floats, history, call_after, fresh_call}
 use Rattle.varargs.specs.declared.Offsets.{Offsets}
-use Rattle.varargs.specs.declared.Located.{Located}
 use Rattle.varargs.specs.Lists as lists
-use Rattle.varargs.specs.Lists.{is_own_size, located_nowhere, located, Inside, Shown, shown_at, reads_as}
+use Rattle.varargs.specs.Lists.{Located, is_own_size, located_nowhere, located, Inside, Shown, shown_at, reads_as}
 use Rattle.varargs.proofs.Lists.{located_so, located_inside, area_bytes, part_length, nowhere_part}
 use Rattle.varargs.proofs.Scalars.{listed}
 use Rattle.placement.specs.Caller.{Machine, Whole, Value, State, saved, placed_by, place, place_all}

@@ -21,7 +21,7 @@ use Rattle.shape.specs.Words.{piece_size, scalar_size, pieces_of, scalars_of, pu
 use Rattle.shape.proofs.Put.{put_short}
 use Rattle.checks.specs.Check.{refuse, or_else, unless_refused, scalar_refusal, piece_refusal, pieces_refusal, is_past, extent_refusal, list_refusal, shape_refusal}
 use Rattle.slots.specs.Words.{slot_size}
-use Rattle.layouts.specs.declared.Recorded.{Recorded}
+use Rattle.layouts.specs.Answers.{Recorded}
 use Rattle.shape.specs.Arithmetic.{round_up}
 use Rattle.layouts.specs.Record.{largest_align, furthest_end, refuse_record, record_made, or_record, record_answer}
 use Rattle.layouts.specs.Members.{scalars_refusal, members_refusal, placed, pieces_words, or_placed, if_room, pieces_answer, pieces_written}
