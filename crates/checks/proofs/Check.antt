@@ -1,5 +1,5 @@
 -- The laws of the refusals: the first of two answers decides where it is a refusal.
-use Prim.Native.Nat.{ℕ, zero, suc, max}
+use Prim.Native.Nat.{ℕ, zero, suc, ◌≤◌, max}
 use mathlib.Core.Path.{◌≡◌, refl}
 use mathlib.Core.List.{List}
 use mathlib.Core.Bool.{Bool, true, false, ◌||◌}
@@ -9,10 +9,12 @@ use lib.Dec.{ltb}
 use Rattle.shape.specs.declared.Piece.{Piece}
 use Rattle.shape.specs.declared.refusals.Refusal.{Refusal}
 use Rattle.shape.specs.Lists.{any}
-use Rattle.shape.specs.Numbers.{accepted, bad_extent}
+use Rattle.shape.specs.declared.Shape.{Shape}
+use Rattle.shape.specs.Numbers.{accepted, bad_extent, most_offset, most_align}
+use Rattle.shape.specs.Words.{pieces_of}
 use Rattle.shape.specs.Refusals.{number_of}
 use Rattle.shape.proofs.Refused.{number_refuses}
-use Rattle.checks.specs.Check.{refuse, or_else, unless_refused, pieces_refusal, is_past}
+use Rattle.checks.specs.Check.{refuse, or_else, unless_refused, pieces_refusal, is_past, extent_refusal, list_refusal, shape_refusal}
 
 -- the first of two answers decides where it is a refusal
 pub else_first : (n rest : ℕ) → (n ≡ accepted → ⊥) → n ≡ or_else n rest
@@ -47,3 +49,10 @@ further size a b rest = go (ltb size a) refl (ltb size b) refl
     go true ex y ey = rw (lt-ltb size (max a b) (omega (arith, ltb-true size a ex)))
     go false ex true ey = rw (lt-ltb size (max a b) (omega (arith, ltb-true size b ey)))
     go false ex false ey = rw (le-ltb size (max a b) (omega (arith, ltb-false size a ex, ltb-false size b ey)))
+
+-- a shape whose list, size and alignment pass is refused for its pieces, or for where they end
+pub shape_pieces : (shape : Shape) (ws : List ℕ) (list : ℕ) → list ≡ list_refusal ws → list ≡ accepted
+    → shape.size ≤ most_offset → shape.align ≤ most_align
+    → (r : ℕ) → r ≡ or_else (pieces_refusal (pieces_of ws)) (extent_refusal shape.size (pieces_of ws)) → r ≡ shape_refusal shape ws
+unfolding shape_refusal
+shape_pieces shape ws list el z s a r er = rw (← el, z, le-ltb _ _ s, le-ltb _ _ a, er)

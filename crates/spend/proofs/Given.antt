@@ -1,5 +1,5 @@
 -- What travels as Memory is given nothing, whatever the rule, the registers left and the slots that its test found (REFERENCE 9.1, 9.3).
-use Prim.Native.Nat.{ℕ}
+use Prim.Native.Nat.{ℕ, min}
 use mathlib.Core.Path.{◌≡◌, refl}
 use mathlib.Core.Bool.{Bool, true, false, ◌&&◌, cond}
 use native.Mathlib.Omega.{arith}
@@ -19,7 +19,12 @@ use Rattle.spend.specs.declared.Way as ways
 use Rattle.spend.specs.declared.Wanted.{Wanted}
 use Rattle.spend.specs.declared.Decision.{Decision}
 use Rattle.spend.specs.Ways.{way_number, in_pieces, spends, cut_slots, one_slot, MemoryIsGivenNothing}
-use Rattle.spend.specs.Spending.{integer_cost, float_cost, by_pointer, by_reference, in_memory_and_spend, when_short, in_slots, travel_by, travel_of}
+use Rattle.spend.specs.Spending.{memory, integer_cost, float_cost, by_pointer, by_reference, in_memory_and_spend, when_short, in_slots, travel_by, travel_of}
+
+-- an argument in memory that is counted against the registers is given none of them: they are passed over
+pub memory_out : (returning : Bool) (left want : ℕ) (d : Decision) → returning ≡ false → (n : ℕ) → n ≡ min want left → d ≡ memory n 0 0 0
+    → d ≡ in_memory_and_spend returning left want
+memory_out returning left want d h n en er = rw (er, en, h)
 
 -- a decision of which it holds, and what a rule comes to, where that is a decision
 abbrev pub Ungiven : Decision → Type 0

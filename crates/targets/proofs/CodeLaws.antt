@@ -1,14 +1,21 @@
--- What codes stand for: that a code and what it stands for decide each other.
+-- What codes stand for: what a test of a code says, and that a code and what it stands for decide each other.
 use Prim.Native.Nat.{ℕ, zero, suc, ◌+◌, ◌-◌, ◌≤◌}
 use mathlib.Core.Path.{◌≡◌, refl, ap, sym, ◌∙◌}
-use mathlib.Core.Bool.{true}
+use mathlib.Core.Bool.{Bool, true, false, not}
 use native.Mathlib.Omega.{arith}
-use borrow.Author.Tests.{leb-true, lt-leb}
+use borrow.Author.Tests.{leb-true, lt-leb, not-false, not-true}
 use lib.ListN.{get_or-eq_default}
 use Rattle.shape.proofs.Bools.{both_true}
 use Rattle.targets.specs.Codes.{is_convention, conventions, convention_of, convention_code}
 use Rattle.targets.specs.declared.codes.Convention.{Convention}
 use Rattle.targets.specs.declared.codes.Convention.TheVariants.{Target, Ms, Sysv, Stdcall, Fastcall, Regparm, NoCalleeSaved, PreserveNone}
+
+-- a test that let the code go on, and one that didn't
+pub known : {b r : Bool} → r ≡ b → not r ≡ false → b ≡ true
+known e t = sym e ∙ not-false _ t
+
+pub unknown : {b r : Bool} → r ≡ b → not r ≡ true → b ≡ false
+unknown e t = sym e ∙ not-true _ t
 
 -- above the named conventions there is regparm alone
 module _ (code : ℕ) (above : 7 ≤ code) where
