@@ -54,7 +54,10 @@ fn main(rt: HostRuntime) -> io::Result<()> {
     match print_all(alloc, &mut input, &mut out) {
         Ok(()) | Err(Stop::Ended) => {}
         Err(Stop::TooMany) => writeln!(out, "too many")?,
-        Err(Stop::Failed(error)) => return Err(error),
+        Err(Stop::Failed(error)) => {
+            out.flush()?;
+            return Err(error);
+        }
     }
     out.flush()
 }

@@ -53,7 +53,10 @@ fn main(rt: HostRuntime) -> io::Result<()> {
         Ok(()) => {}
         Err(Failure::CutShort) => writeln!(out, "cut short")?,
         Err(Failure::TooMany) => writeln!(out, "too many")?,
-        Err(Failure::Io(error)) => return Err(error),
+        Err(Failure::Io(error)) => {
+            out.flush()?;
+            return Err(error);
+        }
     }
     out.flush()
 }
