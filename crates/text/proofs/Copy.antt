@@ -1,13 +1,12 @@
--- A copy to a place of a buffer, and what it leaves.
-use Prim.Native.Nat.{ℕ, ◌+◌, ◌≤◌, ◌<◌}
+-- A copy byte by byte to a place of a buffer, and what it has done at its end.
+use Prim.Native.Nat.{ℕ, ◌+◌, ◌-◌, ◌≤◌, ◌<◌}
 use mathlib.Core.Path.{◌≡◌, refl, ap, sym, ◌∙◌}
 use mathlib.Core.List.{List}
 use native.Mathlib.Omega.{arith}
+use native.Mathlib.Numerals.{add-one}
 use borrow.Author.Tests.{le-leb, lt-leb}
-use lib.ListN.{length}
-use lib.Seq.{take-length}
-use borrow.Rule.Slice.PartMut.{put_mid}
-use Rattle.std.proofs.lemmas.Slice.{put_mid-paste}
+use lib.ListN.{length, set, get_or}
+use lib.Seq.{take-length, paste, paste-suc}
 use Rattle.std.specs.Prelude.{Result, Ok, Err}
 use Rattle.shape.specs.Numbers.{accepted, no_room}
 use Rattle.shape.specs.Words.{put_at}
@@ -22,14 +21,18 @@ module _ (out₀ : List ℕ) (at : ℕ) (bs : List ℕ) where
   unfolding append_end
   left_out h = (rw (lt-leb _ _ h), put_short out₀ at bs h)
 
-  module _ (h : at + length bs ≤ length out₀) where
+  module _ (p : at ≤ length out₀) (room : length bs ≤ length out₀ - at) where
+    pub copy_next : (i : ℕ) (out : List ℕ) → i < length bs → out ≡ paste out₀ at bs i → set out (at + i) (get_or bs i 0) ≡ paste out₀ at bs (i + 1)
+    copy_next i out h e = rw (e, add-one) (paste-suc out₀ at bs i 0 (omega arith) (omega arith))
+
     pub copy_end : at + length bs ≡ append_end (length out₀) at bs
     unfolding append_end
-    copy_end = rw (le-leb (at + length bs) (length out₀) h)
+    copy_end = rw (le-leb (at + length bs) (length out₀) (omega arith))
 
-    pub copy_done : (k : ℕ) (ys : List ℕ) → k ≡ length bs → ys ≡ bs → put_mid at k out₀ ys ≡ put_at out₀ at bs
-    copy_done k ys n e =
-        put_mid-paste at k out₀ ys bs (length bs) e (sym n) refl ∙ rw take-length (sym (put_fits out₀ at bs h))
+    pub copy_done : (i : ℕ) (out : List ℕ) → length bs ≤ i → i ≤ length bs → out ≡ paste out₀ at bs i → out ≡ put_at out₀ at bs
+    copy_done i out q r e =
+        let n : i ≡ length bs = omega arith in
+        e ∙ rw (n, take-length) (sym (put_fits out₀ at bs (omega arith)))
 
 module _ (name out₀ : List ℕ) where
   pub refused : length out₀ < length name → (wrote no_room 0 ≡ put_answer name (length out₀)) × (out₀ ≡ put_written name out₀)
@@ -39,7 +42,7 @@ module _ (name out₀ : List ℕ) where
   pub put_answer_lem : (n : ℕ) → length name ≤ length out₀ → n ≡ append_end (length out₀) 0 name → wrote accepted n ≡ put_answer name (length out₀)
   unfolding put_answer append_end
   put_answer_lem n room e =
-      let f : n ≡ length name = e ∙ sym (copy_end out₀ 0 name (omega arith)) ∙ omega arith in
+      let f : n ≡ length name = e ∙ sym (copy_end out₀ 0 name (omega arith) (omega arith)) ∙ omega arith in
       rw (f, le-leb (length name) (length out₀) room)
 
 -- what the answer tells decides it

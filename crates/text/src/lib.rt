@@ -34,9 +34,13 @@ pub fn append(out: &mut [u8], at: usize, bytes: &[u8]) -> usize
     if bytes.len() > out.len() - at {
         return at;
     }
-    let end = at + bytes.len();
-    out[at..end].copy_from_slice(bytes);
-    end
+    // kept: byte by byte, since copy_from_slice of a length that isn't known is a call of memmove, which the archive is to do without (README.md).
+    let mut i = 0;
+    while i < bytes.len() {
+        out[at + i] = bytes[i];
+        i += 1;
+    }
+    at + bytes.len()
 }
 
 // Texts of unlike lengths can stand in one, each filled up with dots: the one that starts at a place goes to a place of `out`, up to its first
