@@ -24,6 +24,11 @@ same_is a b = ap₂ eqb (tag_code a) (tag_code b)
 pub same_one : (a b : Class) → same a b ≡ true → a ≡ b
 same_one a b e = same_true the_type tt a b (same_is a b ∙ e)
 
+-- where two tests are asked at once, the one that holds answers
+pub one_of : {A : Type 0} {r n : A} (x y : Bool) → (x ≡ true → r ≡ n) → (y ≡ true → r ≡ n) → (x || y) ≡ true → r ≡ n
+one_of true y f g h = f refl
+one_of false y f g h = g h
+
 -- the rule after the merge makes no class X87 or Memory, and takes none of these away
 low_or_up : (b : Bool) → (same (cond b Sse SseUp) X87 || same (cond b Sse SseUp) Memory) ≡ false
 unfolding same code

@@ -39,16 +39,21 @@ zeros : (n : ℕ) (t : Tree) → (n ≡ accepted → ⊥) → flattened n 0 0 0 
 zeros zero t h = absurd (h refl)
 zeros (suc n) t h = refl
 
+module _ (ts ms out : List ℕ) (n : ℕ) (en : n ≡ flatten_refusal ts ms out) (h : n ≡ accepted → ⊥) where
+  refused_left : out ≡ flatten_written ts ms out
+  unfolding flatten_written
+  refused_left = left_alone (flatten_refusal ts ms out) _ out (λ (z : flatten_refusal ts ms out ≡ accepted). h (en ∙ z))
+
 module _ (ts ms out : List ℕ) where
   -- what is answered, and the buffer that is left
   abbrev pub IsDone : Flattened → List ℕ → Type 0
   IsDone r after = (r ≡ flatten_answer ts ms out) × (after ≡ flatten_written ts ms out)
 
   refused : (r : Refusal) → number_of r ≡ flatten_refusal ts ms out → IsDone (flattened (number_of r) 0 0 0) out
-  unfolding flatten_answer flatten_written
+  unfolding flatten_answer
   refused r e = (
     zeros (number_of r) (wanted ts ms) (number_refuses r) ∙ ap (λ (k : ℕ). or_flattened k (wanted ts ms)) e,
-    left_alone (flatten_refusal ts ms out) _ out (λ (z : flatten_refusal ts ms out ≡ accepted). number_refuses r (e ∙ z)),
+    refused_left ts ms out (number_of r) e (number_refuses r),
   )
 
 -- ---- by what `measure` answered

@@ -1,1 +1,2 @@
+pub mod ActLaws
 mod Unique

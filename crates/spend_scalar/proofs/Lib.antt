@@ -1,2 +1,3 @@
+pub mod Spending
 pub mod Given
 mod Unique

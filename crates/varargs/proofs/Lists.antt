@@ -4,7 +4,7 @@ use mathlib.Core.Path.{◌≡◌, refl, sym, ◌∙◌, ap}
 use mathlib.Core.List.{List, []}
 use mathlib.Core.Bool.{Bool, true, false, ◌&&◌, ◌||◌, not, cond}
 use native.Mathlib.Omega.{arith}
-use borrow.Author.Tests.{lt-ltb, le-ltb, eq-eqb, ne_eqb, ltb-false, leb-true, eqb-true, eqb-false, not-true, not-false}
+use borrow.Author.Tests.{lt-ltb, le-ltb, le-leb, eq-eqb, ne_eqb, ltb-false, leb-true, eqb-true, eqb-false, not-true, not-false}
 use lib.Dec.{ltb, leb, eqb}
 use Rattle.std.specs.Prelude.{Result, Ok, Err}
 use lib.ListN.{length, take, drop, length-drop}
@@ -99,6 +99,13 @@ module _ (bytes : ℕ) (at : Offsets) (s : Scalar) where
 pub rounded_small : (size : ℕ) → (1 ≤ size) × (size ≤ 16) → (n : ℕ) → n ≡ round_up size 8 → n ≤ 16
 unfolding round_up
 rounded_small size small n is = omega (arith, is, small.1)
+
+-- where the integer places that it needs are left, it stands in them
+module _ (bytes : ℕ) (at : Offsets) (s : Scalar) (small : (1 ≤ s.size) × (s.size ≤ 16)) (n : ℕ) (is : n ≡ round_up s.size 8) where
+  pub integers_left : at.integer ≤ integer_end - n
+      → record { refusal = accepted; area = Save; start = at.integer; length = s.size; next = record { integer = at.integer + n; float = at.float; overflow = at.overflow } } ≡ in_integers bytes at s
+  unfolding in_integers
+  integers_left h = rw (← is, le-leb (at.integer + n) integer_end (omega (arith, rounded_small s.size small n is)))
 
 save_area : (n : ℕ) (at : Offsets) → true ≡ is_save_area n at → (n ≡ save_bytes) × (at.integer ≤ integer_end) × (at.float ≤ float_end)
 save_area n at h =
