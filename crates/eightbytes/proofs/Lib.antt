@@ -1,4 +1,5 @@
 pub mod OneClass
+pub mod ByCode
 pub mod Marks
 pub mod Rest
 pub mod Counts

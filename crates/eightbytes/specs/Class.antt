@@ -1,7 +1,7 @@
 -- The class of one eightbyte (the code's own enum), its code, the classes that a piece brings, what two over one eightbyte make, and the rule after the merge
 -- (REFERENCE 8). The psABI's X87UP and COMPLEX_X87 aren't here: an x87 value ends the search, whatever stands beside it, and what comes back on
 -- the x87's stack has a test of its own (find/specs/Find.antt), so that they would change nothing.
-use Rattle.std.specs.Prelude.{Bool, cond, ◌||◌, not, ◌&&◌, ℕ, eqb, ltb}
+use Rattle.std.specs.Prelude.{Bool, cond, ◌||◌, not, ◌&&◌, ℕ, [], ◌∷◌, eqb, ltb, get_or}
 use Rattle.shape.specs.Numbers.{integer, x87_extended}
 pub use Rattle.eightbytes.specs.declared.Class.{Class}
 pub use Rattle.eightbytes.specs.declared.Class.TheVariants.{None, Integer, Sse, SseUp, X87, Memory}
@@ -13,6 +13,10 @@ code Sse = 2
 code SseUp = 3
 code X87 = 4
 code Memory = 5
+
+-- the class of a code; a number that is no class's code counts as Memory
+unfoldable pub class_of : ℕ → Class
+class_of n = get_or (None ∷ Integer ∷ Sse ∷ SseUp ∷ X87 ∷ []) n Memory
 
 unfoldable pub same : Class → Class → Bool
 same a b = eqb (code a) (code b)
@@ -53,3 +57,7 @@ mended below c = cond (same c SseUp && not (same below Sse || same below SseUp))
 -- a class before SseUp: the rule after the merge leaves it as it is, and it has a slot of its own
 abbrev pub is_plain : Class → Bool
 is_plain c = ltb (code c) (code SseUp)
+
+-- the code of a class that comes of a number's; a number that is no class's code is kept
+unfoldable pub kept : ℕ → Class → ℕ
+kept n c = cond (ltb n 6) (code c) n

@@ -1,5 +1,5 @@
 -- The slots of a shape by the classes of its eightbytes, or nothing (REFERENCE 8), step by step as the Rust's `eightbytes` finds them.
-use Rattle.std.specs.Prelude.{ℕ, zero, suc, ◌+◌, ◌-◌, min, Bool, false, cond, not, ◌||◌, List, [], ◌∷◌, ◌++◌, leb, ltb, length, get_or, set, take, replicate}
+use Rattle.std.specs.Prelude.{ℕ, zero, suc, ◌+◌, ◌-◌, min, Bool, false, cond, not, ◌||◌, List, [], ◌∷◌, ◌++◌, map, leb, ltb, length, get_or, set, take, replicate}
 use Rattle.std.proofs.Math.Option.{Option}
 use Rattle.std.proofs.Math.Option.Option.{none, some}
 use Rattle.shape.specs.declared.Piece.{Piece}
@@ -9,7 +9,7 @@ use Rattle.slots.specs.declared.Slot.{Slot}
 use Rattle.slots.specs.Words.{integer_slot, float_slot}
 use Rattle.slots.specs.Cut.{ceil_div}
 use Rattle.slots.specs.Search.{Search, found, nothing}
-use Rattle.eightbytes.specs.Class.{Class, None, Sse, SseUp, X87, Memory, same, kind_class, later, merge, mended}
+use Rattle.eightbytes.specs.Class.{Class, None, Sse, SseUp, X87, Memory, class_of, same, kind_class, later, merge, mended}
 use Rattle.eightbytes.specs.Reach.{first_of, last_of, fits}
 
 -- a limit above eight eightbytes counts as eight
@@ -112,6 +112,10 @@ classes_of limit shape ps = eight_of (classified limit shape ps)
 -- the slots that eight classes stand for in a shape of this size: those of the shape's eightbytes, as far as there are classes
 unfoldable pub slots_of_eight : ℕ → List Class → List Slot
 slots_of_eight size cs = slots_from 0 size (take (eightbytes_in size) cs)
+
+-- the slots that eight codes stand for likewise
+unfoldable pub coded_slots : ℕ → List ℕ → List Slot
+coded_slots size ns = slots_of_eight size (map class_of ns)
 
 -- ---- for the code's own functions
 

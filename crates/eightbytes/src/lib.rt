@@ -1,8 +1,9 @@
 // The eightbytes of a shape, as the System V convention classifies them: each piece gives its class to the eightbytes that it reaches into,
-// and the classes decide the slots, which the crate slot_writing writes. Whether a piece fits stands in `pieces`. The rules are those
-// of docs/REFERENCE.md, 8.
+// and the classes decide the slots, which the crate slot_writing writes. Whether a piece fits stands in `pieces`, classes as
+// numbers in `codes`. The rules are those of docs/REFERENCE.md, 8.
 #![tactic(auto)]
 
+mod codes;
 mod pieces;
 
 ghost use Rattle.std.specs.Prelude.{◌≡◌, ℕ, ◌-◌, ◌<◌, ◌≤◌, ◌||◌, take, drop, replicate};
@@ -14,6 +15,7 @@ ghost use Rattle.eightbytes.specs.Eightbytes.{eightbytes_in, mark as mark·, set
 ghost use Rattle.eightbytes.specs.Reach.{last_of};
 ghost use Rattle.eightbytes.specs.Eightbytes.{eightbytes as eightbytes·};
 
+pub use codes::{Eight, SSE, SSE_UP, later, mended};
 pub use pieces::{EIGHTBYTE, fits};
 use shape::{Piece, Shape};
 use slots::Found;

@@ -4,11 +4,17 @@ ghost use Rattle.slots.specs.Words.{words_of, written};
 ghost use Rattle.shape.specs.Words.{put_at};
 ghost use Rattle.eightbytes.specs.Eightbytes.{eightbytes_in, up_first, own_slot, class_slot, format_of, slot_count, slots_of_eight};
 
-use eightbytes::{Class, EIGHTBYTE, PAIR};
+use eightbytes::{Class, EIGHTBYTE, Eight, PAIR};
 use slots::Slot;
 
-// Writes the slots that classes stand for in a shape of this size, at the front where they all fit.
-pub fn put_eightbytes(classes: [Class; 8], size: u64, out: &mut [u64])
+// Writes the slots that classes stand for in a shape of this size, at the front where they all fit. The classes come as they are or as codes.
+pub fn put_eightbytes<E: Eight>(classes: E, size: u64, out: &mut [u64])
+    ensures { out.new ≡ written (slots_of_eight size (E.eight classes)) out.old }
+{
+    put_classes(classes.classes(), size, out);
+}
+
+fn put_classes(classes: [Class; 8], size: u64, out: &mut [u64])
     ensures { out.new ≡ written (slots_of_eight size classes) out.old }
 {
     if size <= PAIR {

@@ -10,12 +10,18 @@ ghost use Rattle.slots.specs.Words.{written};
 ghost use Rattle.slot_writing.specs.Sources.{source_slots, scalar_slots};
 
 pub use classes::put_eightbytes;
-use eightbytes::Class;
+use eightbytes::{Class, Eight};
 pub use pieces::put_pieces;
 use slots::{Slot, Source};
 
-// The slots of a decision, from where they stand: the pieces, the classes of eightbytes, a size to be cut, or one slot.
-pub fn write(source: Source, classes: [Class; 8], words: &[u64], out: &mut [u64])
+// The slots of a decision, from where they stand: the pieces, the classes of eightbytes or their codes, a size to be cut, or one slot.
+pub fn write<E: Eight>(source: Source, classes: E, words: &[u64], out: &mut [u64])
+    ensures { out.new ≡ written (source_slots source (E.eight classes) (pieces_of words.now)) out.old }
+{
+    write_by(source, classes.classes(), words, out);
+}
+
+fn write_by(source: Source, classes: [Class; 8], words: &[u64], out: &mut [u64])
     ensures { out.new ≡ written (source_slots source classes (pieces_of words.now)) out.old }
 {
     match source {

@@ -1,6 +1,6 @@
--- `write` writes the slots of a decision, from where they stand.
+-- `write_by` writes the slots of a decision, from where they stand.
 use Rattle.slot_writing.proofs.Writing.{write_none, write_each, write_classes, write_cut, write_one}
-use Rattle.slot_writing.proofs.write.Goals as goal
+use Rattle.slot_writing.proofs.write_by.Goals as goal
 
 pub returns-in-Empty : goal.returns-in-Empty
 returns-in-Empty c = search (write_none)

@@ -1,7 +1,7 @@
 use mathlib.Core.Path.{refl}
 use Rattle.slot_writing.proofs.Put.{put_short, put_start, room_start, room_turn, put_turn, put_end}
 use native.Mathlib.Omega.{arith}
-use Rattle.slot_writing.proofs.classes.put_eightbytes.Goals as goal
+use Rattle.slot_writing.proofs.classes.put_classes.Goals as goal
 
 pub returns-then-room-count_slots : goal.returns-then-room-count_slots
 returns-then-room-count_slots c =

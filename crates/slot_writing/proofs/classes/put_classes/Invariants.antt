@@ -1,4 +1,4 @@
--- `put_eightbytes` writes the slots that classes stand for where all of them fit. The invariant: the slots that are left, put behind those before, make the whole.
+-- `put_classes` writes the slots that classes stand for where all of them fit. The invariant: the slots that are left, put behind those before, make the whole.
 use Prim.Native.Nat.{◌+◌, ◌≤◌}
 use mathlib.Core.Path.{◌≡◌}
 use lib.ListN.{length}
@@ -6,7 +6,7 @@ use Rattle.shape.specs.Words.{put_at}
 use Rattle.slots.specs.Words.{words_of, written}
 use Rattle.eightbytes.specs.Eightbytes.{slots_of_eight}
 use Rattle.slot_writing.proofs.Put.{left}
-use Rattle.slot_writing.proofs.classes.put_eightbytes.Given as goal
+use Rattle.slot_writing.proofs.classes.put_classes.Given as goal
 
 abbrev pub invariant-loop-i : goal.invariant-loop-i
 invariant-loop-i l = (length l.out ≡ length l.initial.out) × (l.at + length (words_of (left l.size l.classes l.n l.i)) ≤ length l.out)
