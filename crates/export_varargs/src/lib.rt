@@ -54,7 +54,7 @@ pub fn barkpaddle_read_scalar<'a>(
         // where it is refused: no bytes, and the offsets that were handed in
         Err(refusal) => Part {
             refusal: refusal.number(),
-            area: 0,
+            area: varargs::area_number(None),
             start: 0,
             length: 0,
             gp_offset,

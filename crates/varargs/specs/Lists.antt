@@ -1,6 +1,6 @@
 -- The callee's side of a variable argument list on description 0 (REFERENCE 15), from the psABI, 3.5.7: what is refused, in which area and where
 -- a scalar's own bytes stand, and the offsets after it.
-use Rattle.std.specs.Prelude.{ℕ, ◌≤◌, ◌+◌, ◌%◌, Bool, ◌&&◌, ◌||◌, not, cond, List, [], ltb, leb, eqb, length, take, drop, Result, Ok, Err}
+use Rattle.std.specs.Prelude.{ℕ, ◌≤◌, ◌+◌, ◌%◌, Bool, ◌&&◌, ◌||◌, not, cond, List, [], ltb, leb, eqb, length, take, drop, Option, Some, None, Result, Ok, Err}
 use Rattle.shape.specs.declared.Scalar.{Scalar}
 use Rattle.shape.specs.Numbers.{integer, single, double, x87_extended, quad, accepted, bad_kind, bad_size, bad_align, bad_area, most_size, most_align}
 use Rattle.shape.specs.Refusals.{number_of}
@@ -86,6 +86,11 @@ located_nowhere refusal at = record { refusal = refusal; area = Nowhere; start =
 abbrev pub area_of : areas.Area → Area
 area_of areas.TheVariants.Save = Save
 area_of areas.TheVariants.Overflow = Overflow
+
+-- none, where nothing stands
+abbrev pub area_told : Option areas.Area → Area
+area_told (Some a) = area_of a
+area_told None = Nowhere
 
 abbrev pub placed : places.Located → Located
 placed l = record { refusal = accepted; area = area_of l.area; start = l.start; length = l.length; next = l.next }

@@ -5,7 +5,7 @@
 ghost use Rattle.std.specs.Prelude.{◌≡◌, ◌+◌, ◌≤◌, ◌<◌, length, take, drop};
 ghost use Rattle.shape.specs.Arithmetic.{round_up};
 ghost use Rattle.shape.specs.Refusals.{refusal_of};
-ghost use Rattle.varargs.specs.Lists.{area_number, area_of, is_own_size, unnamed_refusal, is_save_area, overflow_start, in_overflow, in_bank, located, part_of, placed, told, Inside, shown, reads_as};
+ghost use Rattle.varargs.specs.Lists.{area_number as area_number·, area_of, area_told, is_own_size, unnamed_refusal, is_save_area, overflow_start, in_overflow, in_bank, located, part_of, placed, told, Inside, shown, reads_as};
 
 use shape::{DOUBLE, INTEGER, QUAD, Refusal, SINGLE, Scalar, X87_EXTENDED};
 
@@ -40,9 +40,19 @@ pub enum Area {
 impl Area {
     // Its number.
     pub fn number(self) -> u64
-        ensures { result ≡ area_number (area_of self) }
+        ensures { result ≡ area_number· (area_of self) }
     {
         self as u64
+    }
+}
+
+// The number of an area, or of none.
+pub fn area_number(area: Option<Area>) -> u64
+    ensures { result ≡ area_number· (area_told area) }
+{
+    match area {
+        Some(area) => area.number(),
+        None => 0,
     }
 }
 
