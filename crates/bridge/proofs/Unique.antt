@@ -4,6 +4,7 @@ use mathlib.Core.Path.{sym, ◌∙◌}
 use contract.Lifetimes.{Lfts}
 use Rattle.shape.proofs.OneAnswer.{OneAnswer, OneExit}
 use Rattle.bridge.proofs.Promised.{Marks, Returns, Passes, PassesVariadic}
+use Rattle.bridge.proofs.ArgFromWhat.from.Reads as arg_from
 
 variadic_decides : (κs : Lfts 1) → OneAnswer (Marks κs)
 variadic_decides κs a r q s t p p' = p.0 ∙ sym p'.0
@@ -37,3 +38,6 @@ variadic_argument_call κs a r q s t p p' = p.call ∙ sym p'.call
 
 variadic_argument_words : (κs : Lfts 3) → OneExit (PassesVariadic κs) (λ s. s.1.1.1.0.now)
 variadic_argument_words κs a r q s t p p' = p.writes ∙ sym p'.writes
+
+arg_from_decides : (κs : Lfts 0) → OneAnswer (arg_from.Post κs)
+arg_from_decides κs a r q s t p p' = p ∙ sym p'

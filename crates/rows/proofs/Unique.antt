@@ -1,7 +1,7 @@
 -- No second answer meets the promise of a public function.
 use mathlib.Core.Path.{sym, ◌∙◌}
 use contract.Lifetimes.{Lfts}
-use Rattle.shape.proofs.OneAnswer.{OneAnswer}
+use Rattle.shape.proofs.OneAnswer.{OneAnswer, OneExit}
 use Rattle.rows.proofs.fields.terms_of.Reads as terms_of
 use Rattle.rows.proofs.fields.others_of.Reads as others_of
 use Rattle.rows.proofs.return_rule.Reads as return_rule_lem
@@ -11,6 +11,7 @@ use Rattle.rows.proofs.argument_rules.Reads as argument_rules
 use Rattle.rows.proofs.first_rule.Reads as first_rule
 use Rattle.rows.proofs.first_test.Reads as first_test
 use Rattle.rows.proofs.later_rules.Reads as later_rules
+use Rattle.rows.proofs.RulesIterator.next.Reads as next
 use Rattle.rows.proofs.fields.return_pointer_number.Reads as return_pointer_number
 use Rattle.rows.proofs.fields.variadic_number.Reads as variadic_number
 use Rattle.rows.proofs.fields.stack_args_number.Reads as stack_args_number
@@ -62,3 +63,9 @@ bit_ints_number_decides κs a r q s t p p' = p ∙ sym p'
 
 cleanup_number_decides : (κs : Lfts 0) → OneAnswer (cleanup_number.Post κs)
 cleanup_number_decides κs a r q s t p p' = p ∙ sym p'
+
+next_decides : (κs : Lfts 1) → OneAnswer (next.Post κs)
+next_decides κs a r q s t p p' = p.0.1.0 ∙ sym p'.0.1.0
+
+next_leaves : (κs : Lfts 1) → OneExit (next.Post κs) (λ s. s.0.now)
+next_leaves κs a r q s t p p' = p.0.1.1 ∙ sym p'.0.1.1

@@ -1,5 +1,6 @@
 -- A description as a row of 32 bytes, and the way back.
-use Rattle.std.specs.Prelude.{ℕ, zero, suc, ◌+◌, ◌*◌, ◌/◌, ◌%◌, Bool, true, ◌&&◌, cond, List, [], ◌∷◌, map, eqb, leb, ltb, length, get_or}
+use Rattle.std.specs.Prelude.{ℕ, zero, suc, ◌+◌, ◌*◌, ◌/◌, ◌%◌, Bool, true, ◌&&◌, cond, List, [], ◌∷◌, map, eqb, leb, ltb, length, get_or, Option, None, Some, ◌≡◌}
+use Rattle.std.specs.Iterator.{YieldsFirstBy}
 use Rattle.describe.specs.declared.Banks.{Banks}
 use Rattle.describe.specs.declared.Scalars.{Scalars}
 use Rattle.describe.specs.declared.Terms.{Terms}
@@ -212,6 +213,17 @@ listed_in (suc n) R = cond (eqb R.tests 0) [] (first_rule R ∷ listed_in n (lat
 
 unfoldable pub listed : Rules → List Rule
 listed R = listed_in R.tests R
+
+-- One turn of a walk gives the list itself, whose first rule is the turn's, and leaves the rules behind that; where none is left it gives none,
+-- and leaves the list as it was.
+abbrev pub turn_gives : Rules → Option Rules
+turn_gives R = cond (eqb R.tests 0) None (Some R)
+
+abbrev pub turn_leaves : Rules → Rules
+turn_leaves R = cond (eqb R.tests 0) R (later_rules R)
+
+abbrev pub Turns : Rules → Option Rules → Rules → Type 0
+Turns R given left = YieldsFirstBy first_rule listed R given left × ((given ≡ turn_gives R) × (left ≡ turn_leaves R))
 
 -- A list's rules, up to the first place where none stands.
 abbrev pub rules_from : ℕ → List ℕ → ℕ → ℕ → List Rule

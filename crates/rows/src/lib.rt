@@ -6,8 +6,8 @@ pub mod codes;
 mod fields;
 
 ghost use Rattle.std.specs.Prelude.{◌≡◌, ◌+◌, ◌≤◌, ◌<◌, get_or};
-ghost use Rattle.std.specs.Iterator.{YieldsFirstBy, item_count};
-ghost use Rattle.rows.specs.Row.{return_rule, argument_rule, rule_of, list_of, first_rule, later_rules, listed};
+ghost use Rattle.std.specs.Iterator.{item_count};
+ghost use Rattle.rows.specs.Row.{return_rule, argument_rule, rule_of, list_of, first_rule, later_rules, listed, Turns};
 ghost use Rattle.rows.specs.Codes.{test_from, size_from, travel_from, short_from};
 
 use codes::*;
@@ -32,7 +32,7 @@ pub struct Rules {
 impl Iterator for Rules {
     type Item = Rules;
 
-    ghost next_gives = { YieldsFirstBy first_rule listed };
+    ghost next_gives = { Turns };
 
     ghost remaining = { item_count listed };
 

@@ -1,6 +1,19 @@
 -- No second answer, and no other words in a lent buffer, meet the promise of a public function.
-use mathlib.Core.Path.{sym, ◌∙◌}
+use Prim.Native.Nat.{ℕ}
+use mathlib.Core.Path.{◌≡◌, refl, sym, ap, ◌∙◌}
+use mathlib.Core.List.{List, [], ◌∷◌, map}
+use native.Mathlib.Omega.{arith}
 use contract.Lifetimes.{Lfts}
+use denote.Param.{number, value_of}
+use denote.Param.Laws.{Laws}
+use denote.RattleType.{RattleType}
+use lib.ListN.{length, drop}
+use mir.Syntax.{Dict, w64}
+use mir.Val.{Fits}
+use Rattle.std.specs.Prelude.{Option, None, Some}
+use Rattle.std.specs.Iterator.{YieldsFirst}
+use Rattle.shape.specs.declared.Record as Record
+use Rattle.shape.specs.declared.Records.{Records}
 use Rattle.shape.specs.Words.{pieces_left, scalars_left}
 use Rattle.shape.proofs.OneAnswer.{OneAnswer, OneExit, OneShown}
 use Rattle.shape.proofs.is_all_of.Reads as is_all_of
@@ -8,6 +21,7 @@ use Rattle.shape.proofs.each_piece.Reads as each_piece
 use Rattle.shape.proofs.each_scalar.Reads as each_scalar
 use Rattle.shape.proofs.PieceRecordPIECE.from_words.Reads as piece_from_words
 use Rattle.shape.proofs.ScalarRecordSCALAR.from_words.Reads as scalar_from_words
+use Rattle.shape.proofs.RecordsIterator.next.Reads as next
 use Rattle.shape.proofs.piece_at.Reads as piece_at
 use Rattle.shape.proofs.put_piece.Reads as put_piece
 use Rattle.shape.proofs.scalar_at.Reads as scalar_at
@@ -70,3 +84,35 @@ round_up_decides κs a r q s t p p' = p ∙ sym p'
 
 refusal_number_decides : (κs : Lfts 0) → OneAnswer (refusal_number.Post κs)
 refusal_number_decides κs a r q s t p p' = p ∙ sym p'
+
+-- an iterator that shows what it has left gives the first of it, and leaves the others
+abbrev head_or : {A : Type 0} → A → List A → A
+head_or d [] = d
+head_or d (x ∷ xs) = x
+
+abbrev rest_of : {A : Type 0} → List A → List A
+rest_of [] = []
+rest_of (x ∷ xs) = xs
+
+module _ {S A : Type 0} (rest : S → List A) (s t u : S) where
+  gives_one : (r q : Option A) → YieldsFirst rest s r t → YieldsFirst rest s q u → r ≡ q
+  gives_one None None h k = refl
+  gives_one None (Some y) h k = absurd (omega (arith, ap length (sym h.0 ∙ k)))
+  gives_one (Some x) None h k = absurd (omega (arith, ap length (sym k.0 ∙ h)))
+  gives_one (Some x) (Some y) h k = ap Some (ap (head_or x) (sym h ∙ k))
+
+  leaves_one : (r q : Option A) → YieldsFirst rest s r t → YieldsFirst rest s q u → rest t ≡ rest u
+  leaves_one None None h k = h.1 ∙ sym k.1
+  leaves_one None (Some y) h k = absurd (omega (arith, ap length (sym h.0 ∙ k)))
+  leaves_one (Some x) None h k = absurd (omega (arith, ap length (sym k.0 ∙ h)))
+  leaves_one (Some x) (Some y) h k = ap rest_of (sym h ∙ k)
+
+module _ (T : RattleType) (N : ℕ) (laws : Laws T) (fits : Fits w64 N) (reads : Record.Ghosts T.Denot (value_of (number N))) (its_reads : Dict) where
+  abbrev left : Records T.Denot N → List T.Denot
+  left s = map reads.of (drop s.at s.all.now)
+
+  next_decides : (κs : Lfts 4) → OneAnswer (next.Post T N laws fits reads its_reads κs)
+  next_decides κs a r q s t p p' = gives_one left a.0.now s.0.now t.0.now r q p.0 p'.0
+
+  next_leaves : (κs : Lfts 4) → OneExit (next.Post T N laws fits reads its_reads κs) (λ s. left s.0.now)
+  next_leaves κs a r q s t p p' = leaves_one left a.0.now s.0.now t.0.now r q p.0 p'.0

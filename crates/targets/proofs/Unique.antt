@@ -12,6 +12,9 @@ use Rattle.targets.proofs.codes.system_of.Reads as system_of
 use Rattle.targets.proofs.codes.convention_of.Reads as convention_of
 use Rattle.targets.proofs.codes.is_windows.Reads as is_windows
 use Rattle.targets.proofs.codes.is_elf.Reads as is_elf
+use Rattle.targets.proofs.codes.ArchitectureTryFromU64.try_from.Reads as try_architecture
+use Rattle.targets.proofs.codes.SystemTryFromU64.try_from.Reads as try_system
+use Rattle.targets.proofs.codes.ConventionTryFromU64.try_from.Reads as try_convention
 
 for_target_decides : (κs : Lfts 0) → OneAnswer (for_target.Post κs)
 for_target_decides κs a r q s t p p' = p ∙ sym p'
@@ -42,3 +45,12 @@ is_windows_decides κs a r q s t p p' = p ∙ sym p'
 
 is_elf_decides : (κs : Lfts 0) → OneAnswer (is_elf.Post κs)
 is_elf_decides κs a r q s t p p' = p ∙ sym p'
+
+try_architecture_decides : (κs : Lfts 0) → OneAnswer (try_architecture.Post κs)
+try_architecture_decides κs a r q s t p p' = p ∙ sym p'
+
+try_system_decides : (κs : Lfts 0) → OneAnswer (try_system.Post κs)
+try_system_decides κs a r q s t p p' = p ∙ sym p'
+
+try_convention_decides : (κs : Lfts 0) → OneAnswer (try_convention.Post κs)
+try_convention_decides κs a r q s t p p' = p ∙ sym p'
