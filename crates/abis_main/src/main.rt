@@ -4,18 +4,26 @@
 
 use describe::{Banks, Others, Rule, Scalars, Terms, Test};
 use rows::Rules;
-use std::io::{BufWriter, Write};
+use std::io::{Cursor, Write};
 use std::{fmt, io};
 
 // No name has more bytes.
 const LONGEST: usize = 64;
 
+// No description's lines have more bytes together.
+const MOST_TEXT: usize = 4096;
+
+// The lines of a description leave in one write, so that none is torn.
 fn main(rt: HostRuntime) -> io::Result<()> {
-    let mut out = BufWriter::new(rt.alloc(), io::writer(&rt))?;
+    let mut out = io::writer(&rt);
     for d in 0..abis::DESCRIPTIONS {
-        description(&mut out, d)?;
+        let mut text = Cursor::new([0; MOST_TEXT]);
+        description(&mut text, d)?;
+        // `min` is for the proof alone: no clause of Cursor says that its place stays within the array.
+        let length = MOST_TEXT.min(text.position() as usize);
+        out.write_all(&text.get_ref()[..length])?;
     }
-    out.flush()
+    Ok(())
 }
 
 fn description(out: &mut impl Write, d: u64) -> io::Result<()> {

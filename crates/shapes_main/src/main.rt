@@ -4,10 +4,10 @@
 #![tactic(auto)]
 
 use classify::Call;
-use shape::{PIECE, Shape};
+use shape::{PIECE, SCALAR, Shape};
 use slots::{Found, SLOT};
-use std::alloc::{AllocError, Global};
-use std::io::{BufReader, BufWriter, ErrorKind, Read, Write};
+use std::fmt::Write as _;
+use std::io::{ErrorKind, Read, Write};
 use std::{fmt, io};
 use words::WORD;
 
@@ -16,11 +16,14 @@ const RECORD: usize = 6;
 
 const MOST_HELD: usize = 64;
 
+// The lines of a shape have no more bytes together.
+const MOST_TEXT: usize = 16384;
+
 // A shape, and its pieces as words.
-#[derive(Drop)]
-struct Asked {
+#[derive(Clone, Copy)]
+struct Asked<'a> {
     shape: Shape,
-    pieces: Vec<u64>,
+    pieces: &'a [u64],
 }
 
 // What ends a run: the input's end, also where a shape isn't whole yet, a shape of too many pieces, or an error.
@@ -41,45 +44,70 @@ impl From<io::Error> for Stop {
     }
 }
 
-impl From<AllocError> for Stop {
-    fn from(error: AllocError) -> Stop {
-        Stop::Failed(io::Error::from(error))
+// The text of a shape's lines. What doesn't fit is left out.
+#[derive(Drop)]
+struct Text {
+    bytes: [u8; MOST_TEXT],
+    length: usize,
+}
+
+impl fmt::Write for Text {
+    fn write_str(&mut self, s: &str) -> fmt::Result {
+        self.length = text::append(&mut self.bytes, self.length, s.as_bytes());
+        Ok(())
+    }
+}
+
+impl From<fmt::Error> for Stop {
+    fn from(_: fmt::Error) -> Stop {
+        Stop::Failed(io::Error::from(ErrorKind::WriteZero))
     }
 }
 
 fn main(rt: HostRuntime) -> io::Result<()> {
-    let alloc = rt.alloc();
-    let mut input = BufReader::new(alloc, rt.reader())?;
-    let mut out = BufWriter::new(alloc, io::writer(&rt))?;
-    match print_all(alloc, &mut input, &mut out) {
-        Ok(()) | Err(Stop::Ended) => {}
-        Err(Stop::TooMany) => writeln!(out, "too many")?,
-        Err(Stop::Failed(error)) => {
-            out.flush()?;
-            return Err(error);
-        }
+    let mut out = io::writer(&rt);
+    match print_all(&mut rt.stdin(), &mut out) {
+        Ok(()) | Err(Stop::Ended) => Ok(()),
+        Err(Stop::TooMany) => out.write_all(b"too many\n"),
+        Err(Stop::Failed(error)) => Err(error),
     }
-    out.flush()
 }
 
+// Nothing is read ahead, and a shape's lines leave in one write before the next shape is read: whoever sends the shapes may wait for them.
 // A proved loop has to end, and nothing says that the input does. So the turns are counted up to a number that no run comes to.
-fn print_all(alloc: Global, input: &mut impl Read, out: &mut impl Write) -> Result<(), Stop> {
+fn print_all(input: &mut impl Read, out: &mut impl Write) -> Result<(), Stop> {
+    let mut space = [0; MOST_HELD * PIECE];
+    let mut text = Text {
+        bytes: [0; MOST_TEXT],
+        length: 0,
+    };
     for _ in 0..u64::MAX {
-        let asked = read_shape(alloc, input)?;
-        print(alloc, out, asked.shape, &asked.pieces)?;
+        let Asked { shape, pieces } = read_shape(input, &mut space)?;
+        text.length = 0;
+        print(&mut text, shape, pieces)?;
+        out.write_all(&text.bytes[..text.length.min(MOST_TEXT)])?;
     }
     Ok(())
 }
 
-fn read_shape(alloc: Global, input: &mut impl Read) -> Result<Asked, Stop> {
-    let [_, _, size, align, marks, count] = read_record(input)?;
+// The pieces go to the front of the space.
+fn read_shape<'a>(
+    input: &mut impl Read,
+    space: &'a mut [u64; MOST_HELD * PIECE],
+) -> Result<Asked<'a>, Stop> {
+    let mut head = [0; RECORD * WORD];
+    input.read_exact(&mut head)?;
+    let [_, _, size, align, marks, count] = record_of(&head);
     if count > MOST_HELD as u64 {
         return Err(Stop::TooMany);
     }
-    let mut pieces = Vec::new(alloc);
-    for _ in 0..count {
-        let [_, kind, size, align, offset, _] = read_record(input)?;
-        pieces.extend_from_slice(&[kind, size, align, offset])?;
+    let count = count as usize;
+    let mut records = [[0; RECORD * WORD]; MOST_HELD];
+    input.read_exact(records[..count].as_flattened_mut())?;
+    let (pieces, _) = space.as_chunks_mut::<PIECE>();
+    for (piece, record) in pieces.iter_mut().zip(&records[..count]) {
+        let [_, kind, size, align, offset, _] = record_of(record);
+        *piece = [kind, size, align, offset];
     }
     let shape = Shape {
         size,
@@ -87,26 +115,25 @@ fn read_shape(alloc: Global, input: &mut impl Read) -> Result<Asked, Stop> {
         complex: marks % 2 == 1,
         floating: marks / 2 % 2 == 1,
     };
+    let pieces = &space[..count * PIECE];
     Ok(Asked { shape, pieces })
 }
 
-fn read_record(input: &mut impl Read) -> io::Result<[u64; RECORD]> {
-    let mut bytes = [0; RECORD * WORD];
+fn record_of(bytes: &[u8; RECORD * WORD]) -> [u64; RECORD] {
     let mut record = [0; RECORD];
-    input.read_exact(&mut bytes)?;
-    words::unpack(&bytes, &mut record);
-    Ok(record)
+    words::unpack(bytes, &mut record);
+    record
 }
 
-fn print(alloc: Global, out: &mut impl Write, shape: Shape, pieces: &[u64]) -> io::Result<()> {
+fn print(out: &mut Text, shape: Shape, pieces: &[u64]) -> fmt::Result {
     found_in_pieces(out, shape, pieces)?;
     found_in_eightbytes(out, shape, pieces)?;
     memory(out, shape, pieces)?;
     record(out, pieces)?;
-    members(alloc, out, pieces)
+    members(out, pieces)
 }
 
-fn found_in_pieces(out: &mut impl Write, shape: Shape, pieces: &[u64]) -> io::Result<()> {
+fn found_in_pieces(out: &mut Text, shape: Shape, pieces: &[u64]) -> fmt::Result {
     let mut slots = [0; MOST_HELD * SLOT];
     slot_writing::put_pieces(pieces, &mut slots);
     let told = |found| Slots {
@@ -131,7 +158,7 @@ fn found_in_pieces(out: &mut impl Write, shape: Shape, pieces: &[u64]) -> io::Re
     )
 }
 
-fn found_in_eightbytes(out: &mut impl Write, shape: Shape, pieces: &[u64]) -> io::Result<()> {
+fn found_in_eightbytes(out: &mut Text, shape: Shape, pieces: &[u64]) -> fmt::Result {
     for limit in [8, 16, 24, 32, 64] {
         let mut slots = [0; slots::MOST_WORDS];
         let answer = eightbytes::eightbytes(shape, pieces, limit);
@@ -169,7 +196,7 @@ impl fmt::Display for Slots<'_> {
 
 // The alignment in the argument area, on each of the rows. A fresh call is never refused, so a refusal is the shape's and every row's: it is said
 // once.
-fn memory(out: &mut impl Write, shape: Shape, pieces: &[u64]) -> io::Result<()> {
+fn memory(out: &mut Text, shape: Shape, pieces: &[u64]) -> fmt::Result {
     write!(out, "memory")?;
     for row in 0..abis::DESCRIPTIONS {
         match Call::fresh(row).next.in_memory(shape, pieces) {
@@ -184,7 +211,7 @@ fn memory(out: &mut impl Write, shape: Shape, pieces: &[u64]) -> io::Result<()> 
 }
 
 // The record that the pieces make.
-fn record(out: &mut impl Write, pieces: &[u64]) -> io::Result<()> {
+fn record(out: &mut Text, pieces: &[u64]) -> fmt::Result {
     match layouts::record(pieces) {
         Ok(made) => writeln!(
             out,
@@ -196,13 +223,14 @@ fn record(out: &mut impl Write, pieces: &[u64]) -> io::Result<()> {
 }
 
 // The pieces that their scalars make, as the members of a record.
-fn members(alloc: Global, out: &mut impl Write, pieces: &[u64]) -> io::Result<()> {
-    let mut members = Vec::new(alloc);
-    for p in shape::each_piece(pieces) {
-        members.extend_from_slice(&[p.kind, p.size, p.align])?;
+fn members(out: &mut Text, pieces: &[u64]) -> fmt::Result {
+    let mut space = [[0; SCALAR]; MOST_HELD];
+    for (member, p) in space.iter_mut().zip(shape::each_piece(pieces)) {
+        *member = [p.kind, p.size, p.align];
     }
+    let count = (pieces.len() / PIECE).min(MOST_HELD);
     let mut made = [0; MOST_HELD * PIECE];
-    match layouts::pieces(&members, &mut made) {
+    match layouts::pieces(space[..count].as_flattened(), &mut made) {
         Ok(count) => {
             write!(out, "pieces")?;
             for p in shape::each_piece(&made).take(count as usize) {

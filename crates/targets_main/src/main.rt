@@ -2,14 +2,17 @@
 // a code isn't known. `none` stands where there is no answer, and `-` for the empty name.
 #![tactic(auto)]
 
-use std::alloc::{AllocError, Global};
-use std::io::{BufWriter, Write};
-use std::{fmt, io, str};
+use std::io::{Cursor, Write};
+use std::{array, fmt, io, str};
 
 // Architectures 0 to 4 and systems 0 to 3 are known. Each has one code more here, and every target comes without MSVC and with it.
 const UNKNOWN_ARCHITECTURE: u64 = 5;
 
 const UNKNOWN_SYSTEM: u64 = 4;
+
+const SYSTEMS: u64 = UNKNOWN_SYSTEM + 1;
+
+const TARGETS: usize = (UNKNOWN_ARCHITECTURE as usize + 1) * SYSTEMS as usize * 2;
 
 // All known conventions, and two more.
 const CONVENTIONS: [u64; 15] = [0, 1, 2, 3, 4, 5, 6, 7, 256, 257, 258, 259, 260, 511, 512];
@@ -43,17 +46,19 @@ const OTHER_NAMES: [&str; 2] = ["regparm", ""];
 // No attribute's name has more bytes.
 const LONGEST: usize = 32;
 
+// The lines are collected, and leave once there are so many bytes. A line is far shorter than what that leaves free.
+const MOST_TEXT: usize = 65536;
+
+const ENOUGH: u64 = 65000;
+
 fn main(rt: HostRuntime) -> io::Result<()> {
-    let alloc = rt.alloc();
-    let lines = every_line(alloc)?;
-    let mut out = BufWriter::new(alloc, io::writer(&rt))?;
-    for line in lines.iter().filter(|line| line.is_known()) {
-        writeln!(out, "{line}")?;
-    }
-    for line in lines.iter().filter(|line| !line.is_known()) {
-        writeln!(out, "unknown {line}")?;
-    }
-    out.flush()
+    let mut sheet = Sheet {
+        text: Cursor::new([0; MOST_TEXT]),
+        out: io::writer(&rt),
+    };
+    sheet.every_line(true)?;
+    sheet.every_line(false)?;
+    sheet.flush()
 }
 
 // What one lookup is asked: what a target follows, what a convention follows on it, and which convention a name asks for there; the name
@@ -74,45 +79,66 @@ struct Target {
     msvc: bool,
 }
 
-fn every_line(alloc: Global) -> Result<Vec<Line>, AllocError> {
-    let targets = every_target(alloc)?;
-    let mut lines = Vec::new(alloc);
-    for target in &targets {
-        lines.push(Line::Target(*target))?;
-    }
-    for target in &targets {
-        for convention in CONVENTIONS {
-            lines.push(Line::Convention(*target, convention))?;
-        }
-    }
-    for target in &targets {
-        for name in NAMES.iter().flatten().chain(&OTHER_NAMES) {
-            lines.push(Line::Asked(*target, name))?;
-        }
-    }
-    for convention in CONVENTIONS {
-        lines.push(Line::Attribute(convention))?;
-    }
-    for convention in CONVENTIONS {
-        lines.push(Line::Pops(convention))?;
-    }
-    Ok(lines)
+#[derive(Drop)]
+struct Sheet<W> {
+    text: Cursor<[u8; MOST_TEXT]>,
+    out: W,
 }
 
-fn every_target(alloc: Global) -> Result<Vec<Target>, AllocError> {
-    let mut targets = Vec::new(alloc);
-    for architecture in 0..=UNKNOWN_ARCHITECTURE {
-        for system in 0..=UNKNOWN_SYSTEM {
-            for msvc in [false, true] {
-                targets.push(Target {
-                    architecture,
-                    system,
-                    msvc,
-                })?;
+impl<W: Write> Sheet<W> {
+    // The lines whose codes are all known, or those of which one isn't.
+    fn every_line(&mut self, known: bool) -> io::Result<()> {
+        let targets = every_target();
+        for target in targets {
+            self.line(known, Line::Target(target))?;
+        }
+        for target in targets {
+            for convention in CONVENTIONS {
+                self.line(known, Line::Convention(target, convention))?;
             }
         }
+        for target in targets {
+            for name in NAMES.iter().flatten().chain(&OTHER_NAMES) {
+                self.line(known, Line::Asked(target, name))?;
+            }
+        }
+        for convention in CONVENTIONS {
+            self.line(known, Line::Attribute(convention))?;
+        }
+        for convention in CONVENTIONS {
+            self.line(known, Line::Pops(convention))?;
+        }
+        Ok(())
     }
-    Ok(targets)
+
+    fn line(&mut self, known: bool, line: Line) -> io::Result<()> {
+        if line.is_known() != known {
+            return Ok(());
+        }
+        let front = if known { "" } else { "unknown " };
+        writeln!(self.text, "{front}{line}")?;
+        if self.text.position() < ENOUGH {
+            return Ok(());
+        }
+        self.flush()
+    }
+
+    fn flush(&mut self) -> io::Result<()> {
+        // `min` is for the proof alone: no clause of Cursor says that its place stays within the array.
+        let length = MOST_TEXT.min(self.text.position() as usize);
+        self.out.write_all(&self.text.get_ref()[..length])?;
+        self.text.set_position(0);
+        Ok(())
+    }
+}
+
+// The architecture outermost, then the system, then MSVC.
+fn every_target() -> [Target; TARGETS] {
+    array::from_fn(|i| Target {
+        architecture: i as u64 / 2 / SYSTEMS,
+        system: i as u64 / 2 % SYSTEMS,
+        msvc: i % 2 == 1,
+    })
 }
 
 impl Line {

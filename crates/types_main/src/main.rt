@@ -3,22 +3,24 @@
 // those of the members. The oracle's answers to the same types are compared with these.
 #![tactic(auto)]
 
-ghost use Rattle.std.specs.Prelude.{◌≤◌};
+ghost use Rattle.std.specs.Prelude.{◌≤◌, length};
 
-use std::alloc::{AllocError, Global};
 use std::io;
-use std::io::{BufRead, BufReader, BufWriter, ErrorKind, Read, Write};
+use std::io::{Cursor, ErrorKind, Read, Write};
 use words::WORD;
 
 // No length of a case is longer.
 const MOST_WORDS: usize = 4128;
 
-// A case's lists, and the words that its pieces have room for.
+// No case's line has more bytes, and no list.
+const MOST_TEXT: usize = 65536;
+
+// A case's lists, and the room for its pieces.
 #[derive(Drop)]
-struct Case {
-    types: Vec<u64>,
-    members: Vec<u64>,
-    room: usize,
+struct Case<'a> {
+    types: &'a [u64],
+    members: &'a [u64],
+    room: &'a mut [u64],
 }
 
 // What ends a run before its sheet does.
@@ -39,78 +41,84 @@ impl From<io::Error> for Failure {
     }
 }
 
-impl From<AllocError> for Failure {
-    fn from(error: AllocError) -> Failure {
-        Failure::Io(io::Error::from(error))
-    }
-}
-
 fn main(rt: HostRuntime) -> io::Result<()> {
-    let alloc = rt.alloc();
-    let mut input = BufReader::new(alloc, rt.reader())?;
-    let mut out = BufWriter::new(alloc, io::writer(&rt))?;
-    match answer_all(alloc, &mut input, &mut out) {
-        Ok(()) => {}
-        Err(Failure::CutShort) => writeln!(out, "cut short")?,
-        Err(Failure::TooMany) => writeln!(out, "too many")?,
-        Err(Failure::Io(error)) => {
-            out.flush()?;
-            return Err(error);
-        }
+    let mut out = io::writer(&rt);
+    match answer_all(&mut rt.stdin(), &mut out) {
+        Ok(()) => Ok(()),
+        Err(Failure::CutShort) => out.write_all(b"cut short\n"),
+        Err(Failure::TooMany) => out.write_all(b"too many\n"),
+        Err(Failure::Io(error)) => Err(error),
     }
-    out.flush()
 }
 
+// The array of the line serves for the bytes of a list too, before there is a line.
+// Nothing is read ahead, and each line leaves whole before the next case is read: whoever sends the cases may wait for it.
 // A proved loop has to end, and nothing says that the input does. So the turns are counted up to a number that no run comes to.
-fn answer_all(
-    alloc: Global,
-    input: &mut impl BufRead,
-    out: &mut impl Write,
-) -> Result<(), Failure> {
+fn answer_all(input: &mut impl Read, out: &mut impl Write) -> Result<(), Failure> {
+    let mut type_words = [0; MOST_WORDS];
+    let mut member_words = [0; MOST_WORDS];
+    let mut piece_words = [0; MOST_WORDS];
+    let mut line = Cursor::new([0; MOST_TEXT]);
     for _ in 0..u64::MAX {
-        if input.fill_buf()?.is_empty() {
+        let Some(lengths) = read_lengths(input)? else {
             break;
+        };
+        if lengths.iter().any(|length| *length > MOST_WORDS as u64) {
+            return Err(Failure::TooMany);
         }
-        let case = read_case(alloc, input)?;
-        answer(alloc, case, out)?;
+        let [types, members, room] = lengths;
+        let case = Case {
+            types: read_words(input, line.get_mut(), &mut type_words[..types as usize])?,
+            members: read_words(input, line.get_mut(), &mut member_words[..members as usize])?,
+            room: &mut piece_words[..room as usize],
+        };
+        line.set_position(0);
+        answer(case, &mut line)?;
+        // `min` is for the proof alone: no clause of Cursor says that its place stays within the array.
+        let length = MOST_TEXT.min(line.position() as usize);
+        out.write_all(&line.get_ref()[..length])?;
     }
     Ok(())
 }
 
-fn read_case(alloc: Global, input: &mut impl Read) -> Result<Case, Failure> {
+// The three lengths, or none where the input ends before a case begins.
+fn read_lengths(input: &mut impl Read) -> io::Result<Option<[u64; 3]>> {
     let mut bytes = [0; 3 * WORD];
     let mut lengths = [0; 3];
-    input.read_exact(&mut bytes)?;
-    words::unpack(&bytes, &mut lengths);
-    if lengths.iter().any(|length| *length > MOST_WORDS as u64) {
-        return Err(Failure::TooMany);
+    let got = input.read(&mut bytes)?;
+    if got == 0 {
+        return Ok(None);
     }
-    let [types, members, room] = lengths;
-    Ok(Case {
-        types: read_words(alloc, input, types as usize)?,
-        members: read_words(alloc, input, members as usize)?,
-        room: room as usize,
-    })
+    input.read_exact(&mut bytes[got..])?;
+    words::unpack(&bytes, &mut lengths);
+    Ok(Some(lengths))
 }
 
-fn read_words(alloc: Global, input: &mut impl Read, count: usize) -> io::Result<Vec<u64>>
-    requires { count ≤ MOST_WORDS }
+fn read_words<'a>(
+    input: &mut impl Read,
+    space: &mut [u8; MOST_TEXT],
+    words: &'a mut [u64],
+) -> io::Result<&'a [u64]>
+    requires { length words.old ≤ MOST_WORDS }
 {
-    let mut bytes = vec![in alloc; 0; count * WORD]?;
-    let mut words = vec![in alloc; 0; count]?;
-    input.read_exact(&mut bytes)?;
-    words::unpack(&bytes, &mut words);
+    let bytes = &mut space[..words.len() * WORD];
+    input.read_exact(bytes)?;
+    words::unpack(bytes, words);
     Ok(words)
 }
 
-fn answer(alloc: Global, case: Case, out: &mut impl Write) -> io::Result<()> {
-    let mut words = vec![in alloc; 0; case.room]?;
-    let answer = flatten::flatten(&case.types, &case.members, &mut words);
+fn answer(case: Case<'_>, out: &mut impl Write) -> io::Result<()> {
+    let Case {
+        types,
+        members,
+        room,
+    } = case;
+    let answer = flatten::flatten(types, members, room);
     if answer.refusal != shape::ACCEPTED {
         return writeln!(out, "refused {}", answer.refusal);
     }
     write!(out, "size {} align {} pieces", answer.size, answer.align)?;
-    for p in shape::each_piece(&words).take(answer.pieces as usize) {
+    for p in shape::each_piece(room).take(answer.pieces as usize) {
         write!(out, " {}:{}:{}:{}", p.kind, p.size, p.align, p.offset)?;
     }
     writeln!(out)
