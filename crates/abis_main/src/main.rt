@@ -2,31 +2,33 @@
 // answers are printed in the same form, and the two are compared.
 #![tactic(auto)]
 
+use arrayvec::ArrayString;
 use describe::{Banks, Others, Rule, Scalars, Terms, Test};
 use rows::Rules;
-use std::io::{Cursor, Write};
-use std::{fmt, io};
+use std::fmt::Write as _;
+use std::io::{ErrorKind, Write};
+use std::{fmt, io, str};
 
 // No name has more bytes.
 const LONGEST: usize = 64;
 
-// No description's lines have more bytes together.
-const MOST_TEXT: usize = 4096;
+// The lines of a description. They have no more bytes together.
+type Text = ArrayString<4096>;
 
 // The lines of a description leave in one write, so that none is torn.
 fn main(rt: HostRuntime) -> io::Result<()> {
     let mut out = io::writer(&rt);
     for d in 0..abis::DESCRIPTIONS {
-        let mut text = Cursor::new([0; MOST_TEXT]);
-        description(&mut text, d)?;
-        // `min` is for the proof alone: no clause of Cursor says that its place stays within the array.
-        let length = MOST_TEXT.min(text.position() as usize);
-        out.write_all(&text.get_ref()[..length])?;
+        let mut text = Text::new();
+        if description(&mut text, d).is_err() {
+            return Err(io::Error::from(ErrorKind::WriteZero));
+        }
+        out.write_all(text.as_str().as_bytes())?;
     }
     Ok(())
 }
 
-fn description(out: &mut impl Write, d: u64) -> io::Result<()> {
+fn description(out: &mut Text, d: u64) -> fmt::Result {
     let terms = abis::read(d).terms;
     let row = abis::row(d);
     name(out, d)?;
@@ -38,15 +40,14 @@ fn description(out: &mut impl Write, d: u64) -> io::Result<()> {
     questions(out, d)
 }
 
-fn name(out: &mut impl Write, d: u64) -> io::Result<()> {
+fn name(out: &mut Text, d: u64) -> fmt::Result {
     let mut space = [0; LONGEST];
     let length = abis::name(d, &mut space).unwrap_or(0);
-    write!(out, "row {d} name ")?;
-    out.write_all(&space[..length.min(LONGEST)])?;
-    writeln!(out)
+    let name = str::from_utf8(&space[..length.min(LONGEST)]).unwrap_or("");
+    writeln!(out, "row {d} name {name}")
 }
 
-fn banks(out: &mut impl Write, d: u64, banks: Banks) -> io::Result<()> {
+fn banks(out: &mut Text, d: u64, banks: Banks) -> fmt::Result {
     writeln!(
         out,
         "row {d} banks {} {} {} {} {}",
@@ -54,7 +55,7 @@ fn banks(out: &mut impl Write, d: u64, banks: Banks) -> io::Result<()> {
     )
 }
 
-fn scalars(out: &mut impl Write, d: u64, scalars: Scalars) -> io::Result<()> {
+fn scalars(out: &mut Text, d: u64, scalars: Scalars) -> fmt::Result {
     writeln!(
         out,
         "row {d} scalars {} {} {} {} {} {} {} {} {} {}",
@@ -71,7 +72,7 @@ fn scalars(out: &mut impl Write, d: u64, scalars: Scalars) -> io::Result<()> {
     )
 }
 
-fn others(out: &mut impl Write, d: u64, terms: Terms, others: Others) -> io::Result<()> {
+fn others(out: &mut Text, d: u64, terms: Terms, others: Others) -> fmt::Result {
     writeln!(
         out,
         "row {d} others {} {} {} {} {} {}",
@@ -84,7 +85,7 @@ fn others(out: &mut impl Write, d: u64, terms: Terms, others: Others) -> io::Res
     )
 }
 
-fn rules(out: &mut impl Write, d: u64, list: &str, rules: Rules) -> io::Result<()> {
+fn rules(out: &mut Text, d: u64, list: &str, rules: Rules) -> fmt::Result {
     for (i, from_here) in (0..rows::RULES).zip(rules) {
         let rule = rows::first_rule(from_here);
         writeln!(out, "row {d} {list} {i} {}", Numbered(rule))?;
@@ -124,7 +125,7 @@ impl fmt::Display for Numbered {
 }
 
 // No description refuses a question here.
-fn questions(out: &mut impl Write, d: u64) -> io::Result<()> {
+fn questions(out: &mut Text, d: u64) -> fmt::Result {
     for size in 0..=checks::MOST_SIZE {
         let is = abis::scalar_is_by_reference(d, size).unwrap_or(false);
         let returns = abis::scalar_returns_by_reference(d, size).unwrap_or(false);

@@ -3,6 +3,7 @@
 // that its pieces make, and the pieces that their scalars make. The answers of the original to the same shapes are compared with these.
 #![tactic(auto)]
 
+use arrayvec::ArrayString;
 use classify::Call;
 use shape::{PIECE, SCALAR, Shape};
 use slots::{Found, SLOT};
@@ -16,8 +17,8 @@ const RECORD: usize = 6;
 
 const MOST_HELD: usize = 64;
 
-// The lines of a shape have no more bytes together.
-const MOST_TEXT: usize = 16384;
+// The lines of a shape. They have no more bytes together.
+type Text = ArrayString<16384>;
 
 // A shape, and its pieces as words.
 #[derive(Clone, Copy)]
@@ -44,20 +45,6 @@ impl From<io::Error> for Stop {
     }
 }
 
-// The text of a shape's lines. What doesn't fit is left out.
-#[derive(Drop)]
-struct Text {
-    bytes: [u8; MOST_TEXT],
-    length: usize,
-}
-
-impl fmt::Write for Text {
-    fn write_str(&mut self, s: &str) -> fmt::Result {
-        self.length = text::append(&mut self.bytes, self.length, s.as_bytes());
-        Ok(())
-    }
-}
-
 impl From<fmt::Error> for Stop {
     fn from(_: fmt::Error) -> Stop {
         Stop::Failed(io::Error::from(ErrorKind::WriteZero))
@@ -77,15 +64,12 @@ fn main(rt: HostRuntime) -> io::Result<()> {
 // A proved loop has to end, and nothing says that the input does. So the turns are counted up to a number that no run comes to.
 fn print_all(input: &mut impl Read, out: &mut impl Write) -> Result<(), Stop> {
     let mut space = [0; MOST_HELD * PIECE];
-    let mut text = Text {
-        bytes: [0; MOST_TEXT],
-        length: 0,
-    };
+    let mut text = Text::new();
     for _ in 0..u64::MAX {
         let Asked { shape, pieces } = read_shape(input, &mut space)?;
-        text.length = 0;
+        text.clear();
         print(&mut text, shape, pieces)?;
-        out.write_all(&text.bytes[..text.length.min(MOST_TEXT)])?;
+        out.write_all(text.as_str().as_bytes())?;
     }
     Ok(())
 }

@@ -2,7 +2,9 @@
 // a code isn't known. `none` stands where there is no answer, and `-` for the empty name.
 #![tactic(auto)]
 
-use std::io::{Cursor, Write};
+use arrayvec::ArrayString;
+use std::fmt::Write as _;
+use std::io::{ErrorKind, Write};
 use std::{array, fmt, io, str};
 
 // Architectures 0 to 4 and systems 0 to 3 are known. Each has one code more here, and every target comes without MSVC and with it.
@@ -47,13 +49,13 @@ const OTHER_NAMES: [&str; 2] = ["regparm", ""];
 const LONGEST: usize = 32;
 
 // The lines are collected, and leave once there are so many bytes. A line is far shorter than what that leaves free.
-const MOST_TEXT: usize = 65536;
+type Text = ArrayString<65536>;
 
-const ENOUGH: u64 = 65000;
+const ENOUGH: usize = 65000;
 
 fn main(rt: HostRuntime) -> io::Result<()> {
     let mut sheet = Sheet {
-        text: Cursor::new([0; MOST_TEXT]),
+        text: Text::new(),
         out: io::writer(&rt),
     };
     sheet.every_line(true)?;
@@ -81,7 +83,7 @@ struct Target {
 
 #[derive(Drop)]
 struct Sheet<W> {
-    text: Cursor<[u8; MOST_TEXT]>,
+    text: Text,
     out: W,
 }
 
@@ -116,18 +118,18 @@ impl<W: Write> Sheet<W> {
             return Ok(());
         }
         let front = if known { "" } else { "unknown " };
-        writeln!(self.text, "{front}{line}")?;
-        if self.text.position() < ENOUGH {
+        if writeln!(self.text, "{front}{line}").is_err() {
+            return Err(io::Error::from(ErrorKind::WriteZero));
+        }
+        if self.text.len() < ENOUGH {
             return Ok(());
         }
         self.flush()
     }
 
     fn flush(&mut self) -> io::Result<()> {
-        // `min` is for the proof alone: no clause of Cursor says that its place stays within the array.
-        let length = MOST_TEXT.min(self.text.position() as usize);
-        self.out.write_all(&self.text.get_ref()[..length])?;
-        self.text.set_position(0);
+        self.out.write_all(self.text.as_str().as_bytes())?;
+        self.text.clear();
         Ok(())
     }
 }
